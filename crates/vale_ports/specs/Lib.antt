@@ -1,0 +1,4 @@
+pub mod Faults
+pub mod FileList
+pub mod Shelf
+pub mod Streams
