@@ -1,0 +1,5 @@
+pub mod CodeMeaning
+pub mod Owed
+pub mod ReadEach
+pub mod ReadPrintlns
+pub mod ReadSums

@@ -1,0 +1,6 @@
+pub mod Code
+pub mod Follows
+pub mod Headline
+pub mod Owed
+pub mod WellFormed
+pub mod Words

@@ -1,0 +1,100 @@
+-- What is owed to the words of the command line: a status, and the bytes for `out` and `err`.
+use Rattle.std.specs.Prelude.{ℕ, ◌+◌, ◌≡◌, ◌≤◌, ◌<◌, ◌⊎◌, List, [], ◌∷◌, ◌++◌, Result, Ok, Err, Option, Some, codes, length, take, false, slice_get}
+use Rattle.std.specs.Fmt.{decimal}
+use Rattle.vale_base.specs.Limits.{program_limit}
+use Rattle.vale_base.specs.Outcome.{Outcome, End, Done, Trap, Cut, Wrong, output}
+use Rattle.vale_ports.specs.Faults.{Rose}
+use Rattle.vale_ports.specs.Shelf.{ShelfState, HasFile}
+use Rattle.vale_ports.specs.declared.shelf.ShelfCall.{ShelfCall}
+use Rattle.vale_model.specs.Meaning.{meaning}
+use Rattle.vale_model.specs.Report.{report_text}
+use Rattle.vale_syntax.specs.declared.program.Program.{Program}
+use Rattle.vale_run.specs.WellFormed.{WellFormed}
+use Rattle.vale_run.specs.Words.{job}
+use Rattle.vale_run.specs.declared.answer.Answer.{Answer}
+use Rattle.vale_run.specs.declared.words.Job.{Job}
+use Rattle.vale_run.specs.declared.words.Job.TheVariants.{Run}
+use Rattle.vale_run.specs.declared.words.Options.{Options}
+use Rattle.vale_run.specs.declared.words.WordFault.{WordFault}
+
+-- ---- answers
+
+-- the text is refused, with this line
+abbrev pub refused : List ℕ → Answer
+refused line = record { status = 1; out = []; err = line }
+
+abbrev pub e01 : List ℕ
+e01 = codes "E01 at 1:1\n"
+
+abbrev pub e05 : List ℕ
+e05 = codes "E05 at 1:1\n"
+
+abbrev pub bad_word : ℕ → Answer
+bad_word index = record { status = 2; out = []; err = codes "word " ++ decimal index ++ codes "\n" }
+
+abbrev pub read_fault : Answer
+read_fault = record { status = 6; out = []; err = codes "read fault\n" }
+
+abbrev pub memory_text : List ℕ
+memory_text = codes "memory\n"
+
+abbrev pub no_page_text : ℕ → List ℕ
+no_page_text frames = codes "no page: frames " ++ decimal frames ++ codes "\n"
+
+-- ---- what is owed
+
+-- the answer at an end
+abbrev pub answers_end : End → ℕ → List ℕ → Answer → Type 0
+answers_end Done ticks out a = a ≡ record { status = 0; out = out; err = [] }
+answers_end (Trap info) ticks out a = a ≡ record { status = 3; out = out; err = report_text info }
+answers_end Cut ticks out a = a ≡ record { status = 4; out = out; err = codes "cut after " ++ decimal ticks ++ codes " ticks\n" }
+answers_end Wrong ticks out a = ⊥
+
+-- the answer to an outcome
+abbrev pub EndsWith : Outcome → Answer → Type 0
+EndsWith o a = answers_end o.end o.ticks (output o) a
+
+-- the answer to the run of a text
+pub data RunsTo (text : List ℕ) (options : Options) (a : Answer) : Type 0 where
+  too_long : program_limit < length text → a ≡ refused e01 → RunsTo text options a
+  not_well_formed : length text ≤ program_limit → ((program : Program) → WellFormed text program → ⊥) → a ≡ refused e05 → RunsTo text options a
+  runs : (program : Program) → WellFormed text program → EndsWith (meaning program options.ticks) a → RunsTo text options a
+
+-- a shelf has a file with this text under the word of this index; where it doesn't tell its files, any text
+abbrev pub HasText : ShelfState → List (List ℕ) → ℕ → List ℕ → Type 0
+HasText shelf words file text = (name : List ℕ) × (slice_get words file ≡ Some name) × HasFile shelf.files name text
+
+-- the answer to a job
+abbrev pub owes_job : Result Job WordFault → List (List ℕ) → ShelfState → Answer → Type 0
+owes_job (Err fault) words shelf a = a ≡ bad_word fault.index
+owes_job (Ok (Run file options)) words shelf a = (text : List ℕ) × HasText shelf words file text × RunsTo text options a
+
+-- the answer that is owed to the words, with the shelf as it stands when the call begins
+abbrev pub Owes : List (List ℕ) → ShelfState → Answer → Type 0
+Owes words shelf a = owes_job (job words) words shelf a
+
+-- these bytes are the first of the output that is owed
+abbrev pub PrintsFront : List (List ℕ) → ShelfState → List ℕ → Type 0
+PrintsFront words shelf out = (out ≡ []) ⊎ ((a : Answer) × Owes words shelf a × ((n : ℕ) × (out ≡ take n a.out)))
+
+-- ---- causes of the other answers
+
+-- the read of a file of this name failed in the call
+abbrev pub ReadFailed : ShelfState → ShelfState → List ℕ → Type 0
+ReadFailed old new name = Rose old.faults new.faults × (new.last_fault ≡ Some (record { name = name; is_write = false }))
+
+abbrev pub reading_fails : Result Job WordFault → List (List ℕ) → ShelfState → ShelfState → Type 0
+reading_fails (Err fault) words old new = ⊥
+reading_fails (Ok (Run file options)) words old new = (name : List ℕ) × (slice_get words file ≡ Some name) × ReadFailed old new name
+
+-- the read of the job's file failed in the call
+abbrev pub ReadFails : List (List ℕ) → ShelfState → ShelfState → Type 0
+ReadFails words old new = reading_fails (job words) words old new
+
+-- The job's run needs more than so many frames, and all of them were out: no program that runs today makes an object.
+abbrev pub LacksPages : List (List ℕ) → ShelfState → ℕ → Type 0
+LacksPages words shelf frames = ⊥
+
+-- The job may take input: no program that runs today does.
+abbrev pub MayTakeInput : List (List ℕ) → ShelfState → Type 0
+MayTakeInput words shelf = ⊥

@@ -1,0 +1,117 @@
+// What the words are owed: a status, and the bytes for `out` and `err`.
+ghost use Rattle.std.specs.Prelude.{◌≡◌, ◌<◌, ◌≤◌, IfOk, IsErrOf};
+ghost use Rattle.vale_model.specs.Meaning.{meaning};
+ghost use Rattle.vale_ports.specs.Shelf.{KeepsFiles};
+ghost use Rattle.vale_run.specs.Owed.{refused, bad_word, EndsWith, RunsTo, Owes, ReadFails};
+ghost use Rattle.vale_run.specs.Words.{texts};
+
+use crate::code::{lower, run};
+use crate::front::front;
+use crate::words::{Job, Options, WordFault, read_words};
+use std::alloc::Global;
+use vale_base::{Memory, PROGRAM_LIMIT, Text};
+use vale_ports::{Shelf, ShelfFault};
+use vale_syntax::Program;
+use vale_trap::report;
+
+/// A status, and the bytes that go with it.
+#[derive(Drop)]
+pub struct Answer {
+    pub status: u8,
+    pub out: Text,
+    pub err: Text,
+}
+
+/// Why there is no answer.
+#[derive(Clone, Copy, Debug, PartialEq, Eq)]
+pub enum Stop {
+    Memory,
+    ReadFault,
+}
+
+impl From<Memory> for Stop {
+    ghost use Rattle.std.specs.Prelude.{◌≡◌};
+    ghost use Rattle.vale_run.specs.declared.answer.Stop.TheVariants.{Memory as WantsMemory};
+
+    ghost from_gives = { λ _ e. e ≡ WantsMemory };
+
+    fn from(_: Memory) -> Self {
+        Stop::Memory
+    }
+}
+
+fn refused(alloc: Global, line: &[u8]) -> Result<Answer, Memory>
+    ensures { IfOk result (λ a. a ≡ refused line.now) }
+{
+    Ok(Answer {
+        status: 1,
+        out: Text::new(alloc),
+        err: Text::from_slice(alloc, line)?,
+    })
+}
+
+fn bad_word(alloc: Global, fault: WordFault) -> Result<Answer, Memory>
+    ensures { IfOk result (λ a. a ≡ bad_word fault.index) }
+{
+    let index = fault.index;
+    let line = format!(in alloc; "word {index}\n")?;
+    Ok(Answer {
+        status: 2,
+        out: Text::new(alloc),
+        err: Text::from_slice(alloc, line.as_bytes())?,
+    })
+}
+
+// Runs a program to its end, with at least one tick to spend.
+fn run_program(alloc: Global, program: &Program, options: &Options) -> Result<Answer, Memory>
+    requires { 0 < options.now.ticks }
+    ensures { IfOk result (λ a. EndsWith (meaning program.now options.now.ticks) a) }
+{
+    let code = lower(alloc, program)?;
+    let ran = run(alloc, &code)?;
+    let out = Text::from_vec(ran.output);
+    match ran.trap {
+        None => Ok(Answer {
+            status: 0,
+            out,
+            err: Text::new(alloc),
+        }),
+        Some(info) => Ok(Answer {
+            status: 3,
+            out,
+            err: Text::from_vec(report(alloc, &info)?),
+        }),
+    }
+}
+
+/// The answer to the run of a text.
+pub fn run_text(alloc: Global, text: &[u8], options: &Options) -> Result<Answer, Memory>
+    requires { 0 < options.now.ticks }
+    ensures { IfOk result (λ a. RunsTo text.now options.now a) }
+{
+    if text.len() > PROGRAM_LIMIT {
+        return refused(alloc, b"E01 at 1:1\n");
+    }
+    match front(alloc, text)? {
+        Some(program) => run_program(alloc, &program, options),
+        None => refused(alloc, b"E05 at 1:1\n"),
+    }
+}
+
+/// The answer that is owed to the words. It reads the job's file, and no more of it than tells that it is too long.
+pub fn answer_of<H: Shelf>(alloc: Global, words: &[String], shelf: &mut H) -> Result<Answer, Stop>
+    ensures owed { IfOk result (λ a. Owes (texts words.now) (H.state shelf.old) a) }
+    ensures read { IsErrOf result Stop.ReadFault → ReadFails (texts words.now) (H.state shelf.old) (H.state shelf.new) }
+    ensures files { KeepsFiles (H.state shelf.old).files (H.state shelf.new).files }
+    ensures later { (H.state shelf.old).faults ≤ (H.state shelf.new).faults }
+{
+    let (file, options) = match read_words(words) {
+        Ok(Job::Run { file, options }) => (file, options),
+        Err(fault) => return Ok(bad_word(alloc, fault)?),
+    };
+    match shelf.read(alloc, words[file as usize].as_str(), PROGRAM_LIMIT as u64 + 1) {
+        Ok(bytes) => Ok(run_text(alloc, &bytes, &options)?),
+        Err(ShelfFault::Failed) => Err(Stop::ReadFault),
+        Err(ShelfFault::Memory) => Err(Stop::Memory),
+    }
+}

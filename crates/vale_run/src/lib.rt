@@ -1,0 +1,15 @@
+//! The top call: all that the program `valec` does, over the objects that it is handed.
+#![tactic(auto)]
+
+mod answer;
+mod code;
+mod deliver;
+mod front;
+mod parser;
+mod top;
+mod words;
+
+pub use answer::Answer;
+pub use deliver::Status;
+pub use top::valec;
+pub use words::{Job, Options, WordFault};
