@@ -2,7 +2,7 @@
 use Rattle.std.proofs.Common.{◌≡◌, ◌∙◌, ℤ, List, [], ◌∷◌, ◌++◌, refl, sym, ap, append_assoc, length, drop, arith, ◌≤◌, ℕ}
 use Rattle.std.proofs.lemmas.Grind.{common_steps}
 use Rattle.std.specs.Prelude.{Result, Ok, Err, ◌+ℤ◌, true, false, Bool}
-use Rattle.vale_base.specs.Outcome.{Outcome, End, Piece}
+use Rattle.vale_base.specs.Outcome.{Outcome, End}
 use Rattle.vale_model.specs.Meaning.{is_int, sum_at, main_trap, line_of, prints, ends, ◌>>=◌, added_value, sum_value, line_meaning, body_meaning}
 use Rattle.vale_syntax.specs.declared.program.Added.{Added}
 use Rattle.vale_syntax.specs.declared.program.Println.{Println}

@@ -1,8 +1,8 @@
 // What the words are owed: a status, and the bytes for `out` and `err`.
-ghost use Rattle.std.specs.Prelude.{◌≡◌, ◌<◌, ◌≤◌, IfOk, IsErrOf};
+ghost use Rattle.std.specs.Prelude.{◌≡◌, ◌<◌, ◌≤◌, ℕ, List, IfOk, IsErrOf};
 ghost use Rattle.vale_model.specs.Meaning.{meaning};
-ghost use Rattle.vale_ports.specs.Shelf.{KeepsFiles};
-ghost use Rattle.vale_run.specs.Owed.{refused, bad_word, EndsWith, RunsTo, Owes, ReadFails};
+ghost use Rattle.vale_ports.specs.Shelf.{HasFile, KeepsFiles};
+ghost use Rattle.vale_run.specs.Owed.{refused, bad_word, EndsWith, RunsTo, Owes, ReadFailed, ReadFails};
 ghost use Rattle.vale_run.specs.Words.{texts};
 
 use crate::code::{lower, run};
@@ -98,20 +98,37 @@ pub fn run_text(alloc: Global, text: &[u8], options: &Options) -> Result<Answer,
     }
 }
 
-/// The answer that is owed to the words. It reads the job's file, and no more of it than tells that it is too long.
+// The answer to the run of a file. It reads no more of it than tells that it is too long.
+fn run_file<H: Shelf>(
+    alloc: Global,
+    name: &str,
+    options: &Options,
+    shelf: &mut H,
+) -> Result<Answer, Stop>
+    requires { 0 < options.now.ticks }
+    ensures owed { IfOk result (λ a. (text : List ℕ) × HasFile (H.state shelf.old).files name.now text × RunsTo text options.now a) }
+    ensures read { IsErrOf result Stop.ReadFault → ReadFailed (H.state shelf.old) (H.state shelf.new) name.now }
+    ensures files { KeepsFiles (H.state shelf.old).files (H.state shelf.new).files }
+    ensures later { (H.state shelf.old).faults ≤ (H.state shelf.new).faults }
+{
+    match shelf.read(alloc, name, PROGRAM_LIMIT as u64 + 1) {
+        Ok(bytes) => Ok(run_text(alloc, &bytes, options)?),
+        Err(ShelfFault::Failed) => Err(Stop::ReadFault),
+        Err(ShelfFault::Memory) => Err(Stop::Memory),
+    }
+}
+
+/// The answer that is owed to the words.
 pub fn answer_of<H: Shelf>(alloc: Global, words: &[String], shelf: &mut H) -> Result<Answer, Stop>
     ensures owed { IfOk result (λ a. Owes (texts words.now) (H.state shelf.old) a) }
     ensures read { IsErrOf result Stop.ReadFault → ReadFails (texts words.now) (H.state shelf.old) (H.state shelf.new) }
     ensures files { KeepsFiles (H.state shelf.old).files (H.state shelf.new).files }
     ensures later { (H.state shelf.old).faults ≤ (H.state shelf.new).faults }
 {
-    let (file, options) = match read_words(words) {
-        Ok(Job::Run { file, options }) => (file, options),
-        Err(fault) => return Ok(bad_word(alloc, fault)?),
-    };
-    match shelf.read(alloc, words[file as usize].as_str(), PROGRAM_LIMIT as u64 + 1) {
-        Ok(bytes) => Ok(run_text(alloc, &bytes, &options)?),
-        Err(ShelfFault::Failed) => Err(Stop::ReadFault),
-        Err(ShelfFault::Memory) => Err(Stop::Memory),
+    match read_words(words) {
+        Ok(Job::Run { file, options }) => {
+            run_file(alloc, words[file as usize].as_str(), &options, shelf)
+        }
+        Err(fault) => Ok(bad_word(alloc, fault)?),
     }
 }

@@ -11,6 +11,7 @@ use std::thread::Threads;
 use vale_ports::{Gate, Shelf, Sink, Source};
 
 const READ_FAULT: u8 = 6;
+
 const WANT_OF_MEMORY: u8 = 8;
 
 /// Does what the words ask for (docs/LANGUAGE.md, "The command line" and "Answers"): `run FILE` reads the file from

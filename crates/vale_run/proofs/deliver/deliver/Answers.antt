@@ -3,7 +3,7 @@ use Rattle.std.proofs.Math.Seq.{take-length}
 use Rattle.vale_run.proofs.deliver.deliver.Goals as goal
 
 pub returns-in-Err-write_all-clause-delivered : goal.returns-in-Err-write_all-clause-delivered
-returns-in-Err-write_all-clause-delivered g c =
+returns-in-Err-write_all-clause-delivered g c before after left right =
     inr (record {
       write_fault = refl;
       cause = inr c.in-Err-write_all.ensures.cause.failed;
