@@ -1,0 +1,5 @@
+pub mod FaultLemmas
+pub mod NumberLemmas
+pub mod OptionLemmas
+pub mod ScheduleLemmas
+pub mod WordLemmas
