@@ -1,7 +1,5 @@
 use Rattle.std.proofs.Common.{◌≡◌, ◌<◌, ◌^◌, ◌+◌, arith, sym, ◌∙◌, Some, None, get_or}
 use Rattle.std.proofs.lemmas.List.{get_or_read}
-use Rattle.vale_page.specs.PageState.{after_death, IsLater}
-use Rattle.vale_page.proofs.PageLaws.{later_after_death}
 use Rattle.vale_page.proofs.SoundLemmas.{sound_raise, sound_retire}
 use Rattle.vale_page.proofs.page.Page.end.Goals as goal
 

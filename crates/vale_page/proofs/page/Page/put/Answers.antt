@@ -1,8 +1,5 @@
-use Rattle.std.proofs.Common.{◌≡◌, ◌<◌, ◌^◌, arith}
-use Rattle.std.specs.Int.{trailing_zeros}
-use Rattle.std.proofs.Common.{w64}
+use Rattle.std.proofs.Common.{◌<◌, ◌^◌, arith}
 use Rattle.std.proofs.lemmas.List.{get_or_read}
-use Rattle.vale_page.specs.PageState.{IsFree}
 use Rattle.vale_page.proofs.SoundLemmas.{lowest_is_free, sound_put}
 use Rattle.vale_page.proofs.page.Page.put.Goals as goal
 

@@ -1,4 +1,4 @@
-use Rattle.std.proofs.Common.{◌≡◌, ◌<◌, ℕ, arith, ap, ◌∙◌, get_or, length}
+use Rattle.std.proofs.Common.{◌≡◌, arith, ap, ◌∙◌, get_or, length}
 use Rattle.std.proofs.lemmas.List.{length-replicate, get_or-replicate}
 use Rattle.vale_page.proofs.SoundLemmas.{blank_reset, later_reset}
 use Rattle.vale_page.proofs.page.Page.reset.Goals as goal
