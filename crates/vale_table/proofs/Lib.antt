@@ -1,1 +1,6 @@
 mod PlainLemmas
+mod MarkLemmas
+mod StepLemmas
+mod HandLemmas
+mod SeatLemmas
+mod ViewLemmas
