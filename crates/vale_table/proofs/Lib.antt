@@ -4,3 +4,5 @@ mod StepLemmas
 mod HandLemmas
 mod SeatLemmas
 mod ViewLemmas
+mod BaseLaws
+pub mod SeatLaws

@@ -16,6 +16,11 @@ pub data Frame : Type 0 where
   free : ℕ → Frame
   held : ℕ → ℕ → Frame
 
+-- the base at which the frame is free, or was claimed
+abbrev pub frame_base : Frame → ℕ
+frame_base (free b) = b
+frame_base (held o b) = b
+
 -- the table by itself: its frames, and how many workers there are
 pub record Core : Type 0 where
   pub frames : List Frame
