@@ -1,6 +1,12 @@
-//! What a program's text is: its tokens, with the definition of how a text is cut into them.
+//! What a program's text is: its tokens and its tree, with the definitions of how a text is cut into tokens and of how
+//! tokens spell a tree.
 #![tactic(auto)]
 
 mod token;
+mod tree;
 
 pub use token::{Sign, Token, TokenKind, TokenList, Tokens, Word};
+pub use tree::{
+    BinaryOp, Block, ElseIf, Expr, FieldDecl, Form, Function, Head, Item, Link, NameAt, Param,
+    Step, Stmt, Tree, TypeExpr, UnaryOp,
+};
