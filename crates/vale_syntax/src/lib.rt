@@ -2,6 +2,7 @@
 //! tokens spell a tree.
 #![tactic(auto)]
 
+mod build;
 mod token;
 mod tree;
 
