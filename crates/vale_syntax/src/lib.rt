@@ -1,9 +1,15 @@
-//! What a program's text is: its tokens and its tree, with the definitions of how a text is cut into tokens and how a
-//! tree is spelled.
+//! What a program's text is: its tokens and its tree, with the definitions of how a text is cut into tokens and of how
+//! tokens spell a tree.
 #![tactic(auto)]
 
+mod build;
 mod program;
 mod token;
+mod tree;
 
 pub use program::{Added, Println, Program, Sum};
 pub use token::{Sign, Token, TokenKind, TokenList, Tokens, Word};
+pub use tree::{
+    BinaryOp, Block, ElseIf, Expr, FieldDecl, Form, Function, Head, Item, Link, NameAt, Param,
+    Step, Stmt, Tree, TypeExpr, UnaryOp,
+};
