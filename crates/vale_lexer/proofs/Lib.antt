@@ -1,0 +1,5 @@
+mod Fronts
+mod NumberLemmas
+mod Scans
+mod Sorted
+mod WordLemmas

@@ -65,6 +65,7 @@ fn sign_piece(first: u8, more: &[u8]) -> Piece
 }
 
 /// What begins these bytes.
+#[tactic(auto, unfolding(crate::specs::Next::next))]
 pub fn first_piece(alloc: Global, bytes: &[u8]) -> Result<Piece, Memory>
     requires { length bytes.now < 2 ^ 32 }
     ensures { IfOk result (λ piece. piece ≡ next bytes.now) }

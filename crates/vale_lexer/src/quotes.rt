@@ -27,6 +27,7 @@ pub struct Inner<'a> {
 pub fn scan<'a>(alloc: Global, bytes: &'a [u8]) -> Result<Inner<'a>, Memory>
     ensures text { IfOk result (λ s. s.text.items ≡ (scan bytes.now).text) }
     ensures rest { IfOk result (λ s. s.rest.now ≡ (scan bytes.now).rest) }
+    ensures within { IfOk result (λ s. length s.rest.now ≤ length bytes.now) }
 {
     let mut text = Vec::new(alloc);
     let mut rest = bytes;

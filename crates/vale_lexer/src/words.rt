@@ -67,6 +67,7 @@ fn text_of(word: Word) -> &'static [u8]
     }
 }
 
+#[tactic(auto, unfolding(crate::specs::Next::word_of))]
 fn word_of(name: &[u8]) -> Option<Word>
     ensures { result ≡ word_of name.now }
 {
