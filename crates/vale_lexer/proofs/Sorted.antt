@@ -1,5 +1,5 @@
 -- What has the form of a piece, by its first byte.
-use Rattle.std.proofs.Common.{◌≡◌, ◌<◌, ◌≤◌, ◌+◌, ℕ, zero, suc, Bool, true, false, cond, eqb, List, [], ◌∷◌, ◌++◌, length, get_or, drop, refl, sym, ap, subst, ◌∙◌, arith, ◌⊎◌, inl, inr}
+use Rattle.std.proofs.Common.{◌≡◌, ◌<◌, ◌≤◌, ◌+◌, ℕ, zero, suc, Bool, true, false, cond, eqb, List, [], ◌∷◌, ◌++◌, ◌&&◌, length, get_or, drop, refl, sym, ap, subst, ◌∙◌, arith, ◌⊎◌, inl, inr}
 use Rattle.std.specs.List.{list_all}
 use Rattle.std.proofs.lemmas.Bool.Decides.{nat_tests}
 use Rattle.vale_syntax.specs.Bytes.{Each, is_blank, is_letter, is_digit, is_name_byte, is_comment_byte, word_text, sign_text}
@@ -18,7 +18,7 @@ pub cons_no : (a : ℕ) (xs : List ℕ) → a ∷ xs ≡ [] → ⊥
 cons_no a xs e = cc
 
 -- 1 for a blank, 2 for a letter, 3 for a digit, 4 for a `"`, and 0 for any other byte
-abbrev pub class : ℕ → ℕ
+pub class : ℕ → ℕ
 class b = cond (is_blank b) 1 (cond (is_letter b) 2 (cond (is_digit b) 3 (cond (eqb b 34) 4 0)))
 
 letter_blank : (b : ℕ) → is_letter b ≡ true → is_blank b ≡ false
@@ -31,21 +31,31 @@ digit_letter : (b : ℕ) → is_digit b ≡ true → is_letter b ≡ false
 digit_letter b h = grind (arith, nat_tests)
 
 pub blank_class : (b : ℕ) → is_blank b ≡ true → class b ≡ 1
+unfolding class
 blank_class b h = rw h refl
 
 pub letter_class : (b : ℕ) → is_letter b ≡ true → class b ≡ 2
+unfolding class
 letter_class b h = rw (letter_blank b h, h) refl
 
 pub digit_class : (b : ℕ) → is_digit b ≡ true → class b ≡ 3
+unfolding class
 digit_class b h = rw (digit_blank b h, digit_letter b h, h) refl
 
 pub quote_class : (b : ℕ) → b ≡ 34 → class b ≡ 4
+unfolding class
 quote_class b h = ap class h
 
-slash_class : (b : ℕ) → b ≡ 47 → class b ≡ 0
+pub zero_class : (b : ℕ) → is_blank b ≡ false → is_letter b ≡ false → is_digit b ≡ false → eqb b 34 ≡ false → class b ≡ 0
+unfolding class
+zero_class b f g h i = rw (f, g, h, i) refl
+
+pub slash_class : (b : ℕ) → b ≡ 47 → class b ≡ 0
+unfolding class
 slash_class b h = ap class h
 
 sign_class : (x : Sign) (b : ℕ) (xs : List ℕ) → b ∷ xs ≡ sign_text x → class b ≡ 0
+unfolding class
 sign_class s.OpenBrace b xs e = ap (λ (l : List ℕ). class (get_or l 0 0)) e
 sign_class _ b xs e = ap (λ (l : List ℕ). class (get_or l 0 0)) e
 
@@ -68,9 +78,13 @@ sorted b xs (sign x e) = a_sign (sign_class x b xs e) x e
 
 -- ---- what a piece is has its form
 
+each_by : (p : ℕ → Bool) (x : ℕ) (xs : List ℕ) (t : Bool) → p x ≡ t → (t && list_all p xs) ≡ true → (list_all p xs ≡ true → Each p xs) → Each p (x ∷ xs)
+each_by p x xs true is h more = (is, more h)
+each_by p x xs false is h more = absurd cc
+
 pub each_all : (p : ℕ → Bool) (xs : List ℕ) → list_all p xs ≡ true → Each p xs
 each_all p [] h = tt
-each_all p (x ∷ xs) h = ?
+each_all p (x ∷ xs) h = each_by p x xs (p x) refl h (each_all p xs)
 
 word_name : (x : Word) → IsName (word_text x)
 word_name w.Func = (get_or (word_text w.Func) 0 0, drop 1 (word_text w.Func), refl, refl, each_all is_name_byte (drop 1 (word_text w.Func)) refl)
