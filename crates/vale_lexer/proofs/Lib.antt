@@ -1,5 +1,8 @@
+mod Alone
 mod Fronts
+mod Goes
 mod NumberLemmas
+mod OneCut
 mod Runs
 mod Scans
 mod SignLemmas

@@ -21,13 +21,13 @@ cons_no a xs e = cc
 pub class : ℕ → ℕ
 class b = cond (is_blank b) 1 (cond (is_letter b) 2 (cond (is_digit b) 3 (cond (eqb b 34) 4 0)))
 
-letter_blank : (b : ℕ) → is_letter b ≡ true → is_blank b ≡ false
+pub letter_blank : (b : ℕ) → is_letter b ≡ true → is_blank b ≡ false
 letter_blank b h = grind (arith, nat_tests)
 
-digit_blank : (b : ℕ) → is_digit b ≡ true → is_blank b ≡ false
+pub digit_blank : (b : ℕ) → is_digit b ≡ true → is_blank b ≡ false
 digit_blank b h = grind (arith, nat_tests)
 
-digit_letter : (b : ℕ) → is_digit b ≡ true → is_letter b ≡ false
+pub digit_letter : (b : ℕ) → is_digit b ≡ true → is_letter b ≡ false
 digit_letter b h = grind (arith, nat_tests)
 
 pub blank_class : (b : ℕ) → is_blank b ≡ true → class b ≡ 1
@@ -86,7 +86,7 @@ pub each_all : (p : ℕ → Bool) (xs : List ℕ) → list_all p xs ≡ true →
 each_all p [] h = tt
 each_all p (x ∷ xs) h = each_by p x xs (p x) refl h (each_all p xs)
 
-word_name : (x : Word) → IsName (word_text x)
+pub word_name : (x : Word) → IsName (word_text x)
 word_name w.Func = (get_or (word_text w.Func) 0 0, drop 1 (word_text w.Func), refl, refl, each_all is_name_byte (drop 1 (word_text w.Func)) refl)
 word_name x = (get_or (word_text x) 0 0, drop 1 (word_text x), refl, refl, each_all is_name_byte (drop 1 (word_text x)) refl)
 
