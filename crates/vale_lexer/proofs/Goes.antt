@@ -1,5 +1,5 @@
 -- How far a text is cut.
-use Rattle.std.proofs.Common.{◌≡◌, ◌<◌, ◌≤◌, ◌+◌, ◌-◌, ◌^◌, ℕ, zero, suc, Bool, true, false, cond, eqb, List, [], ◌∷◌, ◌++◌, length, drop, refl, sym, ap, subst, ◌∙◌, arith, append_assoc, append-nil, length-append}
+use Rattle.std.proofs.Common.{◌≡◌, ◌<◌, ◌≤◌, ◌+◌, ◌-◌, ◌^◌, ℕ, zero, suc, Bool, true, false, cond, eqb, not, List, [], ◌∷◌, ◌++◌, length, drop, refl, sym, ap, subst, ◌∙◌, arith, append_assoc, append-nil, add-zero, length-append}
 use Rattle.std.proofs.Math.Seq.{drop-append_seam}
 use Rattle.vale_base.specs.declared.spot.Spot.{Spot}
 use Rattle.vale_syntax.specs.Bytes.{Each, is_comment_byte}
@@ -21,12 +21,15 @@ abbrev pub along : Spot → ℕ → Spot
 along at n = record { line = at.line; col = at.col + n }
 
 step_line : (at : Spot) (b : ℕ) (t : Bool) → eqb b 10 ≡ t → is_comment_byte b ≡ true → step at b ≡ along at 1
-step_line at b true e is = ?
+step_line at b true e is = let never : false ≡ true = ap not (sym e) ∙ is in absurd cc
 step_line at b false e is = rw e refl
 
 pub behind_line : (at : Spot) (piece : List ℕ) → Each is_comment_byte piece → behind at piece ≡ along at (length piece)
-behind_line at [] each = ?
-behind_line at (b ∷ piece) each = ?
+behind_line at [] each = ap (λ (c : ℕ). let s : Spot = record { line = at.line; col = c } in s) (sym (add-zero at.col))
+behind_line at (b ∷ piece) each =
+    let sum : (at.col + 1) + length piece ≡ at.col + suc (length piece) = omega arith in
+    ap (λ (x : Spot). behind x piece) (step_line at b (eqb b 10) refl each.0)
+    ∙ (behind_line (along at 1) piece each.1 ∙ ap (λ (c : ℕ). let s : Spot = record { line = at.line; col = c } in s) sum)
 
 pub Goes-start : (text : List ℕ) → Goes text [] start text
 Goes-start text = record { sound = λ ts end left c. c }
@@ -93,3 +96,16 @@ Goes-fault text list at rest code n goes e =
       fault = record { before = list ++ []; from = at; rest = rest; cuts = goes.sound [] at rest none; wrong = subst (λ (x : Spot). IsWrong at rest code x) spot (wrong at) };
       within = omega (arith, f.count, ap length f.whole, length-append f.piece f.after);
     }
+
+-- behind a byte the lines and columns are still few
+pub record Few (at : Spot) (n : ℕ) : Type 0 where
+  pub lines : at.line + (n - 1) < 2 ^ 32
+  pub cols : at.col + (n - 1) < 2 ^ 32
+
+few_by : (at : Spot) (n : ℕ) (t : Bool) → 1 ≤ n → at.line + n < 2 ^ 32 → at.col + n < 2 ^ 32
+    → Few (cond t (record { line = at.line + 1; col = 1 }) (record { line = at.line; col = at.col + 1 })) n
+few_by at n true some lines cols = record { lines = omega arith; cols = omega arith }
+few_by at n false some lines cols = record { lines = omega arith; cols = omega arith }
+
+pub step_few : (at : Spot) (b n : ℕ) → 1 ≤ n → at.line + n < 2 ^ 32 → at.col + n < 2 ^ 32 → Few (step at b) n
+step_few at b n some lines cols = few_by at n (eqb b 10) some lines cols

@@ -1,5 +1,5 @@
 // Cuts a text into tokens.
-ghost use Rattle.std.specs.Prelude.{◌≡◌, ℕ, ◌+◌, ◌<◌, ◌^◌, length, IfOk};
+ghost use Rattle.std.specs.Prelude.{◌≡◌, ℕ, ◌+◌, ◌<◌, ◌≤◌, ◌^◌, length, drop, IfOk};
 ghost use Rattle.vale_base.specs.Faults.{IfFault, IsValueUnlessMemory, IsFaultUnlessMemory};
 ghost use Rattle.vale_base.specs.declared.spot.Spot.{Spot};
 ghost use Rattle.vale_syntax.specs.Cut.{cut, step, LexFaultAt};
@@ -49,6 +49,14 @@ fn along(at: Spot, len: usize) -> Spot
     }
 }
 
+// What is behind so many bytes.
+fn behind(bytes: &[u8], len: usize) -> &[u8]
+    requires { len ≤ length bytes.now }
+    ensures { result.now ≡ drop len bytes.now }
+{
+    &bytes[len..]
+}
+
 /// The tokens of a text, or its first fault.
 pub fn lex(alloc: Global, bytes: &[u8]) -> Result<Tokens, Fail<LexFault>>
     requires { length bytes.now < 4294967295 }
@@ -77,16 +85,16 @@ pub fn lex(alloc: Global, bytes: &[u8]) -> Result<Tokens, Fail<LexFault>>
                 });
             }
             Piece::Blank(byte) => {
-                rest = &rest[1..];
+                rest = behind(rest, 1);
                 at = step(at, byte);
             }
             Piece::Comment(len) => {
-                rest = &rest[len..];
+                rest = behind(rest, len);
                 at = along(at, len);
             }
             Piece::Token(kind, len) => {
                 list.push(Token { kind, at })?;
-                rest = &rest[len..];
+                rest = behind(rest, len);
                 at = along(at, len);
             }
             Piece::Fault(code, offset) => {
