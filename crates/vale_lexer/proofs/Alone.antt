@@ -1,5 +1,5 @@
 -- What a piece is when it stands alone: so no piece is two things.
-use Rattle.std.proofs.Common.{◌≡◌, ◌<◌, ◌≤◌, ◌+◌, ◌-◌, ◌^◌, ℕ, zero, suc, Bool, true, false, cond, eqb, ltb, leb, List, [], ◌∷◌, ◌++◌, length, take, drop, pos, refl, sym, ap, subst, ◌∙◌, arith, inl, inr, length-append}
+use Rattle.std.proofs.Common.{◌≡◌, ◌<◌, ◌≤◌, ◌+◌, ◌-◌, ◌^◌, ℕ, Bool, true, false, cond, ltb, leb, List, [], ◌∷◌, ◌++◌, length, take, pos, refl, sym, ap, subst, ◌∙◌, arith, inl, inr}
 use Rattle.std.specs.List.{prefix_len}
 use Rattle.std.proofs.Math.Seq.{take-length}
 use Rattle.std.proofs.lemmas.Bool.Decides.{nat_tests}
@@ -13,7 +13,7 @@ use Rattle.vale_syntax.specs.declared.token.TokenKind.{TokenKind}
 use Rattle.vale_syntax.specs.declared.token.TokenKind.TheVariants as k
 use Rattle.vale_lexer.specs.declared.pieces.Piece.{Piece}
 use Rattle.vale_lexer.specs.declared.pieces.Piece.TheVariants.{End, Blank, Comment, Token, Fault}
-use Rattle.vale_lexer.specs.Next.{word_of, kind_by, name_kind, Scan, scan, closed, quote_by, number_piece, next}
+use Rattle.vale_lexer.specs.Next.{word_of, kind_by, name_kind, Scan, closed, quote_by, number_piece, next}
 use Rattle.vale_lexer.proofs.Scans.{at_mark, Quoted-scan}
 use Rattle.vale_lexer.proofs.Sorted.{letter_blank, digit_blank, digit_letter, word_name}
 use Rattle.vale_lexer.proofs.WordLemmas.{word_self, no_word}
@@ -39,8 +39,8 @@ unfolding next
 name_by b more is each =
     let all : Each is_name_byte (b ∷ more) = (letter_name b is, each) in
     pick_second (is_blank b) (Blank b) _ (letter_blank b is) ∙ (pick_first (is_letter b) _ _ is
-     ∙ (ap (λ (xs : List ℕ). Token (name_kind xs) (prefix_len is_name_byte (b ∷ more))) (take_all is_name_byte (b ∷ more) all)
-     ∙ ap (λ (n : ℕ). Token (name_kind (b ∷ more)) n) (all_run is_name_byte (b ∷ more) all)))
+    ∙ (ap (λ (xs : List ℕ). Token (name_kind xs) (prefix_len is_name_byte (b ∷ more))) (take_all is_name_byte (b ∷ more) all)
+    ∙ ap (λ (n : ℕ). Token (name_kind (b ∷ more)) n) (all_run is_name_byte (b ∷ more) all)))
 
 name_alone : (piece : List ℕ) → IsName piece → next piece ≡ Token (name_kind piece) (length piece)
 name_alone piece (b, more, e, is, each) = subst (λ (xs : List ℕ). next xs ≡ Token (name_kind xs) (length xs)) (sym e) (name_by b more is each)
@@ -53,7 +53,7 @@ digits_by : (b : ℕ) (more : List ℕ) → is_digit b ≡ true → Each is_digi
 unfolding next
 digits_by b more is each =
     pick_second (is_blank b) (Blank b) _ (digit_blank b is) ∙ (pick_second (is_letter b) _ _ (digit_letter b is) ∙ (pick_first (is_digit b) _ _ is
-     ∙ ap number_piece (take_all is_digit (b ∷ more) (is, each))))
+    ∙ ap number_piece (take_all is_digit (b ∷ more) (is, each))))
 
 digits_alone : (piece : List ℕ) → IsNumber piece → next piece ≡ number_piece piece
 digits_alone [] (some, each) = absurd (omega arith)

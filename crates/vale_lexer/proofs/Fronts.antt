@@ -1,10 +1,9 @@
 -- What the code finds at the front is what the definition by cases finds.
-use Rattle.std.proofs.Common.{◌≡◌, ◌<◌, ◌+◌, ◌-◌, ℕ, Bool, true, false, cond, eqb, ◌&&◌, nat_eq, List, [], ◌∷◌, length, drop, take, get_or, refl, sym, ap, ◌∙◌, arith}
+use Rattle.std.proofs.Common.{◌≡◌, ◌<◌, ℕ, Bool, true, false, eqb, ◌&&◌, nat_eq, List, [], ◌∷◌, length, drop, get_or, refl, sym, ap, ◌∙◌, arith}
 use Rattle.std.proofs.lemmas.Bool.{eqb-true}
 use Rattle.std.specs.List.{starts_with}
 use Rattle.vale_syntax.specs.Bytes.{is_blank, is_letter, is_digit}
 use Rattle.vale_lexer.specs.Next.{next, is_comment, sign_piece}
-use Rattle.vale_lexer.proofs.Scans.{take-rest}
 
 not_eqb : (b n : ℕ) (t : Bool) → eqb b n ≡ t → (b ≡ n → ⊥) → t ≡ false
 not_eqb b n true e h = absurd (h (eqb-true b n e))

@@ -1,11 +1,10 @@
 -- How far a text is cut.
-use Rattle.std.proofs.Common.{◌≡◌, ◌<◌, ◌≤◌, ◌+◌, ◌-◌, ◌^◌, ℕ, zero, suc, Bool, true, false, cond, eqb, not, List, [], ◌∷◌, ◌++◌, length, drop, refl, sym, ap, subst, ◌∙◌, arith, append_assoc, append-nil, add-zero, length-append}
+use Rattle.std.proofs.Common.{◌≡◌, ◌<◌, ◌≤◌, ◌+◌, ◌-◌, ◌^◌, ℕ, suc, Bool, true, false, cond, eqb, not, List, [], ◌∷◌, ◌++◌, length, drop, refl, sym, ap, subst, ◌∙◌, arith, append_assoc, append-nil, add-zero, length-append}
 use Rattle.std.proofs.Math.Seq.{drop-append_seam}
 use Rattle.vale_base.specs.declared.spot.Spot.{Spot}
 use Rattle.vale_syntax.specs.Bytes.{Each, is_comment_byte}
-use Rattle.vale_syntax.specs.Cut.{IsGap, Means, IsLongest, IsWrong, step, behind, start, Cuts, none, gap, token, cut, LexFaultAt}
+use Rattle.vale_syntax.specs.Cut.{IsGap, IsLongest, IsWrong, step, behind, start, Cuts, none, gap, token, cut, LexFaultAt}
 use Rattle.vale_syntax.specs.declared.token.Token.{Token}
-use Rattle.vale_syntax.specs.declared.token.TokenKind.{TokenKind}
 use Rattle.vale_lexer.specs.declared.pieces.Piece.{Piece}
 use Rattle.vale_lexer.specs.declared.pieces.Piece.TheVariants as p
 use Rattle.vale_lexer.specs.Next.{next}

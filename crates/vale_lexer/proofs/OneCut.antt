@@ -1,7 +1,7 @@
 -- A text is cut in one way, and has at most one first fault.
-use Rattle.std.proofs.Common.{◌≡◌, ◌<◌, ◌≤◌, ◌+◌, ℕ, zero, suc, List, [], ◌∷◌, ◌++◌, length, refl, sym, ap, subst, ◌∙◌, arith, append_assoc, length-append}
+use Rattle.std.proofs.Common.{◌≡◌, ◌≤◌, ℕ, List, [], ◌∷◌, ◌++◌, length, refl, sym, ap, subst, ◌∙◌, arith, append_assoc, length-append}
 use Rattle.vale_base.specs.declared.spot.Spot.{Spot}
-use Rattle.vale_syntax.specs.Cut.{IsPiece, IsGap, Means, IsLongest, Quoted, empty, quote, IsTooLarge, IsWrong, no_token, no_escape, too_large, no_end, behind, EndsLine, BeginsNoEscape, Cuts, none, gap, token, start, cut, LexFaultAt}
+use Rattle.vale_syntax.specs.Cut.{IsPiece, IsGap, Means, IsLongest, Quoted, empty, quote, IsTooLarge, IsWrong, no_token, no_escape, too_large, no_end, behind, EndsLine, BeginsNoEscape, Cuts, none, gap, token, cut, LexFaultAt}
 use Rattle.vale_syntax.specs.declared.token.Token.{Token}
 use Rattle.vale_syntax.specs.declared.token.TokenKind.{TokenKind}
 use Rattle.vale_syntax.specs.declared.token.Tokens.{Tokens}

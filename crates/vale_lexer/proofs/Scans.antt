@@ -1,10 +1,10 @@
 -- What stands in a quote, part by part.
-use Rattle.std.proofs.Common.{◌≡◌, ◌<◌, ◌≤◌, ◌+◌, ◌-◌, ℕ, zero, suc, Bool, true, false, cond, eqb, List, [], ◌∷◌, ◌++◌, length, drop, take, Option, None, Some, unwrap_or, refl, sym, ap, subst, ◌∙◌, arith, append_assoc, ◌⊎◌, inl, inr}
-use Rattle.std.proofs.lemmas.Bool.{eqb-true, eqb-false}
+use Rattle.std.proofs.Common.{◌≡◌, ◌<◌, ◌≤◌, ◌-◌, ℕ, Bool, true, false, cond, eqb, List, [], ◌∷◌, ◌++◌, length, drop, take, Option, None, Some, unwrap_or, refl, sym, ap, subst, ◌∙◌, arith, append_assoc, ◌⊎◌, inl, inr}
+use Rattle.std.proofs.lemmas.Bool.{eqb-true}
 use Rattle.std.proofs.lemmas.Bool.Decides.{nat_tests}
 use Rattle.std.proofs.lemmas.Grind.{common_steps}
 use Rattle.vale_syntax.specs.Bytes.{is_plain, escape_of}
-use Rattle.vale_syntax.specs.Cut.{Quoted, empty, plain, escape, EndsLine, BeginsNoEscape}
+use Rattle.vale_syntax.specs.Cut.{Quoted, empty, plain, escape, BeginsNoEscape}
 use Rattle.vale_lexer.specs.Next.{part_of, meant, Scan, scan, stopped, with_part, escaped}
 
 -- one part was taken

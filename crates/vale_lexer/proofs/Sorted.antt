@@ -1,9 +1,9 @@
 -- What has the form of a piece, by its first byte.
-use Rattle.std.proofs.Common.{◌≡◌, ◌<◌, ◌≤◌, ◌+◌, ℕ, zero, suc, Bool, true, false, cond, eqb, List, [], ◌∷◌, ◌++◌, ◌&&◌, length, get_or, drop, refl, sym, ap, subst, ◌∙◌, arith, ◌⊎◌, inl, inr}
+use Rattle.std.proofs.Common.{◌≡◌, ◌<◌, ℕ, Bool, true, false, cond, eqb, List, [], ◌∷◌, ◌++◌, ◌&&◌, length, get_or, drop, refl, sym, ap, subst, ◌∙◌, arith, inl, inr}
 use Rattle.std.specs.List.{list_all}
 use Rattle.std.proofs.lemmas.Bool.Decides.{nat_tests}
-use Rattle.vale_syntax.specs.Bytes.{Each, is_blank, is_letter, is_digit, is_name_byte, is_comment_byte, word_text, sign_text}
-use Rattle.vale_syntax.specs.Cut.{IsBlank, IsComment, IsName, IsNumber, IsQuote, IsPiece, blank, comment, name, number, quote, sign, IsGap, Means, IsTooLarge, large_number, long_quote}
+use Rattle.vale_syntax.specs.Bytes.{Each, is_blank, is_letter, is_digit, is_name_byte, word_text, sign_text}
+use Rattle.vale_syntax.specs.Cut.{IsComment, IsName, IsQuote, IsPiece, blank, comment, name, number, quote, sign, IsGap, Means, IsTooLarge, large_number, long_quote}
 use Rattle.vale_syntax.specs.declared.token.Word.{Word}
 use Rattle.vale_syntax.specs.declared.token.Word.TheVariants as w
 use Rattle.vale_syntax.specs.declared.token.Sign.{Sign}

@@ -1,5 +1,5 @@
 -- What is found at the front of a text is its first piece, or what is wrong there.
-use Rattle.std.proofs.Common.{◌≡◌, ◌<◌, ◌≤◌, ◌+◌, ◌-◌, ◌^◌, ℕ, zero, suc, Bool, true, false, cond, eqb, ltb, leb, ◌&&◌, inl, inr, List, [], ◌∷◌, ◌++◌, length, take, drop, Option, None, Some, is_some, pos, refl, sym, ap, subst, ◌∙◌, arith, append_assoc, length-append}
+use Rattle.std.proofs.Common.{◌≡◌, ◌≤◌, ◌+◌, ◌-◌, ◌^◌, ℕ, suc, Bool, true, false, cond, eqb, ltb, leb, ◌&&◌, inl, inr, List, [], ◌∷◌, ◌++◌, length, take, drop, Option, None, Some, is_some, pos, refl, sym, ap, subst, ◌∙◌, arith, append_assoc, length-append}
 use Rattle.std.specs.List.{prefix_len}
 use Rattle.std.proofs.lemmas.Bool.{eqb-true, ltb-true, ltb-false, leb-true, leb-false}
 use Rattle.std.proofs.lemmas.List.{take-append-drop}
@@ -7,18 +7,17 @@ use Rattle.std.proofs.lemmas.List.Folds.{length-prefix_len}
 use Rattle.vale_base.specs.Limits.{text_limit}
 use Rattle.vale_base.specs.declared.spot.Spot.{Spot}
 use Rattle.vale_syntax.specs.Bytes.{Each, is_blank, is_letter, is_digit, is_name_byte, is_comment_byte, value, sign_text}
-use Rattle.vale_syntax.specs.Cut.{IsName, IsNumber, IsQuote, IsComment, IsPiece, IsGap, Means, IsLongest, Quoted, IsTooLarge, large_number, long_quote, IsWrong, no_token, no_escape, too_large, no_end, behind, BeginsNoEscape, EndsLine}
+use Rattle.vale_syntax.specs.Cut.{IsName, IsNumber, IsGap, Means, IsLongest, Quoted, large_number, long_quote, IsWrong, no_token, no_escape, too_large, no_end, behind, BeginsNoEscape, EndsLine}
 use Rattle.vale_syntax.specs.declared.token.Sign.{Sign}
-use Rattle.vale_syntax.specs.declared.token.TokenKind.{TokenKind}
 use Rattle.vale_syntax.specs.declared.token.TokenKind.TheVariants as k
 use Rattle.vale_lexer.specs.declared.pieces.Piece.{Piece}
 use Rattle.vale_lexer.specs.declared.pieces.Piece.TheVariants.{End, Blank, Comment, Token, Fault}
-use Rattle.vale_lexer.specs.Next.{word_of, kind_by, name_kind, one_sign, two_sign, sign_at, sign_piece, number_piece, Scan, scan, closed, quote_by, quote_piece, is_comment, next}
+use Rattle.vale_lexer.specs.Next.{word_of, name_kind, one_sign, two_sign, sign_at, sign_piece, number_piece, Scan, scan, quote_by, quote_piece, is_comment, next}
 use Rattle.vale_lexer.proofs.Scans.{IsStop, at_end, at_mark, at_feed, at_slash, Quoted-scan, scan_is}
-use Rattle.vale_lexer.proofs.Sorted.{heads, cons_no, class, letter_class, digit_class, quote_class, slash_class, zero_class, blank_class, Sorted, sorted, a_blank, a_name, a_number, a_quote, a_comment, a_sign}
+use Rattle.vale_lexer.proofs.Sorted.{heads, class, letter_class, digit_class, quote_class, slash_class, zero_class, blank_class, Sorted, sorted, a_blank, a_name, a_number, a_quote, a_comment, a_sign}
 use Rattle.vale_lexer.proofs.WordLemmas.{kind_by-Means}
 use Rattle.vale_lexer.proofs.SignLemmas.{two_found, one_found, sign_short, two_only, one_only}
-use Rattle.vale_lexer.proofs.Runs.{run_each, run_first, run_longest, run_bound, run_line, each_append, name_line, digit_line, letter_name, quoted_line, sign_line, longest_by}
+use Rattle.vale_lexer.proofs.Runs.{run_each, run_first, run_bound, run_line, each_append, name_line, digit_line, letter_name, quoted_line, sign_line, longest_by}
 
 -- so many bytes at the front of the text, all of one line
 pub record IsFront (text : List ℕ) (n : ℕ) : Type 0 where
@@ -78,9 +77,11 @@ name_tells : (b : ℕ) (more : List ℕ) → is_letter b ≡ true → Tells (b �
 name_tells b more is =
     let f = run_front is_name_byte name_line (b ∷ more) in
     let r = run_first is_name_byte b more (letter_name b is) in
-    let name : IsName f.piece = (b, take (prefix_len is_name_byte more) more, r.0, is, r.1) in
-    (f, kind_by-Means f.piece name (word_of f.piece) refl,
-     longest_by f.piece f.after b more (sym f.whole) (λ xs back e s. subst (λ (n : ℕ). suc (length xs) ≤ n) (sym f.count) (name_bound b xs back more is e s)))
+    let name : IsName f.piece = (b, take (prefix_len is_name_byte more) more, r.0, is, r.1) in (
+      f,
+      kind_by-Means f.piece name (word_of f.piece) refl,
+      longest_by f.piece f.after b more (sym f.whole) (λ xs back e s. subst (λ (n : ℕ). suc (length xs) ≤ n) (sym f.count) (name_bound b xs back more is e s)),
+    )
 
 -- ---- numbers
 
@@ -138,14 +139,17 @@ quote_longest bytes inner text more e q =
 
 closed_tells : (bytes inner text more : List ℕ) (n : ℕ) (t : Bool) → bytes ≡ inner ++ 34 ∷ more → Quoted inner text → n ≡ length inner → leb (length text) text_limit ≡ t
     → Tells (34 ∷ bytes) (cond t (Token (k.Quote text) (n + 2)) (Fault 3 0))
-closed_tells bytes inner text more n true e q m le =
-    (record {
-      piece = 34 ∷ inner ++ 34 ∷ [];
-      after = more;
-      whole = quote_whole bytes inner more e;
-      count = omega (arith, m, length-append inner (34 ∷ []));
-      line = (refl, each_append is_comment_byte inner (34 ∷ []) (quoted_line q) (refl, tt));
-    }, ((inner, refl, q), leb-true _ _ le), quote_longest bytes inner text more e q)
+closed_tells bytes inner text more n true e q m le = (
+  record {
+    piece = 34 ∷ inner ++ 34 ∷ [];
+    after = more;
+    whole = quote_whole bytes inner more e;
+    count = omega (arith, m, length-append inner (34 ∷ []));
+    line = (refl, each_append is_comment_byte inner (34 ∷ []) (quoted_line q) (refl, tt));
+  },
+  ((inner, refl, q), leb-true _ _ le),
+  quote_longest bytes inner text more e q,
+)
 closed_tells bytes inner text more n false e q m le =
     (nothing_front (34 ∷ bytes), λ from. too_large (34 ∷ inner ++ 34 ∷ []) more (quote_whole bytes inner more e) (long_quote text (inner, refl, q) (leb-false _ _ le)) (quote_longest bytes inner text more e q))
 
@@ -153,9 +157,10 @@ open_tells : (bytes inner text more : List ℕ) → bytes ≡ inner ++ more → 
 open_tells bytes inner text more e q ends = (nothing_front (34 ∷ bytes), λ from. no_end inner text more (ap (λ (z : List ℕ). 34 ∷ z) e) q ends)
 
 slash_tells : (bytes inner text more : List ℕ) (n : ℕ) → bytes ≡ inner ++ 92 ∷ more → Quoted inner text → n ≡ length inner → BeginsNoEscape more → Tells (34 ∷ bytes) (Fault 2 (n + 1))
-slash_tells bytes inner text more n e q m none =
-    (record { piece = 34 ∷ inner; after = 92 ∷ more; whole = ap (λ (z : List ℕ). 34 ∷ z) e; count = omega (arith, m); line = (refl, quoted_line q) },
-     λ from. no_escape inner text more (ap (λ (z : List ℕ). 34 ∷ z) e) q none)
+slash_tells bytes inner text more n e q m none = (
+  record { piece = 34 ∷ inner; after = 92 ∷ more; whole = ap (λ (z : List ℕ). 34 ∷ z) e; count = omega (arith, m); line = (refl, quoted_line q) },
+  λ from. no_escape inner text more (ap (λ (z : List ℕ). 34 ∷ z) e) q none,
+)
 
 quote_by_tells : (bytes inner text rest : List ℕ) (n : ℕ) → bytes ≡ inner ++ rest → Quoted inner text → n ≡ length inner → IsStop rest → Tells (34 ∷ bytes) (quote_by text n rest)
 quote_by_tells bytes inner text rest n e q m (at_end h) =
@@ -187,9 +192,11 @@ two_slashes : (m : List ℕ) → Tells (47 ∷ 47 ∷ m) (Comment (prefix_len is
 two_slashes m =
     let f = run_front is_comment_byte (λ b h. h) (47 ∷ 47 ∷ m) in
     let r = run_first is_comment_byte 47 (47 ∷ m) refl in
-    let q = run_first is_comment_byte 47 m refl in
-    (f, inr (take (prefix_len is_comment_byte m) m, r.0 ∙ ap (λ (z : List ℕ). 47 ∷ z) q.0, q.1),
-     longest_by f.piece f.after 47 (47 ∷ m) (sym f.whole) (λ xs back e s. subst (λ (n : ℕ). suc (length xs) ≤ n) (sym f.count) (comment_bound m xs back e s)))
+    let q = run_first is_comment_byte 47 m refl in (
+      f,
+      inr (take (prefix_len is_comment_byte m) m, r.0 ∙ ap (λ (z : List ℕ). 47 ∷ z) q.0, q.1),
+      longest_by f.piece f.after 47 (47 ∷ m) (sym f.whole) (λ xs back e s. subst (λ (n : ℕ). suc (length xs) ≤ n) (sym f.count) (comment_bound m xs back e s)),
+    )
 
 comment_by : (b c : ℕ) (m : List ℕ) (p q : Bool) → eqb b 47 ≡ p → eqb c 47 ≡ q → (p && q) ≡ true → Tells (b ∷ c ∷ m) (Comment (prefix_len is_comment_byte (b ∷ c ∷ m)))
 comment_by b c m true true f g e =
@@ -256,16 +263,20 @@ begins_none b xs c none (a_quote d text q) = omega (arith, c, d)
 one_tells : (b : ℕ) (more : List ℕ) (o : Option Sign) → class b ≡ 0 → is_comment b more ≡ false → NoTwo b more → one_sign b ≡ o → Tells (b ∷ more) (sign_at o 1 (Fault 2 0))
 one_tells b more None c no_slash none e = (nothing_front (b ∷ more), λ from. no_token b more refl (λ xs p. begins_none b xs c e (sorted b xs p)))
 one_tells b more (Some x) c no_slash none e =
-    let is = one_found b x e in
-    (record { piece = b ∷ []; after = more; whole = refl; count = refl; line = subst (λ (z : List ℕ). Each is_comment_byte z) is (sign_line x) }, sym is,
-     longest_by (b ∷ []) more b more refl (λ xs back f s. one_bound b xs back more c no_slash none f s))
+    let is = one_found b x e in (
+      record { piece = b ∷ []; after = more; whole = refl; count = refl; line = subst (λ (z : List ℕ). Each is_comment_byte z) is (sign_line x) },
+      sym is,
+      longest_by (b ∷ []) more b more refl (λ xs back f s. one_bound b xs back more c no_slash none f s),
+    )
 
 two_tells : (b c : ℕ) (m : List ℕ) (o : Option Sign) → class b ≡ 0 → is_comment b (c ∷ m) ≡ false → two_sign b c ≡ o → Tells (b ∷ c ∷ m) (sign_at o 2 (sign_at (one_sign b) 1 (Fault 2 0)))
 two_tells b c m None z no_slash e = one_tells b (c ∷ m) (one_sign b) z no_slash e refl
 two_tells b c m (Some x) z no_slash e =
-    let is = two_found b c x e in
-    (record { piece = b ∷ c ∷ []; after = m; whole = refl; count = refl; line = subst (λ (z : List ℕ). Each is_comment_byte z) is (sign_line x) }, sym is,
-     longest_by (b ∷ c ∷ []) m b (c ∷ m) refl (λ xs back f s. two_bound b xs back (c ∷ m) z no_slash f s))
+    let is = two_found b c x e in (
+      record { piece = b ∷ c ∷ []; after = m; whole = refl; count = refl; line = subst (λ (z : List ℕ). Each is_comment_byte z) is (sign_line x) },
+      sym is,
+      longest_by (b ∷ c ∷ []) m b (c ∷ m) refl (λ xs back f s. two_bound b xs back (c ∷ m) z no_slash f s),
+    )
 
 sign_tells : (b : ℕ) (more : List ℕ) → class b ≡ 0 → is_comment b more ≡ false → Tells (b ∷ more) (sign_piece b more)
 sign_tells b [] c no_slash = one_tells b [] (one_sign b) c no_slash tt refl

@@ -1,5 +1,5 @@
 -- What begins a text, byte by byte.
-use Rattle.std.specs.Prelude.{ℕ, ◌+◌, ◌-◌, ◌^◌, ◌==◌, ◌&&◌, nat_le, nat_lt, Bool, true, false, ℤ, pos, List, [], ◌∷◌, ◌++◌, Option, None, Some, length, take, if◌then◌else◌, codes}
+use Rattle.std.specs.Prelude.{ℕ, ◌+◌, ◌-◌, ◌^◌, ◌==◌, ◌&&◌, nat_le, nat_lt, Bool, false, ℤ, pos, List, [], ◌∷◌, ◌++◌, Option, None, Some, length, take, if◌then◌else◌}
 use Rattle.std.specs.List.{find, prefix_len}
 use Rattle.std.specs.Str.{bytes_eq}
 use Rattle.vale_base.specs.Limits.{text_limit}

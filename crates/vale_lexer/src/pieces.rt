@@ -43,7 +43,10 @@ fn quote_piece(alloc: Global, bytes: &[u8]) -> Result<Piece, Memory>
     let Inner { text, rest } = scan(alloc, bytes)?;
     let inner = bytes.len() - rest.len();
     Ok(match rest {
-        [b'"', ..] if text.len() <= TEXT_LIMIT => Piece::Token(TokenKind::Quote(Text::from_vec(text)), inner + 2),
+        [b'"', ..] if text.len() <= TEXT_LIMIT => Piece::Token(
+            TokenKind::Quote(Text::from_vec(text)),
+            inner + 2,
+        ),
         [b'"', ..] => Piece::Fault(3, 0),
         [b'\\', ..] => Piece::Fault(2, inner + 1),
         _ => Piece::Fault(4, 0),

@@ -1,10 +1,8 @@
-use Rattle.std.proofs.Common.{◌≡◌, ◌∙◌, ◌+◌, ◌<◌, ◌≤◌, ◌∷◌, ◌++◌, [], ap, sym, subst, length, drop, arith, refl, length-drop}
-use Rattle.vale_base.specs.declared.spot.Spot.{Spot}
-use Rattle.vale_syntax.specs.Cut.{cut, LexFaultAt}
+use Rattle.std.proofs.Common.{◌≡◌, ◌∙◌, ap, sym, length, arith, refl, length-drop}
 use Rattle.vale_lexer.specs.declared.pieces.Piece.TheVariants as p
 use Rattle.vale_lexer.specs.Next.{next}
 use Rattle.vale_lexer.proofs.OneCut.{one_tokens, one_fault, no_cut}
-use Rattle.vale_lexer.proofs.Goes.{Goes, along, Goes-blank, Goes-comment, Goes-token, Goes-end, Goes-fault, step_few}
+use Rattle.vale_lexer.proofs.Goes.{Goes-blank, Goes-comment, Goes-token, Goes-end, Goes-fault, step_few}
 use Rattle.vale_lexer.proofs.lexer.lex.Goals as goal
 
 -- ---- there is one cutting

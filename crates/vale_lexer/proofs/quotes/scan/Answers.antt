@@ -1,6 +1,6 @@
-use Rattle.std.proofs.Common.{◌≡◌, ◌∙◌, ◌-◌, ◌++◌, ◌∷◌, [], Some, None, ap, sym, refl, length, take, drop, arith, append_assoc, append-nil, length-drop}
+use Rattle.std.proofs.Common.{◌≡◌, ◌∙◌, ◌++◌, Some, None, ap, sym, arith, append-nil, length-drop}
 use Rattle.std.proofs.lemmas.Grind.{common_steps}
-use Rattle.vale_lexer.specs.Next.{part_of, scan}
+use Rattle.vale_lexer.specs.Next.{part_of}
 use Rattle.vale_lexer.proofs.Scans.{scan_part, scan_stop, taken, take-rest}
 use Rattle.vale_lexer.proofs.quotes.scan.Goals as goal
 
