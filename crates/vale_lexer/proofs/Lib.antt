@@ -1,4 +1,5 @@
 mod Alone
+mod Examples
 mod Fronts
 mod Goes
 mod NumberLemmas
@@ -8,4 +9,5 @@ mod Scans
 mod SignLemmas
 mod Sorted
 mod Tells
+mod Walk
 mod WordLemmas
