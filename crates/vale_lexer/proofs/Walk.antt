@@ -1,5 +1,5 @@
 -- Texts are cut by computation: so what the definition says of a text can be seen.
-use Rattle.std.proofs.Common.{◌≡◌, ◌+◌, ℕ, zero, suc, List, [], ◌∷◌, ◌++◌, drop, refl, sym}
+use Rattle.std.proofs.Common.{◌≡◌, ℕ, zero, suc, List, [], ◌∷◌, ◌++◌, drop, refl}
 use Rattle.vale_base.specs.declared.spot.Spot.{Spot}
 use Rattle.vale_syntax.specs.Cut.{step, start, cut, LexFaultAt}
 use Rattle.vale_syntax.specs.declared.token.Token.{Token}

@@ -11,6 +11,15 @@ use std::alloc::Global;
 use vale_base::{Memory, TEXT_LIMIT, Text};
 use vale_syntax::TokenKind;
 
+/// The code of a byte that begins no token, and of a `\` that begins no escape.
+const NO_TOKEN: u8 = 2;
+
+/// The code of a number that is no int, and of a quote whose text is too long.
+const TOO_LARGE: u8 = 3;
+
+/// The code of a quote that a line feed or the end comes upon.
+const NO_END: u8 = 4;
+
 /// The first piece of a text, with its length.
 #[derive(Drop)]
 pub enum Piece {
@@ -31,7 +40,7 @@ fn number_piece(digits: &[u8]) -> Piece
 {
     match number_of(digits) {
         Some(number) => Piece::Token(TokenKind::Number(number), digits.len()),
-        None => Piece::Fault(3, 0),
+        None => Piece::Fault(TOO_LARGE, 0),
     }
 }
 
@@ -47,9 +56,9 @@ fn quote_piece(alloc: Global, bytes: &[u8]) -> Result<Piece, Memory>
             TokenKind::Quote(Text::from_vec(text)),
             inner + 2,
         ),
-        [b'"', ..] => Piece::Fault(3, 0),
-        [b'\\', ..] => Piece::Fault(2, inner + 1),
-        _ => Piece::Fault(4, 0),
+        [b'"', ..] => Piece::Fault(TOO_LARGE, 0),
+        [b'\\', ..] => Piece::Fault(NO_TOKEN, inner + 1),
+        _ => Piece::Fault(NO_END, 0),
     })
 }
 
@@ -63,7 +72,7 @@ fn sign_piece(first: u8, more: &[u8]) -> Piece
     }
     match one_sign(first) {
         Some(sign) => Piece::Token(TokenKind::Sign(sign), 1),
-        None => Piece::Fault(2, 0),
+        None => Piece::Fault(NO_TOKEN, 0),
     }
 }
 
