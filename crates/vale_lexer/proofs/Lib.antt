@@ -1,0 +1,13 @@
+mod Alone
+mod Examples
+mod Fronts
+mod Goes
+mod NumberLemmas
+mod OneCut
+mod Runs
+mod Scans
+mod SignLemmas
+mod Sorted
+mod Tells
+mod Walk
+mod WordLemmas
