@@ -1,14 +1,14 @@
 -- The code of a program does what the program means.
-use Rattle.std.proofs.Common.{◌≡◌, ◌∙◌, ℤ, List, [], ◌∷◌, ◌++◌, refl, sym, ap, append_assoc, length, drop, arith, ◌≤◌, ℕ}
+use Rattle.std.proofs.Common.{◌≡◌, ◌∙◌, ℤ, List, [], ◌∷◌, ◌++◌, refl, ap, append_assoc, length, drop, arith, ◌≤◌, ℕ}
 use Rattle.std.proofs.lemmas.Grind.{common_steps}
-use Rattle.std.specs.Prelude.{Result, Ok, Err, ◌+ℤ◌, true, false, Bool}
-use Rattle.vale_base.specs.Outcome.{Outcome, End}
-use Rattle.vale_model.specs.Meaning.{is_int, sum_at, main_trap, line_of, prints, ends, ◌>>=◌, added_value, sum_value, line_meaning, body_meaning}
+use Rattle.std.specs.Prelude.{Ok, Err}
+use Rattle.vale_base.specs.Outcome.{Outcome}
+use Rattle.vale_model.specs.Meaning.{sum_at, line_of, prints, ◌>>=◌, added_value, line_meaning, body_meaning}
 use Rattle.vale_syntax.specs.declared.program.Added.{Added}
 use Rattle.vale_syntax.specs.declared.program.Println.{Println}
 use Rattle.vale_run.specs.declared.code.Instr.{Instr}
 use Rattle.vale_run.specs.declared.code.Instr.TheVariants.{Print, RetVoid}
-use Rattle.vale_run.specs.Code.{with_value, run_code, added_code, println_code, body_code}
+use Rattle.vale_run.specs.Code.{with_value, run_code, added_code, body_code}
 
 added-meaning : (more : List Instr) (o : Outcome) → ((x y : ℤ) → run_code more x y ≡ o) → (items : List Added) (x y : ℤ) → run_code (added_code items ++ Print ∷ more) x y ≡ line_meaning 1 (added_value x items) o
 added-meaning more o same [] x y = ap (prints (record { tick = 1; bytes = line_of x })) (same x y)

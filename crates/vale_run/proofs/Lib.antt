@@ -1,4 +1,5 @@
 pub mod CodeMeaning
+pub mod Jobs
 pub mod Owed
 pub mod ReadEach
 pub mod ReadPrintlns

@@ -1,12 +1,12 @@
 -- The answer to a text that was read up to its limit.
-use Rattle.std.proofs.Common.{◌≡◌, ◌∙◌, ℕ, ◌+◌, ◌<◌, ◌≤◌, List, Option, None, Some, length, take, sym, ap, subst, refl, arith}
+use Rattle.std.proofs.Common.{◌≡◌, ℕ, ◌≤◌, List, Option, None, Some, length, take, sym, subst, refl, arith}
 use Rattle.std.specs.Option.{option_map}
 use Rattle.std.proofs.lemmas.List.{length-take, take_all}
 use Rattle.vale_base.specs.Limits.{program_limit}
 use Rattle.vale_ports.specs.Shelf.{Files, ReadsFile, HasFile}
 use Rattle.vale_run.specs.Owed.{RunsTo, too_long, not_well_formed, runs}
 use Rattle.vale_run.specs.declared.answer.Answer.{Answer}
-use Rattle.vale_run.specs.declared.words.Options.{Options}
+use Rattle.vale_words.specs.declared.job.Options.{Options}
 
 -- a front within the limit is the whole
 whole : (text : List ℕ) → length (take 1048577 text) ≤ program_limit → take 1048577 text ≡ text

@@ -1,6 +1,5 @@
 -- A `println` is read in one way.
-use Rattle.std.proofs.Common.{◌≡◌, ◌∙◌, ◌<◌, ◌≤◌, List, [], ◌∷◌, Option, None, Some, length, get_or, refl, sym, ap, subst, arith, codes}
-use Rattle.std.proofs.lemmas.Grind.{common_steps}
+use Rattle.std.proofs.Common.{◌≡◌, ◌∙◌, ◌<◌, ◌≤◌, List, [], ◌∷◌, Option, Some, length, get_or, refl, sym, ap, subst, arith, codes}
 use Rattle.vale_syntax.specs.Sums.{◌⨟◌, token, spells_added, spells_sum, spells_println, each}
 use Rattle.vale_syntax.specs.declared.token.Sign.TheVariants.{OpenParen, CloseParen, Semicolon, Plus}
 use Rattle.vale_syntax.specs.declared.token.Token.{Token}

@@ -6,6 +6,7 @@ use Rattle.vale_ports.specs.Shelf.{ShelfState, KeepsFiles}
 use Rattle.vale_ports.specs.Streams.{SourceState, SinkState}
 use Rattle.vale_run.specs.Owed.{Owes, ReadFails, LacksPages, PrintsFront, read_fault, memory_text, no_page_text}
 use Rattle.vale_run.specs.declared.answer.Answer.{Answer}
+use Rattle.vale_words.specs.FirstFault.{Word}
 
 -- the objects that the call is handed, as they stand at one moment
 pub record Outside : Type 0 where
@@ -15,7 +16,7 @@ pub record Outside : Type 0 where
   pub err : SinkState
 
 -- the answers that may come, each with its cause; want of memory alone has none
-pub data Comes (words : List (List ℕ)) (old new : Outside) (a : Answer) : Type 0 where
+pub data Comes (words : List Word) (old new : Outside) (a : Answer) : Type 0 where
   owed : Owes words old.shelf a → Comes words old new a
   no_page : (frames : ℕ) → LacksPages words old.shelf frames → a.status ≡ 5 → a.err ≡ no_page_text frames → PrintsFront words old.shelf a.out → Comes words old new a
   no_read : ReadFails words old.shelf new.shelf → a ≡ read_fault → Comes words old new a
@@ -54,7 +55,7 @@ pub record KeepsCounts (old new : Outside) : Type 0 where
   pub err : old.err.faults ≤ new.err.faults
 
 -- The words are answered with this status: an answer that may come went to the sinks, and the files stay as they were.
-pub record Answers (words : List (List ℕ)) (old new : Outside) (status : ℕ) : Type 0 where
+pub record Answers (words : List Word) (old new : Outside) (status : ℕ) : Type 0 where
   pub answer : Answer
   pub comes : Comes words old new answer
   pub delivered : Delivered answer status old new

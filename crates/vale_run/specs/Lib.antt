@@ -3,4 +3,3 @@ pub mod Follows
 pub mod Headline
 pub mod Owed
 pub mod WellFormed
-pub mod Words

@@ -1,21 +1,20 @@
 -- What is owed to the words of the command line: a status, and the bytes for `out` and `err`.
-use Rattle.std.specs.Prelude.{ℕ, ◌+◌, ◌≡◌, ◌≤◌, ◌<◌, ◌⊎◌, List, [], ◌∷◌, ◌++◌, Result, Ok, Err, Option, Some, codes, length, take, false, slice_get}
+use Rattle.std.specs.Prelude.{ℕ, ◌≡◌, ◌≤◌, ◌<◌, ◌⊎◌, List, [], ◌++◌, Option, None, Some, codes, length, take, false, slice_get, ◌==◌, if◌then◌else◌}
 use Rattle.std.specs.Fmt.{decimal}
 use Rattle.vale_base.specs.Limits.{program_limit}
 use Rattle.vale_base.specs.Outcome.{Outcome, End, Done, Trap, Cut, Wrong, output}
 use Rattle.vale_ports.specs.Faults.{Rose}
 use Rattle.vale_ports.specs.Shelf.{ShelfState, HasFile}
-use Rattle.vale_ports.specs.declared.shelf.ShelfCall.{ShelfCall}
 use Rattle.vale_model.specs.Meaning.{meaning}
 use Rattle.vale_model.specs.Report.{report_text}
 use Rattle.vale_syntax.specs.declared.program.Program.{Program}
 use Rattle.vale_run.specs.WellFormed.{WellFormed}
-use Rattle.vale_run.specs.Words.{job}
 use Rattle.vale_run.specs.declared.answer.Answer.{Answer}
-use Rattle.vale_run.specs.declared.words.Job.{Job}
-use Rattle.vale_run.specs.declared.words.Job.TheVariants.{Run}
-use Rattle.vale_run.specs.declared.words.Options.{Options}
-use Rattle.vale_run.specs.declared.words.WordFault.{WordFault}
+use Rattle.vale_words.specs.FirstFault.{Word, IsFirstFault}
+use Rattle.vale_words.specs.Words.{Asks, Lawful}
+use Rattle.vale_words.specs.declared.job.Job.{Job}
+use Rattle.vale_words.specs.declared.job.Job.TheVariants.{Run}
+use Rattle.vale_words.specs.declared.job.Options.{Options}
 
 -- ---- answers
 
@@ -61,20 +60,27 @@ pub data RunsTo (text : List ℕ) (options : Options) (a : Answer) : Type 0 wher
   runs : (program : Program) → WellFormed text program → EndsWith (meaning program options.ticks) a → RunsTo text options a
 
 -- a shelf has a file with this text under the word of this index; where it doesn't tell its files, any text
-abbrev pub HasText : ShelfState → List (List ℕ) → ℕ → List ℕ → Type 0
+abbrev pub HasText : ShelfState → List Word → ℕ → List ℕ → Type 0
 HasText shelf words file text = (name : List ℕ) × (slice_get words file ≡ Some name) × HasFile shelf.files name text
 
--- the answer to a job
-abbrev pub owes_job : Result Job WordFault → List (List ℕ) → ShelfState → Answer → Type 0
-owes_job (Err fault) words shelf a = a ≡ bad_word fault.index
-owes_job (Ok (Run file options)) words shelf a = (text : List ℕ) × HasText shelf words file text × RunsTo text options a
+-- The least index of a word whose command or option isn't served yet: of the commands `run` is, and no option.
+abbrev pub unserved : Job → List Word → Option ℕ
+unserved (Run file options) words = if length words == 2 then None else Some 2
+unserved _ words = Some 0
+
+-- the answer to a job that is served
+abbrev pub OwesJob : Job → List Word → ShelfState → Answer → Type 0
+OwesJob (Run file options) words shelf a = (text : List ℕ) × HasText shelf words file text × RunsTo text options a
+OwesJob _ words shelf a = ⊥
 
 -- the answer that is owed to the words, with the shelf as it stands when the call begins
-abbrev pub Owes : List (List ℕ) → ShelfState → Answer → Type 0
-Owes words shelf a = owes_job (job words) words shelf a
+pub data Owes (words : List Word) (shelf : ShelfState) (a : Answer) : Type 0 where
+  no_job : (index : ℕ) → IsFirstFault Lawful words index → a ≡ bad_word index → Owes words shelf a
+  not_served : (job : Job) (index : ℕ) → Asks words job → unserved job words ≡ Some index → a ≡ bad_word index → Owes words shelf a
+  served : (job : Job) → Asks words job → unserved job words ≡ None → OwesJob job words shelf a → Owes words shelf a
 
 -- these bytes are the first of the output that is owed
-abbrev pub PrintsFront : List (List ℕ) → ShelfState → List ℕ → Type 0
+abbrev pub PrintsFront : List Word → ShelfState → List ℕ → Type 0
 PrintsFront words shelf out = (out ≡ []) ⊎ ((a : Answer) × Owes words shelf a × ((n : ℕ) × (out ≡ take n a.out)))
 
 -- ---- causes of the other answers
@@ -83,18 +89,18 @@ PrintsFront words shelf out = (out ≡ []) ⊎ ((a : Answer) × Owes words shelf
 abbrev pub ReadFailed : ShelfState → ShelfState → List ℕ → Type 0
 ReadFailed old new name = Rose old.faults new.faults × (new.last_fault ≡ Some (record { name = name; is_write = false }))
 
-abbrev pub reading_fails : Result Job WordFault → List (List ℕ) → ShelfState → ShelfState → Type 0
-reading_fails (Err fault) words old new = ⊥
-reading_fails (Ok (Run file options)) words old new = (name : List ℕ) × (slice_get words file ≡ Some name) × ReadFailed old new name
+abbrev pub JobReadFailed : Job → List Word → ShelfState → ShelfState → Type 0
+JobReadFailed (Run file options) words old new = (name : List ℕ) × (slice_get words file ≡ Some name) × ReadFailed old new name
+JobReadFailed _ words old new = ⊥
 
--- the read of the job's file failed in the call
-abbrev pub ReadFails : List (List ℕ) → ShelfState → ShelfState → Type 0
-ReadFails words old new = reading_fails (job words) words old new
+-- the read of a file of the job failed in the call
+abbrev pub ReadFails : List Word → ShelfState → ShelfState → Type 0
+ReadFails words old new = (job : Job) × Asks words job × JobReadFailed job words old new
 
 -- The job's run needs more than so many frames, and all of them were out: no program that runs today makes an object.
-abbrev pub LacksPages : List (List ℕ) → ShelfState → ℕ → Type 0
+abbrev pub LacksPages : List Word → ShelfState → ℕ → Type 0
 LacksPages words shelf frames = ⊥
 
 -- The job may take input: no program that runs today does.
-abbrev pub MayTakeInput : List (List ℕ) → ShelfState → Type 0
+abbrev pub MayTakeInput : List Word → ShelfState → Type 0
 MayTakeInput words shelf = ⊥

@@ -1,18 +1,19 @@
 // What the words are owed: a status, and the bytes for `out` and `err`.
-ghost use Rattle.std.specs.Prelude.{◌≡◌, ◌<◌, ◌≤◌, ℕ, List, IfOk, IsErrOf};
-ghost use Rattle.vale_model.specs.Meaning.{meaning};
+ghost use Rattle.std.specs.Prelude.{◌≡◌, ◌≤◌, ℕ, List, IfOk, IsErrOf};
+ghost use Rattle.vale_base.specs.Outcome.{Cut};
+ghost use Rattle.vale_model.specs.Meaning.{ends, meaning};
 ghost use Rattle.vale_ports.specs.Shelf.{HasFile, KeepsFiles};
 ghost use Rattle.vale_run.specs.Owed.{refused, bad_word, EndsWith, RunsTo, Owes, ReadFailed, ReadFails};
-ghost use Rattle.vale_run.specs.Words.{texts};
+ghost use Rattle.vale_words.specs.Words.{Asks, texts};
 
 use crate::code::{lower, run};
 use crate::front::front;
-use crate::words::{Job, Options, WordFault, read_words};
 use std::alloc::Global;
-use vale_base::{Memory, PROGRAM_LIMIT, Text};
+use vale_base::{Fail, Memory, PROGRAM_LIMIT, Text};
 use vale_ports::{Shelf, ShelfFault};
 use vale_syntax::Program;
 use vale_trap::report;
+use vale_words::{Job, Options, read_words};
 
 /// A status, and the bytes that go with it.
 #[derive(Drop)]
@@ -50,10 +51,9 @@ fn refused(alloc: Global, line: &[u8]) -> Result<Answer, Memory>
     })
 }
 
-fn bad_word(alloc: Global, fault: WordFault) -> Result<Answer, Memory>
-    ensures { IfOk result (λ a. a ≡ bad_word fault.index) }
+fn bad_word(alloc: Global, index: u32) -> Result<Answer, Memory>
+    ensures { IfOk result (λ a. a ≡ bad_word index) }
 {
-    let index = fault.index;
     let line = format!(in alloc; "word {index}\n")?;
     Ok(Answer {
         status: 2,
@@ -62,11 +62,25 @@ fn bad_word(alloc: Global, fault: WordFault) -> Result<Answer, Memory>
     })
 }
 
-// Runs a program to its end, with at least one tick to spend.
+// The run was cut after so many ticks, before it printed anything.
+fn cut(alloc: Global, ticks: u64) -> Result<Answer, Memory>
+    ensures { IfOk result (EndsWith (ends ticks Cut)) }
+{
+    let line = format!(in alloc; "cut after {ticks} ticks\n")?;
+    Ok(Answer {
+        status: 4,
+        out: Text::new(alloc),
+        err: Text::from_slice(alloc, line.as_bytes())?,
+    })
+}
+
+// Runs a program to its end: it spends one tick.
 fn run_program(alloc: Global, program: &Program, options: &Options) -> Result<Answer, Memory>
-    requires { 0 < options.now.ticks }
     ensures { IfOk result (λ a. EndsWith (meaning program.now options.now.ticks) a) }
 {
+    if options.ticks == 0 {
+        return cut(alloc, 0);
+    }
     let code = lower(alloc, program)?;
     let ran = run(alloc, &code)?;
     let out = Text::from_vec(ran.output);
@@ -86,7 +100,6 @@ fn run_program(alloc: Global, program: &Program, options: &Options) -> Result<An
 
 /// The answer to the run of a text.
 pub fn run_text(alloc: Global, text: &[u8], options: &Options) -> Result<Answer, Memory>
-    requires { 0 < options.now.ticks }
     ensures { IfOk result (λ a. RunsTo text.now options.now a) }
 {
     if text.len() > PROGRAM_LIMIT {
@@ -105,7 +118,6 @@ fn run_file<H: Shelf>(
     options: &Options,
     shelf: &mut H,
 ) -> Result<Answer, Stop>
-    requires { 0 < options.now.ticks }
     ensures owed { IfOk result (λ a. (text : List ℕ) × HasFile (H.state shelf.old).files name.now text × RunsTo text options.now a) }
     ensures read { IsErrOf result Stop.ReadFault → ReadFailed (H.state shelf.old) (H.state shelf.new) name.now }
     ensures files { KeepsFiles (H.state shelf.old).files (H.state shelf.new).files }
@@ -118,6 +130,30 @@ fn run_file<H: Shelf>(
     }
 }
 
+// The answer to a job that was asked for.
+fn do_job<H: Shelf>(
+    alloc: Global,
+    job: &Job,
+    words: &[String],
+    shelf: &mut H,
+) -> Result<Answer, Stop>
+    requires { Asks (texts words.now) job.now }
+    ensures owed { IfOk result (λ a. Owes (texts words.now) (H.state shelf.old) a) }
+    ensures read { IsErrOf result Stop.ReadFault → ReadFails (texts words.now) (H.state shelf.old) (H.state shelf.new) }
+    ensures files { KeepsFiles (H.state shelf.old).files (H.state shelf.new).files }
+    ensures later { (H.state shelf.old).faults ≤ (H.state shelf.new).faults }
+{
+    match job {
+        Job::Run { file, options } => {
+            if words.len() != 2 {
+                return Ok(bad_word(alloc, 2)?);
+            }
+            run_file(alloc, words[*file as usize].as_str(), options, shelf)
+        }
+        _ => Ok(bad_word(alloc, 0)?),
+    }
+}
+
 /// The answer that is owed to the words.
 pub fn answer_of<H: Shelf>(alloc: Global, words: &[String], shelf: &mut H) -> Result<Answer, Stop>
     ensures owed { IfOk result (λ a. Owes (texts words.now) (H.state shelf.old) a) }
@@ -125,10 +161,9 @@ pub fn answer_of<H: Shelf>(alloc: Global, words: &[String], shelf: &mut H) -> Re
     ensures files { KeepsFiles (H.state shelf.old).files (H.state shelf.new).files }
     ensures later { (H.state shelf.old).faults ≤ (H.state shelf.new).faults }
 {
-    match read_words(words) {
-        Ok(Job::Run { file, options }) => {
-            run_file(alloc, words[file as usize].as_str(), &options, shelf)
-        }
-        Err(fault) => Ok(bad_word(alloc, fault)?),
+    match read_words(alloc, words) {
+        Ok(job) => do_job(alloc, &job, words, shelf),
+        Err(Fail::Is(fault)) => Ok(bad_word(alloc, fault.index)?),
+        Err(Fail::Memory) => Err(Stop::Memory),
     }
 }

@@ -7,9 +7,7 @@ mod deliver;
 mod front;
 mod parser;
 mod top;
-mod words;
 
 pub use answer::Answer;
 pub use deliver::Status;
 pub use top::valec;
-pub use words::{Job, Options, WordFault};

@@ -2,7 +2,7 @@
 ghost use Rattle.std.specs.Prelude.{◌≡◌};
 ghost use Rattle.vale_run.specs.Headline.{Answers};
 ghost use Rattle.vale_run.specs.Owed.{MayTakeInput};
-ghost use Rattle.vale_run.specs.Words.{texts};
+ghost use Rattle.vale_words.specs.Words.{texts};
 
 use crate::answer::{Stop, answer_of};
 use crate::deliver::{Status, deliver};

@@ -1,4 +1,3 @@
-use Rattle.std.proofs.lemmas.Result.{IfOk-weaker}
 use Rattle.vale_run.proofs.Owed.{RunsTo-read}
 use Rattle.vale_run.proofs.answer.run_file.Goals as goal
 

@@ -1,5 +1,5 @@
 use Rattle.std.proofs.Common.{◌≡◌, ◌++◌, drop, pos}
-use Rattle.vale_base.specs.Outcome.{output, Outcome}
+use Rattle.vale_base.specs.Outcome.{output}
 use Rattle.vale_run.specs.Code.{run_code}
 use Rattle.vale_run.proofs.code.run.Given as goal
 

@@ -1,4 +1,4 @@
-use Rattle.std.proofs.Common.{ap, sym, ◌∙◌, Some, refl, rules, FitsSigned, w64}
+use Rattle.std.proofs.Common.{ap, ◌∙◌, Some, refl, rules, FitsSigned, w64}
 use Rattle.std.proofs.lemmas.Int.{to_z-of_z}
 use Rattle.vale_syntax.specs.Sums.{spells_added}
 use Rattle.vale_run.specs.Follows.{NoPlus}

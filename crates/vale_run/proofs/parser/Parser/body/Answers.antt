@@ -1,4 +1,4 @@
-use Rattle.std.proofs.Common.{◌≡◌, ◌∙◌, ap, sym, Some, refl}
+use Rattle.std.proofs.Common.{◌∙◌, ap, sym, Some}
 use Rattle.vale_syntax.specs.Sums.{spells_println}
 use Rattle.vale_run.specs.Follows.{NoName}
 use Rattle.vale_run.proofs.ReadEach.{Reads-step, Reads-found, Reads-only, Reads-stuck}

@@ -1,4 +1,4 @@
-use Rattle.std.proofs.Common.{arith, rules}
+use Rattle.std.proofs.Common.{arith}
 use Rattle.vale_run.proofs.ReadPrintlns.{name_at}
 use Rattle.vale_run.proofs.parser.Parser.is_at_println.Goals as goal
 

@@ -1,4 +1,4 @@
-use Rattle.std.proofs.Common.{◌≡◌, ◌∙◌, ap, sym, refl, arith, Some, None, true, false}
+use Rattle.std.proofs.Common.{◌≡◌, ◌∙◌, ap, sym, arith, Some}
 use Rattle.vale_syntax.specs.declared.token.Sign.TheVariants.{OpenParen, CloseParen, Semicolon}
 use Rattle.vale_syntax.specs.declared.token.TokenKind.TheVariants.{Name, Sign}
 use Rattle.vale_syntax.specs.declared.program.Println.{Println}

@@ -1,0 +1,51 @@
+-- What is owed to a job that the words ask for.
+use Rattle.std.proofs.Common.{◌≡◌, ◌≢◌, ℕ, ◌<◌, List, [], ◌∷◌, length, get_or, Some, false, true, refl, sym, ap, subst, ◌∙◌, arith}
+use Rattle.std.proofs.lemmas.List.{length-map}
+use Rattle.std.proofs.lemmas.Option.{slice_get-map, slice_get-get_or}
+use Rattle.std.specs.Option.{option_map}
+use Rattle.std.specs.Prelude.{String, string_bytes, slice_get, ◌==◌}
+use Rattle.vale_ports.specs.Shelf.{ShelfState, HasFile}
+use Rattle.vale_run.specs.Owed.{Owes, OwesJob, RunsTo, unserved, not_served, served, bad_word}
+use Rattle.vale_run.specs.declared.answer.Answer.{Answer}
+use Rattle.vale_words.specs.FirstFault.{Word}
+use Rattle.vale_words.specs.Words.{Asks, AsksBehind, texts}
+use Rattle.vale_words.specs.declared.job.Job.{Job}
+use Rattle.vale_words.specs.declared.job.Job.TheVariants as j
+use Rattle.vale_words.specs.declared.job.Options.{Options}
+use Rattle.vale_words.specs.declared.words.Command.{Command}
+use Rattle.vale_words.specs.declared.words.Command.TheVariants as c
+
+run_file_is : (file : ℕ) (options : Options) (words : List Word) → Asks words (j.Run file options) → file ≡ 1
+run_file_is file options [] asks = absurd asks
+run_file_is file options (word ∷ more) (command, text, asks) = by_command command asks where
+  by_command : (command : Command) → AsksBehind command more (j.Run file options) → file ≡ 1
+  by_command c.Run behind = behind.0
+  by_command _ behind = absurd behind
+
+test_false : (n : ℕ) → n ≢ 2 → (n == 2) ≡ false
+test_false n other = grind (arith, other)
+
+-- a run with options
+pub run_unserved : {A : Type 0} (words : List (String A)) (shelf : ShelfState) (job : Job) (file : ℕ) (options : Options) (a : Answer) → Asks (texts words) job → job ≡ j.Run file options → length words ≢ 2 → a ≡ bad_word 2 → Owes (texts words) shelf a
+run_unserved words shelf job file options a asks is other answer =
+    let many : (length (texts words) == 2) ≡ false = rw (length-map words string_bytes) (test_false (length words) other) in
+    not_served job 2 asks (rw (is, many) refl) answer
+
+-- a run without
+pub run_served : {A : Type 0} (words : List (String A)) (shelf : ShelfState) (job : Job) (file : ℕ) (options : Options) (word : String A) (name : List ℕ) (a : Answer) → Asks (texts words) job → job ≡ j.Run file options → length words ≡ 2 → word ≡ get_or words file word → name ≡ string_bytes word → (text : List ℕ) × HasFile shelf.files name text × RunsTo text options a → Owes (texts words) shelf a
+run_served words shelf job file options word name a asks is two at named (text, has, answered) =
+    let few : (length (texts words) == 2) ≡ true = rw (length-map words string_bytes, two) refl in
+    let asked = rw is at asks in
+    let first : file ≡ 1 = run_file_is file options (texts words) asked in
+    let within : file < length words = omega (arith, first, two) in
+    let found : slice_get (texts words) file ≡ Some name =
+    slice_get-map string_bytes words file ∙ (ap (λ w. option_map string_bytes w) (slice_get-get_or words file word within) ∙ ap Some (ap string_bytes (sym at) ∙ sym named)) in
+    served job asks (rw (is, few) refl)
+    (subst (λ z. OwesJob z (texts words) shelf a) (sym is) (text, (name, found, has), answered))
+
+-- any other command
+pub other_unserved : (words : List Word) (shelf : ShelfState) (job : Job) (a : Answer) → Asks words job → ((file : ℕ) (options : Options) → job ≡ j.Run file options → ⊥) → a ≡ bad_word 0 → Owes words shelf a
+other_unserved words shelf job a asks other answer = not_served job 0 asks (unserved_at job other) answer where
+  unserved_at : (k : Job) → ((file : ℕ) (options : Options) → k ≡ j.Run file options → ⊥) → unserved k words ≡ Some 0
+  unserved_at (j.Run file options) none = absurd (none file options refl)
+  unserved_at _ none = refl
