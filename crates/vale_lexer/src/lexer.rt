@@ -57,7 +57,9 @@ fn behind(bytes: &[u8], len: usize) -> &[u8]
     &bytes[len..]
 }
 
-/// The tokens of a text, or its first fault.
+/// The tokens of a text, or its first fault (docs/LANGUAGE.md, "Tokens"). In fewer than 4,294,967,295 bytes each line and
+/// each column fits its type. `Fail::Is` comes where no tokens cut the text, and only there; `Fail::Memory` may always
+/// come.
 pub fn lex(alloc: Global, bytes: &[u8]) -> Result<Tokens, Fail<LexFault>>
     requires { length bytes.now < 4294967295 }
     // what is answered cuts the text
@@ -67,7 +69,8 @@ pub fn lex(alloc: Global, bytes: &[u8]) -> Result<Tokens, Fail<LexFault>>
     // the fault that is answered is the text's first
     ensures fault { IfFault result (λ f. LexFaultAt bytes.now f.code f.at) }
     // the text's first fault is answered
-    ensures refused { (code : ℕ) (at : Spot) → LexFaultAt bytes.now code at → IsFaultUnlessMemory result (λ f. (f.code ≡ code) × (f.at ≡ at)) }
+    ensures refused { (code : ℕ) (at : Spot) → LexFaultAt bytes.now code at
+        → IsFaultUnlessMemory result (λ f. (f.code ≡ code) × (f.at ≡ at)) }
     // where a fault is answered, nothing cuts the text
     ensures uncut { IfFault result (λ f. (tokens : Tokens) → cut bytes.now tokens → ⊥) }
     // there is at most one cutting
