@@ -20,7 +20,7 @@ pub struct Worker<'t, B> {
 }
 
 impl<'t, B: Drop + Send> Worker<'t, B> {
-    ghost use Rattle.table_rows.specs.Teams.{AreSeated};
+    ghost use Rattle.vale_rows.specs.Teams.{AreSeated};
 
     /// Claims until no frame is left, or there is no memory to note one.
     pub fn claim_all(&mut self)
