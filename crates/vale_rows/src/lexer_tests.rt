@@ -7,6 +7,9 @@ use vale_syntax::{Sign, Token, TokenKind, Tokens};
 
 // The text's number of tokens and the spot of its end, or the code and spot of its fault.
 fn outline(alloc: Global, text: &[u8]) -> Result<(usize, Spot), Fail> {
+    if text.len() > 1_048_576 {
+        return Ok((0, Spot { line: 1, col: 1 }));
+    }
     match lex(alloc, text) {
         Ok(tokens) => Ok((100 + tokens.list.as_slice().len(), tokens.end)),
         Err(Refused::Is(LexFault { code, at })) => Ok((code as usize, at)),

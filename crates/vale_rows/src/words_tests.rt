@@ -58,11 +58,39 @@ fn words_without_meaning_have_their_index(rt: HostRuntime) -> Result<(), Fail> {
     Ok(())
 }
 
-fn is_run(job: &Job) -> bool {
+// The command, and the numbers beside its options.
+fn outline(job: &Job) -> (&'static str, u32, u32) {
     match job {
-        Job::Run { file, options } => *file == 1 && is_chosen(options),
-        _ => false,
+        Job::Run { file, .. } => ("run", *file, 0),
+        Job::Check { file } => ("check", *file, 0),
+        Job::Fmt { file } => ("fmt", *file, 0),
+        Job::Build { file, code } => ("build", *file, *code),
+        Job::Exec { code, .. } => ("exec", *code, 0),
+        Job::List { code } => ("list", *code, 0),
+        Job::Gen { n, .. } => ("gen", *n, 0),
+        Job::GenText { n } => ("text", *n, 0),
     }
+}
+
+#[test]
+fn lawful_words_ask_for_their_job(rt: HostRuntime) -> Result<(), Fail> {
+    let rows: [(&[&str], &str, u32, u32); 8] = [
+        (&["run", "p"], "run", 1, 0),
+        (&["check", "p"], "check", 1, 0),
+        (&["fmt", "p"], "fmt", 1, 0),
+        (&["build", "p", "c"], "build", 1, 2),
+        (&["exec", "c", "--ticks", "9"], "exec", 1, 0),
+        (&["list", "c"], "list", 1, 0),
+        (&["gen", "10000"], "gen", 10_000, 0),
+        (&["gen", "1", "--text"], "text", 1, 0),
+    ];
+    for (words, command, first, second) in rows {
+        match read(rt.alloc(), words)? {
+            Ok(job) => assert_eq!(rt; outline(&job), (command, first, second), "{words:?}"),
+            Err(index) => assert_eq!(rt; index, 99, "{words:?}"),
+        }
+    }
+    Ok(())
 }
 
 fn is_chosen(options: &Options) -> bool {
@@ -84,9 +112,17 @@ fn is_default(options: &Options) -> bool {
         && options.schedule.is_none()
 }
 
+fn has_chosen(job: &Job) -> bool {
+    match job {
+        Job::Run { options, .. } => is_chosen(options),
+        Job::Exec { options, .. } => is_default(options),
+        _ => false,
+    }
+}
+
 #[test]
-fn lawful_words_ask_for_their_job(rt: HostRuntime) -> Result<(), Fail> {
-    let words = [
+fn options_have_their_values(rt: HostRuntime) -> Result<(), Fail> {
+    let chosen = [
         "run",
         "p",
         "--schedule",
@@ -100,30 +136,12 @@ fn lawful_words_ask_for_their_job(rt: HostRuntime) -> Result<(), Fail> {
         "--workers",
         "64",
     ];
-    assert!(rt; matches!(read(rt.alloc(), &words)?, Ok(job) if is_run(&job)));
-    assert!(rt;
-        matches!(read(rt.alloc(), &["exec", "c"])?, Ok(Job::Exec { code: 1, options }) if is_default(&options))
-    );
-    assert!(rt;
-        matches!(
-            read(rt.alloc(), &["check", "p"])?,
-            Ok(Job::Check { file: 1 })
-        )
-    );
-    assert!(rt; matches!(read(rt.alloc(), &["fmt", "p"])?, Ok(Job::Fmt { file: 1 })));
-    assert!(rt; matches!(read(rt.alloc(), &["list", "c"])?, Ok(Job::List { code: 1 })));
-    assert!(rt;
-        matches!(
-            read(rt.alloc(), &["build", "p", "c"])?,
-            Ok(Job::Build { file: 1, code: 2 })
-        )
-    );
-    assert!(rt;
-        matches!(
-            read(rt.alloc(), &["gen", "10000", "--text"])?,
-            Ok(Job::GenText { n: 10_000 })
-        )
-    );
-    assert!(rt; matches!(read(rt.alloc(), &["gen", "1"])?, Ok(Job::Gen { n: 1, .. })));
+    let rows: [&[&str]; 2] = [&chosen, &["exec", "c"]];
+    for words in rows {
+        match read(rt.alloc(), words)? {
+            Ok(job) => assert!(rt; has_chosen(&job), "{words:?}"),
+            Err(index) => assert_eq!(rt; index, 99, "{words:?}"),
+        }
+    }
     Ok(())
 }
