@@ -1,3 +1,4 @@
 pub mod Faults
 pub mod Limits
 pub mod Outcome
+pub mod World
