@@ -1,1 +1,6 @@
 pub mod ListLaws
+pub mod PageLaws
+pub mod PutLaws
+pub mod EndLaws
+pub mod ChangeLaws
+pub mod MoveLaws

@@ -1,6 +1,6 @@
 -- What a contract sees of a heap: for each frame the page that the heap has there, and what that page is for; how many regions
 -- are open, and how many may be.
-use Rattle.std.specs.Prelude.{◌≡◌, ◌⊎◌, ℕ, ◌+◌, ◌-◌, ◌<◌, ◌≤◌, List, length, Option, Some, None, Bool, slice_index_or, slice_set, replicate, map, count_by, sum_by, is_some, true, false, ◌==◌, ◌&&◌, nat_lt, if◌then◌else◌}
+use Rattle.std.specs.Prelude.{◌≡◌, ◌⊎◌, ℕ, ◌+◌, ◌-◌, ◌<◌, ◌≤◌, List, length, Option, Some, None, Bool, slice_index_or, slice_set, replicate, map, count_by, sum_by, is_some, true, false, ◌==◌, ◌&&◌, nat_lt, max, if◌then◌else◌}
 use Rattle.vale_page.specs.PageState.{PageState, IsPage, body_at, body_of, generation_at, level_at, live_count, retired_count, free_count, IsFree, with_body, after_death}
 use Rattle.vale_table.specs.Lending.{IsFull, Same, IsClaimedAt}
 use Rattle.vale_heap.specs.declared.body.Place.{Place}
@@ -58,7 +58,7 @@ pub record IsHeap (h : HeapState) : Type 0 where
   pub seats_ok : (frame : ℕ) (seat : Seat) → seat_at h frame ≡ Some seat → IsSeat h.regions frame seat
   pub roots : (frame : ℕ) (seat : Seat) (root : Place) → seat_at h frame ≡ Some seat → seat.home ≡ Kept root → IsRoot h root
   pub some_open : 0 < h.regions
-  pub within_depth : h.regions ≤ h.depth
+  pub within_depth : h.regions ≤ max h.depth 1
 
 -- a heap with one open region and no page
 abbrev pub opened : ℕ → ℕ → HeapState

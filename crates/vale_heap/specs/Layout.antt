@@ -1,6 +1,6 @@
 -- How a heap keeps its pages on lists: the spare pages that can take an object, the other pages of each isolate beside its root's,
 -- and for each open region the pages that can take an object and those that can't.
-use Rattle.std.specs.Prelude.{◌≡◌, ℕ, ◌+◌, ◌*◌, ◌<◌, List, length, Option, Some, None, Bool, true, false, slice_index_or, nat_lt, ◌==◌, if◌then◌else◌}
+use Rattle.std.specs.Prelude.{◌≡◌, ℕ, ◌+◌, ◌*◌, ◌<◌, ◌^◌, max, List, length, Option, Some, None, Bool, true, false, slice_index_or, nat_lt, ◌==◌, if◌then◌else◌}
 use Rattle.vale_page.specs.PageState.{free_count}
 use Rattle.vale_heap.specs.declared.body.Place.{Place}
 use Rattle.vale_heap.specs.declared.seat.Seat.{Seat}
@@ -15,7 +15,7 @@ roomy_list frames region = frames + 1 + 2 * region
 
 -- the list of its pages that can't
 abbrev pub full_list : ℕ → ℕ → ℕ
-full_list frames region = frames + 2 + 2 * region
+full_list frames region = roomy_list frames region + 1
 
 -- the list of the spare pages that can take an object
 abbrev pub spare_list : ℕ → ℕ
@@ -38,4 +38,5 @@ pub record IsLaidOut (h : HeapState) (l : ListState) : Type 0 where
   pub items : length l.on ≡ length h.seats
   pub listed : (frame : ℕ) → frame < length h.seats → list_at l frame ≡ list_for (length h.seats) frame (slice_index_or h.seats frame None)
   pub many : l.lists ≡ length h.seats + 1 + 2 * h.regions
-  pub most : l.most ≡ length h.seats + 1 + 2 * h.depth
+  pub most : l.most ≡ length h.seats + 1 + 2 * max h.depth 1
+  pub few : length h.seats < 2 ^ 32

@@ -1,5 +1,5 @@
 -- How a heap of slots and generations stands for a heap of names: a list gives each name its place.
-use Rattle.std.specs.Prelude.{◌≡◌, ◌⊎◌, ℕ, ◌+◌, ◌-◌, ◌<◌, List, [], ◌∷◌, ◌++◌, length, Option, Some, None, Bool, true, false, slice_get}
+use Rattle.std.specs.Prelude.{◌≡◌, ◌⊎◌, ℕ, ◌+◌, ◌-◌, ◌<◌, List, [], ◌∷◌, ◌++◌, length, Option, Some, None, IsSome, Bool, true, false, slice_get}
 use Rattle.std.specs.Option.{option_or, option_map}
 use Rattle.vale_page.specs.PageState.{IsPage, body_at, body_of, generation_at, level_at}
 use Rattle.vale_base.specs.World.{Value, Region, Freeze, Isolate, Object, World, Lives, IsDead, born, died, written, relabelled, cleared}
@@ -11,7 +11,7 @@ use Rattle.vale_heap.specs.declared.body.Body.{Body}
 use Rattle.vale_heap.specs.declared.seat.Seat.{Seat}
 use Rattle.vale_heap.specs.declared.seat.Home.{Home}
 use Rattle.vale_heap.specs.declared.seat.Home.TheVariants.{Spare, Open, Kept}
-use Rattle.vale_heap.specs.HeapState.{HeapState, seat_at, body_in, IsHeap, innermost}
+use Rattle.vale_heap.specs.HeapState.{HeapState, seat_at, body_in, look_in, IsHeap, innermost}
 use Rattle.vale_heap.specs.HeapLends.{changed}
 
 -- the name has this place
@@ -164,7 +164,7 @@ StandsEnded old new place =
 abbrev pub StandsChanged : HeapState → Place → Body → Type 0
 StandsChanged old place body =
     (below : Option HeapState) (low : ℕ → ℕ → ℕ) (away : ℕ → Bool) (names : List Place) (world : World) (name : ℕ) (object : Object) (values : List Value) →
-    Stands old below low away names world → HasPlace names name place → Lives world name object → DenoteAll names body.cells values →
+    IsSome (look_in old place) → Stands old below low away names world → HasPlace names name place → Lives world name object → DenoteAll names body.cells values →
     Stands (changed old place body) below low away names (written world name (record { region = object.region; kind = body.kind; values = values }))
 
 abbrev pub StandsSame : HeapState → HeapState → Type 0

@@ -43,6 +43,17 @@ fn alone(alloc: Global, nodes: usize, most: usize) -> Result<Vec<usize>, AllocEr
     Ok(all)
 }
 
+// Items that are on no list.
+fn nowhere(alloc: Global, items: usize) -> Result<Vec<Option<usize>>, AllocError>
+    ensures { IfOk result (λ v. v.items ≡ replicate items None) }
+{
+    let mut on = Vec::with_capacity(alloc, items)?;
+    for _item in 0..items {
+        on.push(None)?;
+    }
+    Ok(on)
+}
+
 // Swaps what comes after two nodes. Two rings become one, or one becomes two.
 fn splice(next: &mut Vec<usize>, previous: &mut Vec<usize>, one: usize, other: usize)
     requires one { one < length next.old.items }
@@ -71,10 +82,11 @@ impl Lists {
     {
         let next = alone(alloc, items + lists, items + most)?;
         let previous = alone(alloc, items + lists, items + most)?;
+        let on = nowhere(alloc, items)?;
         Ok(Lists {
             next,
             previous,
-            on: vec![in alloc; None; items]?,
+            on,
             lists,
             most,
         })
@@ -111,6 +123,29 @@ impl Lists {
         let head = self.on.len() + list;
         splice(&mut self.next, &mut self.previous, head, item);
         self.on[item] = Some(list);
+    }
+
+    /// The list that an item is on.
+    pub fn list(&self, item: usize) -> Option<usize>
+        requires { item < length self.now.on }
+        ensures { result ≡ list_at self.now item }
+    {
+        self.on[item]
+    }
+
+    /// Moves an item to the front of a list, or off every list, unless it is there.
+    pub fn move_to(&mut self, item: usize, list: Option<usize>)
+        requires item { item < length self.old.on }
+        requires list { IfSome list (λ l. l < self.old.lists) }
+        ensures { self.new ≡ record self.old { on = slice_set self.old.on item list } }
+    {
+        if self.list(item) == list {
+            return;
+        }
+        self.take_off(item);
+        if let Some(list) = list {
+            self.put_on(item, list);
+        }
     }
 
     /// Adds a list without items, the last one.
