@@ -5,13 +5,13 @@ use Rattle.std.proofs.lemmas.Bool.{cases_eq, eq-eqb}
 use Rattle.std.proofs.lemmas.Option.{same_Some}
 use Rattle.std.proofs.lemmas.List.{length-set, get_or-set_same, get_or-set_other}
 use Rattle.vale_page.specs.PageState.{PageState, IsPage, body_of, body_at, generation_at, level_at, with_body}
-use Rattle.vale_page.proofs.PageLemmas.{page_with_body, not_retired}
+use Rattle.vale_page.proofs.PageLaws.{page_with_body, not_retired}
 use Rattle.vale_heap.specs.declared.body.Place.{Place}
 use Rattle.vale_heap.specs.declared.body.Body.{Body}
 use Rattle.vale_heap.specs.declared.seat.Seat.{Seat}
 use Rattle.vale_base.specs.World.{Value, Object, World, Lives, IsDead}
 use Rattle.vale_heap.specs.Standing.{HasPlace, DenoteAll, IsRegion, Holds, IsNamed, StandsAt}
-use Rattle.vale_heap.proofs.PageLaws.{at_generation, at_body}
+use Rattle.vale_page.proofs.PageLaws.{at_generation, at_body}
 use Rattle.vale_heap.proofs.PutLaws.{IsOneChange, same_some, same_place}
 use Rattle.vale_heap.proofs.EndLaws.{set_got_same, set_got_other}
 

@@ -5,7 +5,7 @@ use Rattle.std.proofs.lemmas.Bool.{cases_eq}
 use Rattle.std.proofs.lemmas.Option.{same_Some}
 use Rattle.std.proofs.lemmas.List.{length-set, get_or-set_same, get_or-set_other}
 use Rattle.vale_page.specs.PageState.{PageState, IsPage, IsBlankAt, body_of, body_at, generation_at, level_at, after_death}
-use Rattle.vale_page.proofs.PageLemmas.{page_after_death, not_retired}
+use Rattle.vale_page.proofs.PageLaws.{page_after_death, not_retired}
 use Rattle.vale_heap.specs.declared.body.Place.{Place}
 use Rattle.vale_heap.specs.declared.body.Body.{Body}
 use Rattle.vale_heap.specs.declared.seat.Seat.{Seat}
@@ -14,7 +14,7 @@ use Rattle.vale_heap.specs.declared.seat.Home.TheVariants.{Spare, Open, Kept}
 use Rattle.vale_base.specs.World.{Object, World, Lives, IsDead}
 use Rattle.vale_heap.specs.HeapState.{body_in}
 use Rattle.vale_heap.specs.Standing.{HasPlace, DenoteAll, IsRegion, Holds, IsNamed, StandsAt, LookMeans}
-use Rattle.vale_heap.proofs.PageLaws.{at_generation, at_body, generation-le-level, after_body, after_generation_other, after_level_other, after_level_same, bare}
+use Rattle.vale_page.proofs.PageLaws.{at_generation, at_body, generation-le-level, after_body, after_generation_other, after_level_other, after_level_same, no_body}
 use Rattle.vale_heap.proofs.PutLaws.{IsOneChange, same_some, same_place, name_cases, got_within}
 
 module _ {X : Type 0} where
@@ -218,7 +218,7 @@ spare_stands seats new_seats low away names world frame base page ok was now oth
     | inr other ↦ ok.named f slot s b within (sym (others f other) ∙ there) has
     | inl e ↦ absurd (
         let same : record { page = page; home = Spare } ≡ s = same_some _ _ _ now (ap new_seats (sym e) ∙ there) in
-        let clash : None ≡ Some b = sym (bare page slot blank.blank.no_live) ∙ ap (λ (x : Seat). body_of x.page slot) same ∙ has in cc)
+        let clash : None ≡ Some b = sym (no_body page slot blank.blank.no_live) ∙ ap (λ (x : Seat). body_of x.page slot) same ∙ has in cc)
   ];
 }
 

@@ -1,6 +1,9 @@
 pub mod ListLaws
-pub mod PageLaws
 pub mod PutLaws
 pub mod EndLaws
 pub mod ChangeLaws
 pub mod MoveLaws
+pub mod HeapLaws
+pub mod LayoutLaws
+pub mod StandLaws
+pub mod HandLaws

@@ -14,7 +14,7 @@ use Rattle.vale_heap.specs.declared.seat.Home.{Home}
 use Rattle.vale_heap.specs.declared.seat.Home.TheVariants.{Spare, Open, Kept}
 use Rattle.vale_heap.specs.HeapState.{home_eq, rehomed, IsEmptied, IsClearedSeat}
 use Rattle.vale_heap.specs.Standing.{HasPlace, IsRegion, Holds, IsNamed, StandsAt}
-use Rattle.vale_heap.proofs.PageLaws.{at_body, at_generation, generation-le-level}
+use Rattle.vale_page.proofs.PageLaws.{at_body, at_generation, generation-le-level}
 use Rattle.vale_heap.proofs.PutLaws.{same_some, name_cases, got_within}
 
 -- ---- what pages are for

@@ -5,7 +5,7 @@ use Rattle.std.proofs.lemmas.Bool.{cases_eq, cases_lt, eq-eqb}
 use Rattle.std.proofs.lemmas.Option.{same_Some}
 use Rattle.std.proofs.lemmas.List.{length-set, get_or-set_same, get_or-set_other, get_or-replicate, get_or_past, length-replicate}
 use Rattle.vale_page.specs.PageState.{PageState, IsPage, IsFree, body_of, body_at, generation_at, retired_at, level_at, with_body, after_death}
-use Rattle.vale_page.proofs.PageLemmas.{page_with_body}
+use Rattle.vale_page.proofs.PageLaws.{page_with_body}
 use Rattle.vale_heap.specs.declared.body.Place.{Place}
 use Rattle.vale_heap.specs.declared.body.Cell.{Cell}
 use Rattle.vale_heap.specs.declared.body.Cell.TheVariants.{Int, Truth, Text, Own, Ref, Iso}

@@ -1,6 +1,7 @@
 -- What a contract sees of a heap: for each frame the page that the heap has there, and what that page is for; how many regions
 -- are open, and how many may be.
 use Rattle.std.specs.Prelude.{◌≡◌, ◌⊎◌, ℕ, ◌+◌, ◌-◌, ◌<◌, ◌≤◌, List, length, Option, Some, None, Bool, slice_index_or, slice_set, replicate, map, count_by, sum_by, is_some, true, false, ◌==◌, ◌&&◌, nat_lt, max, if◌then◌else◌}
+use Rattle.std.specs.Option.{option_map}
 use Rattle.vale_page.specs.PageState.{PageState, IsPage, body_at, body_of, generation_at, level_at, live_count, retired_count, free_count, IsFree, with_body, after_death}
 use Rattle.vale_table.specs.Lending.{IsFull, Same, IsClaimedAt}
 use Rattle.vale_heap.specs.declared.body.Place.{Place}
@@ -89,6 +90,9 @@ pub record PutsIn (old new : Option Seat) (region : ℕ) (body : Body) (place : 
   pub generation : place.generation ≡ generation_at seat.page place.slot
   pub now : new ≡ Some (record { page = with_body seat.page place.slot body; home = Open region })
 
+abbrev pub with_home : Home → Seat → Seat
+with_home to seat = record seat { home = to }
+
 -- only this frame's page is another
 abbrev pub with_seat : HeapState → ℕ → Option Seat → HeapState
 with_seat h frame seat = record h { seats = slice_set h.seats frame seat }
@@ -156,6 +160,24 @@ pub record IsRefused (old new : HeapState) (lent : Lent) : Type 0 where
   pub full : IsFull lent.frames lent.new_out
   pub same_hand : Same lent.hand lent.new_hand
   pub unchanged : new ≡ old
+
+-- the page is for this
+abbrev pub IsFor : Home → Option Seat → Type 0
+IsFor home o = (seat : Seat) × (o ≡ Some seat) × (seat.home ≡ home)
+
+-- no page is for this
+abbrev pub NoneFor : Home → HeapState → Type 0
+NoneFor home h = (frame : ℕ) → IsFor home (seat_at h frame) → ⊥
+
+-- the heap, where this frame's page is for this
+abbrev pub with_moved : HeapState → ℕ → Home → HeapState
+with_moved h frame to = with_seat h frame (option_map (with_home to) (seat_at h frame))
+
+-- the page is there, and the heap is one where it is for this
+pub record IsMovable (h : HeapState) (frame : ℕ) (to : Home) : Type 0 where
+  pub seat : Seat
+  pub there : seat_at h frame ≡ Some seat
+  pub heap : IsHeap (with_moved h frame to)
 
 abbrev pub home_eq : Home → Home → Bool
 home_eq Spare Spare = true
