@@ -179,6 +179,12 @@ pub record IsMovable (h : HeapState) (frame : ℕ) (to : Home) : Type 0 where
   pub there : seat_at h frame ≡ Some seat
   pub heap : IsHeap (with_moved h frame to)
 
+-- what the innermost region's pages may be for when it closes: a region around it, or an isolate that is there
+abbrev pub IsExit : HeapState → Home → Type 0
+IsExit h Spare = ⊥
+IsExit h (Open depth) = depth < innermost h
+IsExit h (Kept root) = IsRoot h root
+
 abbrev pub home_eq : Home → Home → Bool
 home_eq Spare Spare = true
 home_eq (Open a) (Open b) = a == b
@@ -217,6 +223,18 @@ pub record IsEmptied (old new : PageState Body) : Type 0 where
   pub empty : (slot : ℕ) → body_of new slot ≡ None
   pub levels : (slot : ℕ) → slot < 64 → level_at new slot ≡ level_at old slot + death_count (body_of old slot)
   pub rising : (slot : ℕ) → slot < 64 → generation_at old slot ≤ generation_at new slot
+
+abbrev pub ClearsSeat : Option Seat → Option Seat → Type 0
+ClearsSeat None new = new ≡ None
+ClearsSeat (Some seat) new = (page : PageState Body) × (new ≡ Some (record { page = page; home = Spare })) × IsEmptied seat.page page
+
+-- this page lost its objects and is spare, and no other page is another
+pub record ClearsPage (old new : HeapState) (frame : ℕ) : Type 0 where
+  pub seat : Seat
+  pub there : seat_at old frame ≡ Some seat
+  pub page : PageState Body
+  pub emptied : IsEmptied seat.page page
+  pub now : new ≡ with_spare old frame page
 
 -- the page of the region that is closed lost its objects and is spare; any other page is as before
 abbrev pub IsClearedSeat : Home → Option Seat → Option Seat → Type 0

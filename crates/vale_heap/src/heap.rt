@@ -5,12 +5,12 @@ ghost use Rattle.std.specs.Option.{option_copied_mut};
 ghost use Rattle.vale_page.specs.PageState.{IsBlankAt};
 ghost use Rattle.vale_table.specs.Lending.{Same, StillOut};
 ghost use Rattle.vale_heap.specs.HeapLends.{lends_if, lends_body};
-ghost use Rattle.vale_heap.specs.HeapState.{opened, seat_at, look_in, innermost, has_room, HasNoRoom, IsRoot, LivesIn, IsFor, NoneFor, IsMovable, IsPut, IsEnded, IsMade, IsRefused, IsCleared, KnowsFrames, OfHand, KeepsFrames, ClaimsFrugally, with_spare, with_moved, with_rehomed, with_region, without_region, with_merged};
+ghost use Rattle.vale_heap.specs.HeapState.{opened, seat_at, look_in, innermost, has_room, HasNoRoom, IsHeap, IsRoot, LivesIn, IsFor, NoneFor, IsMovable, IsExit, ClearsPage, IsPut, IsEnded, IsMade, IsRefused, IsCleared, KnowsFrames, OfHand, KeepsFrames, ClaimsFrugally, with_spare, with_moved, with_rehomed, with_region, without_region, with_merged};
 ghost use Rattle.vale_heap.specs.Standing.{look_over, StandsMade, StandsLooked, StandsFound, StandsEnded, StandsChanged, StandsSame, StandsMerged, StandsKept, StandsCleared, StandsIsoMerged};
 
 use crate::body::{Body, Place};
 use crate::lists::Lists;
-use crate::seat::{Home, Seat, end_in, put_in, relist, roomy_list, seat_body_mut, seat_mut, set_home};
+use crate::seat::{Home, Seat, clear_in, end_in, put_in, relist, roomy_list, seat_body_mut, seat_mut, set_home};
 use std::alloc::Global;
 use std::marker::Model;
 use vale_base::Memory;
@@ -78,6 +78,7 @@ impl Heap {
     fn find_room(&self) -> Option<usize>
         ensures some { IfSome result (λ frame. has_room (innermost self.now) (seat_at self.now frame) ≡ true) }
         ensures none { IfNone result (HasNoRoom self.now) }
+        ensures sound { IsHeap self.now }
     {
         let frames = self.seats.len();
         match self.lists.first(roomy_list(frames, self.regions - 1)) {
@@ -240,5 +241,136 @@ impl Heap {
             }
             None => None,
         }
+    }
+
+    /// Opens a region inside the innermost one.
+    pub fn freeze_in(&mut self)
+        requires { self.old.regions < self.old.depth }
+        ensures after { self.new ≡ with_region self.old }
+        ensures stands { StandsSame self.old self.new }
+        ensures keeps { KeepsFrames self.old self.new }
+    {
+        self.lists.add();
+        self.lists.add();
+        self.regions += 1;
+    }
+
+    /// Closes the innermost region. Its objects join the one around it.
+    pub fn freeze_merge(&mut self)
+        requires { 1 < self.old.regions }
+        ensures after { self.new ≡ without_region self.old (Home.Open (innermost self.old - 1)) }
+        ensures stands { StandsMerged self.old self.new }
+        ensures keeps { KeepsFrames self.old self.new }
+    {
+        let outer = self.regions - 2;
+        self.empty_region(Home::Open(outer));
+        self.close_region();
+    }
+
+    /// Closes the innermost region. It becomes an isolate with this root, which is alive in it.
+    pub fn freeze_keep(&mut self, root: Place)
+        requires many { 1 < self.old.regions }
+        requires root { LivesIn self.old (Home.Open (innermost self.old)) root }
+        ensures after { self.new ≡ without_region self.old (Home.Kept root) }
+        ensures stands { StandsKept self.old self.new root }
+        ensures keeps { KeepsFrames self.old self.new }
+    {
+        let to = Home::Kept(root);
+        self.rehome(root.frame as usize, to);
+        self.empty_region(to);
+        self.close_region();
+    }
+
+    /// Closes the innermost region. Its objects die.
+    pub fn freeze_clear(&mut self)
+        requires { 1 < self.old.regions }
+        ensures after { IsCleared self.old self.new }
+        ensures stands { StandsCleared self.old self.new }
+        ensures keeps { KeepsFrames self.old self.new }
+    {
+        let inner = self.regions - 1;
+        while let Some(frame) = self.first_open(inner) {
+            self.clear_page(frame);
+        }
+        self.close_region();
+    }
+
+    /// Joins the isolate with this root to the innermost region.
+    pub fn merge(&mut self, iso: Place)
+        requires { IsRoot self.old iso }
+        ensures after { self.new ≡ with_merged self.old iso }
+        ensures stands { StandsIsoMerged self.old self.new iso }
+        ensures keeps { KeepsFrames self.old self.new }
+    {
+        let to = Home::Open(self.regions - 1);
+        while let Some(frame) = self.first_beside(iso) {
+            self.rehome(frame, to);
+        }
+        self.rehome(iso.frame as usize, to);
+    }
+
+    // The frame of a page of an open region.
+    fn first_open(&self, region: u32) -> Option<usize>
+        requires { region < self.now.regions }
+        ensures some { IfSome result (λ frame. IsFor (Home.Open region) (seat_at self.now frame)) }
+        ensures none { IfNone result (NoneFor (Home.Open region) self.now) }
+        ensures sound { IsHeap self.now }
+    {
+        let roomy = roomy_list(self.seats.len(), region);
+        match self.lists.first(roomy) {
+            Some(frame) => Some(frame),
+            None => self.lists.first(roomy + 1),
+        }
+    }
+
+    // The frame of a page of an isolate, beside its root's page.
+    fn first_beside(&self, iso: Place) -> Option<usize>
+        requires { IsRoot self.now iso }
+        ensures some { IfSome result (λ frame. (frame ≢ iso.frame) × IsFor (Home.Kept iso) (seat_at self.now frame)) }
+        ensures none { IfNone result ((frame : ℕ) → IsFor (Home.Kept iso) (seat_at self.now frame) → frame ≡ iso.frame) }
+        ensures sound { IsHeap self.now }
+    {
+        self.lists.first(iso.frame as usize)
+    }
+
+    // Lets a page be for something else.
+    fn rehome(&mut self, frame: usize, to: Home)
+        requires { IsMovable self.old frame to }
+        ensures { self.new ≡ with_moved self.old frame to }
+    {
+        set_home(&mut self.seats[frame], to);
+        relist(&self.seats, &mut self.lists, frame);
+    }
+
+    // Lets each page of the innermost region be for something else.
+    fn empty_region(&mut self, to: Home)
+        requires { IsExit self.old to }
+        ensures after { self.new ≡ with_rehomed self.old (Home.Open (innermost self.old)) to }
+        ensures none { NoneFor (Home.Open (innermost self.old)) self.new }
+    {
+        let inner = self.regions - 1;
+        while let Some(frame) = self.first_open(inner) {
+            self.rehome(frame, to);
+        }
+    }
+
+    // Closes the innermost region, which has no page.
+    fn close_region(&mut self)
+        requires many { 1 < self.old.regions }
+        requires none { NoneFor (Home.Open (innermost self.old)) self.old }
+        ensures { self.new ≡ record self.old { regions = innermost self.old } }
+    {
+        self.lists.remove_last();
+        self.lists.remove_last();
+        self.regions -= 1;
+    }
+
+    // Ends each object of a page of the innermost region. The page is spare then.
+    fn clear_page(&mut self, frame: usize)
+        requires { IsFor (Home.Open (innermost self.old)) (seat_at self.old frame) }
+        ensures { ClearsPage self.old self.new frame }
+    {
+        clear_in(&mut self.seats[frame]);
+        relist(&self.seats, &mut self.lists, frame);
     }
 }

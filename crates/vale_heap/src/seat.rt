@@ -3,10 +3,10 @@ ghost use Rattle.std.specs.Prelude.{◌≡◌, ◌<◌, ◌^◌, length, IfNone,
 ghost use Rattle.std.specs.Borrow.{sem};
 ghost use Rattle.std.specs.Option.{option_map};
 ghost use Rattle.std.specs.Option.Follows.{option_follows_value};
-ghost use Rattle.vale_page.specs.PageState.{body_of};
+ghost use Rattle.vale_page.specs.PageState.{body_of, IsPage};
 ghost use Rattle.vale_heap.specs.contracts.seat.Seat as seat_row;
 ghost use Rattle.vale_heap.specs.HeapLends.{lends_seat_body};
-ghost use Rattle.vale_heap.specs.HeapState.{body_in, has_room, with_home, PutsIn, EndsIn};
+ghost use Rattle.vale_heap.specs.HeapState.{body_in, has_room, with_home, PutsIn, EndsIn, IsEmptied, ClearsSeat};
 ghost use Rattle.vale_heap.specs.Layout.{list_of, list_for, roomy_list};
 
 use crate::body::{Body, Place};
@@ -125,6 +125,28 @@ pub fn end_in(seat: &mut Option<Seat>, at: Place) -> Option<Body>
             Some(body)
         }
         None => None,
+    }
+}
+
+/// Ends each object of a page, which is spare then.
+pub fn clear_in(seat: &mut Option<Seat>)
+    requires { IfSome seat.old (λ s. IsPage s.page) }
+    ensures { ClearsSeat seat.old seat.new }
+{
+    if let Some(seat) = seat {
+        clear(&mut seat.page);
+        seat.home = Home::Spare;
+    }
+}
+
+// Ends each object of a page.
+fn clear(page: &mut Page<Body>)
+    requires { IsPage page.old }
+    ensures { IsEmptied page.old page.new }
+{
+    for slot in 0..64u8 {
+        let generation = page.generation(slot);
+        page.end(slot, generation);
     }
 }
 
