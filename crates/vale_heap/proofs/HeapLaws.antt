@@ -76,13 +76,13 @@ heap_with_seat h frame new can = record {
 }
 
 -- a root's page is for its isolate
-root_home : (h : HeapState) (root : Place) (seat : Seat) → IsRoot h root → seat_at h root.frame ≡ Some seat → seat.home ≡ Kept root
+pub root_home : (h : HeapState) (root : Place) (seat : Seat) → IsRoot h root → seat_at h root.frame ≡ Some seat → seat.home ≡ Kept root
 root_home h root seat is there = ap (λ (s : Seat). s.home) (same_some _ _ _ there is.there) ∙ is.home_is
 
-open_kept : (depth : ℕ) (root : Place) → Open depth ≡ Kept root → ⊥
+pub open_kept : (depth : ℕ) (root : Place) → Open depth ≡ Kept root → ⊥
 open_kept depth root e = cc
 
-spare_kept : (root : Place) → Spare ≡ Kept root → ⊥
+pub spare_kept : (root : Place) → Spare ≡ Kept root → ⊥
 spare_kept root e = cc
 
 positive : (n : ℕ) → n ≢ 0 → 0 < n

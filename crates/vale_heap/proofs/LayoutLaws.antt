@@ -320,3 +320,14 @@ laid_written h l frame slot seat body w ok within there body_there =
         ap (λ n. list_of (length h.seats) frame seat.home (nat_lt 0 (64 - (n + retired_count seat.page)))) (sym live) in
     laid_same h l frame (with_written seat slot w) ok (got_lt h.seats frame seat there) (heap_with_seat h frame (with_written seat slot w) (can_write h frame slot seat body w ok.heap within there body_there))
     (free ∙ ap (list_for (length h.seats) frame) (sym there))
+
+-- ---- the lists of a region that closes
+
+last_is_full : (h : HeapState) (l : ListState) → IsLaidOut h l → 1 < h.regions → l.lists - 1 ≡ full_list (length h.seats) (innermost h)
+last_is_full h l ok many = omega (arith, ok.many, many)
+
+pub no_full : (h : HeapState) (l : ListState) (ok : IsLaidOut h l) → 1 < h.regions → NoneFor (Open (innermost h)) h → (frame : ℕ) → frame < length l.on → list_at l frame ≢ Some (l.lists - 1)
+no_full h l ok many none frame within e = (none_for_lists h l ok (innermost h) none frame within).1 (e ∙ ap (λ n. Some n) (last_is_full h l ok many))
+
+pub no_roomy : (h : HeapState) (l : ListState) (ok : IsLaidOut h l) → 1 < h.regions → NoneFor (Open (innermost h)) h → (frame : ℕ) → frame < length l.on → list_at l frame ≢ Some (l.lists - 1 - 1)
+no_roomy h l ok many none frame within e = (none_for_lists h l ok (innermost h) none frame within).0 (e ∙ ap (λ n. Some n) (omega (arith, ok.many, many)))

@@ -7,3 +7,5 @@ pub mod HeapLaws
 pub mod LayoutLaws
 pub mod StandLaws
 pub mod HandLaws
+pub mod ClearLaws
+pub mod RegionLaws

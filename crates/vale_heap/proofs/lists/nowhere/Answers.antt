@@ -1,1 +1,2 @@
-use Rattle.vale_heap.proofs.LayoutLaws.{laid_closed}
+use Rattle.vale_heap.proofs.ClearLaws.{emptied_next}
+use Rattle.vale_heap.proofs.RegionLaws.{merged_is}
