@@ -9,3 +9,4 @@ pub mod StandLaws
 pub mod HandLaws
 pub mod ClearLaws
 pub mod RegionLaws
+pub mod WorldLaws

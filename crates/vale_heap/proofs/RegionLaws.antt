@@ -221,3 +221,46 @@ merged_is old now iso is alone =
           kept_open (innermost old) iso (ap (λ (s : Seat). s.home) seat ∙ page.2)
       | inr apart ↦ apart (alone frame (page.0, sym (get_or-set_other now.seats iso.frame frame _ None apart) ∙ page.1, page.2))
     ]
+
+-- ---- the innermost region becomes an isolate
+
+pub can_keep : (h : HeapState) (root : Place) → IsHeap h → LivesIn h (Open (innermost h)) root → IsMovable h root.frame (Kept root)
+can_keep h root ok lives =
+    let was = ok.seats_ok root.frame lives.seat lives.there in
+    record {
+      seat = lives.seat;
+      there = lives.there;
+      heap = subst IsHeap (sym (moved_is h root.frame (Kept root) lives.seat lives.there)) (heap_with_seat h root.frame (with_home (Kept root) lives.seat)
+          (can_leave h root.frame (innermost h) lives.seat (Kept root) ok lives.there lives.home_is (open_fits h.regions (live_count lives.seat.page) (innermost h) lives.seat.home lives.home_is was.fits)
+          (λ other e. let one : root ≡ other = cc in subst (IsRoot (with_seat h root.frame (Some (with_home (Kept root) lives.seat)))) one (record {
+            seat = with_home (Kept root) lives.seat;
+            there = get_or-set_same h.seats root.frame (Some (with_home (Kept root) lives.seat)) None (got_lt h.seats root.frame lives.seat lives.there);
+            home_is = refl;
+            body = lives.body;
+            at = lives.at;
+          }))));
+    }
+
+pub kept_root : (h : HeapState) (root : Place) → LivesIn h (Open (innermost h)) root → IsRoot (with_moved h root.frame (Kept root)) root
+kept_root h root lives = subst (λ x. IsRoot x root) (sym (moved_is h root.frame (Kept root) lives.seat lives.there)) (record {
+  seat = with_home (Kept root) lives.seat;
+  there = get_or-set_same h.seats root.frame (Some (with_home (Kept root) lives.seat)) None (got_lt h.seats root.frame lives.seat lives.there);
+  home_is = refl;
+  body = lives.body;
+  at = lives.at;
+})
+
+-- ---- a region that lost its pages closes
+
+pub none_still : (h now : HeapState) (to : Home) → now ≡ with_rehomed h (Open (innermost h)) to → NoneFor (Open (innermost h)) now → NoneFor (Open (innermost now)) now
+none_still h now to is none = subst (λ n. NoneFor (Open n) now) (sym (ap innermost is)) none
+
+pub closed_is : (old h now new : HeapState) (to : Home) → map (rehomed (Open (innermost old)) to) h.seats ≡ map (rehomed (Open (innermost old)) to) old.seats → h.regions ≡ old.regions → h.depth ≡ old.depth →
+    now ≡ with_rehomed h (Open (innermost h)) to → new ≡ record now { regions = innermost now } → new ≡ without_region old to
+closed_is old h now new to maps regions depth now_is new_is =
+    let inner : innermost h ≡ innermost old = ap (λ n. n - 1) regions in
+    let seats : new.seats ≡ map (rehomed (Open (innermost old)) to) old.seats =
+        ap (λ (x : HeapState). x.seats) new_is ∙ ap (λ (x : HeapState). x.seats) now_is ∙ ap (λ n. map (rehomed (Open n) to) h.seats) inner ∙ maps in
+    let new_regions : new.regions ≡ innermost old = ap (λ (x : HeapState). x.regions) new_is ∙ ap innermost now_is ∙ inner in
+    let new_depth : new.depth ≡ old.depth = ap (λ (x : HeapState). x.depth) new_is ∙ ap (λ (x : HeapState). x.depth) now_is ∙ depth in
+    λ i. record { seats = seats i; regions = new_regions i; depth = new_depth i }

@@ -275,6 +275,8 @@ impl Heap {
         ensures stands { StandsKept self.old self.new root }
         ensures keeps { KeepsFrames self.old self.new }
     {
+        // The proof needs what the type keeps.
+        let _ = &self.seats;
         let to = Home::Kept(root);
         self.rehome(root.frame as usize, to);
         self.empty_region(to);
@@ -358,7 +360,8 @@ impl Heap {
     fn close_region(&mut self)
         requires many { 1 < self.old.regions }
         requires none { NoneFor (Home.Open (innermost self.old)) self.old }
-        ensures { self.new ≡ record self.old { regions = innermost self.old } }
+        ensures after { self.new ≡ record self.old { regions = innermost self.old } }
+        ensures sound { IsHeap self.new }
     {
         self.lists.remove_last();
         self.lists.remove_last();
@@ -373,4 +376,15 @@ impl Heap {
         clear_in(&mut self.seats[frame]);
         relist(&self.seats, &mut self.lists, frame);
     }
+}
+
+fn is_send<T: Send>() {}
+
+fn is_sync<T: Sync>() {}
+
+// A heap may move to another thread and be read from several, and a body that found no page may move.
+fn crosses_threads() {
+    is_send::<Heap>();
+    is_sync::<Heap>();
+    is_send::<NoPage>();
 }

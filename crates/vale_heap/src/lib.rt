@@ -1,4 +1,5 @@
-//! A heap of objects in pages of slots. The place of an object is never the place of another one, also after its death.
+//! A heap of objects in pages of slots. An object has a place: a frame, a slot of the frame's page, and the slot's generation
+//! while the object lives. No other object ever has that place. The heap has regions, one inside the other, and isolates.
 #![tactic(auto)]
 
 mod body;
@@ -7,5 +8,5 @@ mod lists;
 mod seat;
 
 pub use body::{Body, Cell, Cells, Place};
-pub use heap::Heap;
+pub use heap::{Heap, NoPage};
 pub use seat::{Home, Seat};

@@ -30,3 +30,10 @@ invariant_of-self c =
     let lists : c.remove_last-2.new.self ≡ record l { lists = l.lists - 2 } =
         c.remove_last-2.ensures ∙ ap (λ (s : ListState). record s { lists = s.lists - 1 }) c.remove_last.ensures ∙ ap (λ n. record l { lists = n }) (omega arith) in
     subst (IsLaidOut (record h { regions = innermost h })) (sym lists) (laid_closed h l c.self.invariant many (heap_closed h c.self.invariant.heap many none))
+
+pub returns-clause-sound : goal.returns-clause-sound
+returns-clause-sound c =
+    let h : HeapState = record { seats = c.self.inside.seats.items; regions = c.self.inside.regions; depth = c.self.inside.depth } in
+    let many : 1 < h.regions = rw (← c.self.view_is) at c.requires.many in
+    let none : NoneFor (Open (innermost h)) h = rw (← c.self.view_is) at c.requires.none in
+    heap_closed h c.self.invariant.heap many none
