@@ -1,16 +1,16 @@
 -- How standing is kept where a live object's body is written.
-use Rattle.std.proofs.Common.{◌≡◌, ◌≢◌, ◌⊎◌, ℕ, ◌+◌, ◌<◌, ◌≤◌, ◌^◌, Bool, true, false, List, length, get_or, set, Option, Some, None, cond, refl, sym, ap, subst, ◌∙◌, inl, inr, arith, nat_eq}
+use Rattle.std.proofs.Common.{◌≡◌, ◌≢◌, ℕ, ◌<◌, Bool, true, List, get_or, set, Option, Some, None, cond, refl, sym, ap, subst, ◌∙◌, inl, inr, arith, nat_eq}
 use Rattle.std.specs.Prelude.{slice_get}
 use Rattle.std.proofs.lemmas.Bool.{cases_eq, eq-eqb}
 use Rattle.std.proofs.lemmas.Option.{same_Some}
 use Rattle.std.proofs.lemmas.List.{length-set, get_or-set_same, get_or-set_other}
-use Rattle.vale_page.specs.PageState.{PageState, IsPage, body_of, body_at, generation_at, level_at, with_body}
+use Rattle.vale_page.specs.PageState.{IsPage, body_of, body_at, generation_at, level_at, with_body}
 use Rattle.vale_page.proofs.PageLaws.{page_with_body, not_retired}
 use Rattle.vale_heap.specs.declared.body.Place.{Place}
 use Rattle.vale_heap.specs.declared.body.Body.{Body}
 use Rattle.vale_heap.specs.declared.seat.Seat.{Seat}
-use Rattle.vale_base.specs.World.{Value, Object, World, Lives, IsDead}
-use Rattle.vale_heap.specs.Standing.{HasPlace, DenoteAll, IsRegion, Holds, IsNamed, StandsAt}
+use Rattle.vale_base.specs.World.{Object, World, Lives, IsDead}
+use Rattle.vale_heap.specs.Standing.{HasPlace, DenoteAll, IsRegion, Holds, StandsAt}
 use Rattle.vale_page.proofs.PageLaws.{at_generation, at_body}
 use Rattle.vale_heap.proofs.PutLaws.{IsOneChange, same_some, same_place}
 use Rattle.vale_heap.proofs.EndLaws.{set_got_same, set_got_other}
@@ -26,8 +26,7 @@ pub record CanWrite (seats new_seats : ℕ → Option Seat) (low : ℕ → ℕ �
   pub region : new.region ≡ old.region
 
 module _ (seats new_seats : ℕ → Option Seat) (low : ℕ → ℕ → ℕ) (away : ℕ → Bool) (names : List Place) (world : World) (place : Place) (seat : Seat) (body : Body) (name : ℕ) (old new : Object)
-  (can : CanWrite seats new_seats low away names world place seat body name old new) where
-
+    (can : CanWrite seats new_seats low away names world place seat body name old new) where
   written : Seat
   written = record seat { page = with_body seat.page place.slot body }
 
@@ -70,12 +69,15 @@ module _ (seats new_seats : ℕ → Option Seat) (low : ℕ → ℕ → ℕ) (aw
         let same : seat ≡ h.seat = same_some _ _ _ can.change.was (ap seats (sym e) ∙ h.there) in
         let was : body_at seat.page p.slot p.generation ≡ Some h.body = ap (λ (s : Seat). body_at s.page p.slot p.generation) same ∙ h.at in
         let slots : p.slot ≢ place.slot = λ s.
-            let g : p.generation ≡ place.generation = sym (at_generation seat.page p.slot p.generation h.body was) ∙ ap (generation_at seat.page) s ∙ at_generation seat.page place.slot place.generation before.body was_at in
-            apart (can.stood.apart n name place (has ∙ ap (λ x. Some x) (same_place p place.frame place.slot place.generation e s g)) can.has) in
+        let g : p.generation ≡ place.generation = sym (at_generation seat.page p.slot p.generation h.body was) ∙ ap (generation_at seat.page) s ∙ at_generation seat.page place.slot place.generation before.body was_at in
+        apart (can.stood.apart n name place (has ∙ ap (λ x. Some x) (same_place p place.frame place.slot place.generation e s g)) can.has) in
         record {
           seat = record seat { page = with_body seat.page place.slot body };
           there = ap new_seats e ∙ can.change.now;
-          body = h.body; at = other_body p.slot p.generation slots ∙ was; kind = h.kind; cells = h.cells;
+          body = h.body;
+          at = other_body p.slot p.generation slots ∙ was;
+          kind = h.kind;
+          cells = h.cells;
           region = subst (λ (s : Seat). IsRegion names s.home o.region) (sym same) h.region;
         }
   ]
@@ -98,7 +100,8 @@ module _ (seats new_seats : ℕ → Option Seat) (low : ℕ → ℕ → ℕ) (aw
     | inr other ↦ (s, sym (can.change.others frame other) ∙ there, λ k. refl, λ k. refl, λ ok. ok, λ k b has. (b, has))
     | inl e ↦
         let same : record seat { page = with_body seat.page place.slot body } ≡ s = same_some _ _ _ can.change.now (ap new_seats (sym e) ∙ there) in (
-          seat, ap seats e ∙ can.change.was,
+          seat,
+          ap seats e ∙ can.change.was,
           λ k. ap (λ (x : Seat). level_at x.page k) (sym same),
           λ k. ap (λ (x : Seat). generation_at x.page k) (sym same),
           λ ok. subst (λ (x : Seat). IsPage x.page) same (page_with_body seat.page place.slot body ok (not_retired seat.page ok place.slot before.body write_within (at_body seat.page place.slot place.generation before.body was_at))),
@@ -137,7 +140,8 @@ module _ (seats new_seats : ℕ → Option Seat) (low : ℕ → ℕ → ℕ) (aw
         let n = can.stood.named frame slot t.0 c.0 within t.1 c.1 in
         let after = lives_after n.name n.object n.lives in
         record {
-          name = n.name; object = after.0;
+          name = n.name;
+          object = after.0;
           place = n.place ∙ ap (λ x. Some x) (same_place _ frame slot (generation_at s.page slot) refl refl (sym (t.3 slot)));
           lives = after.1;
         };

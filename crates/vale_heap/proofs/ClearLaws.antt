@@ -1,7 +1,7 @@
 -- A page whose slots are emptied one after the other.
-use Rattle.std.proofs.Common.{◌≡◌, ◌≢◌, ◌⊎◌, ℕ, ◌+◌, ◌-◌, ◌<◌, ◌≤◌, ◌^◌, Bool, true, false, List, get_or, set, Option, Some, None, cond, refl, sym, ap, subst, ◌∙◌, inl, inr, arith, nat_eq}
+use Rattle.std.proofs.Common.{◌≡◌, ◌⊎◌, ℕ, ◌+◌, ◌<◌, ◌≤◌, get_or, set, Option, Some, None, cond, refl, sym, ap, subst, ◌∙◌, inl, inr, arith}
 use Rattle.std.specs.Prelude.{IfNone, OnSome}
-use Rattle.std.proofs.lemmas.Bool.{cases_eq, cases_lt, eq-eqb}
+use Rattle.std.proofs.lemmas.Bool.{cases_lt, eq-eqb}
 use Rattle.std.proofs.lemmas.List.{get_or-set_same, get_or-set_other, get_or_past}
 use Rattle.vale_page.specs.PageState.{PageState, IsPage, body_of, body_at, generation_at, level_at, after_death}
 use Rattle.vale_page.proofs.PageLaws.{page_after_death, after_body, after_frame, after_generation_other, after_level_other, after_level_same}
@@ -22,16 +22,22 @@ pub record IsEmptiedTo (old new : PageState Body) (n : ℕ) : Type 0 where
 
 pub emptied_none : (page : PageState Body) → IsPage page → IsEmptiedTo page page 0
 emptied_none page ok = record {
-  frame = refl; page = ok;
+  frame = refl;
+  page = ok;
   empty = λ slot h. absurd (omega (arith, h));
   levels = λ slot h. absurd (omega (arith, h));
   rising = λ slot h. absurd (omega (arith, h));
-  other_bodies = λ slot _. refl; other_levels = λ slot _. refl; other_generations = λ slot _. refl;
+  other_bodies = λ slot _. refl;
+  other_levels = λ slot _. refl;
+  other_generations = λ slot _. refl;
 }
 
 pub emptied_all : (old new : PageState Body) → IsEmptiedTo old new 64 → IsEmptied old new
 emptied_all old new is = record {
-  frame = is.frame; page = is.page; levels = is.levels; rising = is.rising;
+  frame = is.frame;
+  page = is.page;
+  levels = is.levels;
+  rising = is.rising;
   empty = λ slot. elim (cases_lt slot 64) [
     | inl h ↦ is.empty slot h
     | inr past ↦ get_or_past new.bodies slot None (omega (arith, past, is.page.bodies))
@@ -49,7 +55,8 @@ module _ (old new : PageState Body) (n : ℕ) (within : n < 64) (is : IsEmptiedT
 
   none_left : body_of new n ≡ None → IsEmptiedTo old new (n + 1)
   none_left none = record {
-    frame = is.frame; page = is.page;
+    frame = is.frame;
+    page = is.page;
     empty = λ slot h. elim (below_next slot n h) [ inl less ↦ is.empty slot less | inr same ↦ ap (body_of new) same ∙ none ];
     levels = λ slot h. elim (below_next slot n h) [
       | inl less ↦ is.levels slot less

@@ -1,8 +1,7 @@
 -- How standing is kept by a death and by a page that comes.
-use Rattle.std.proofs.Common.{◌≡◌, ◌≢◌, ◌⊎◌, ℕ, zero, suc, ◌+◌, ◌-◌, ◌<◌, ◌≤◌, ◌^◌, Bool, true, false, List, [], ◌∷◌, ◌++◌, length, get_or, set, Option, Some, None, cond, refl, sym, ap, subst, ◌∙◌, inl, inr, arith, nat_eq}
+use Rattle.std.proofs.Common.{◌≡◌, ◌≢◌, ◌⊎◌, ℕ, zero, suc, ◌<◌, ◌≤◌, ◌^◌, Bool, true, List, [], ◌∷◌, set, Option, Some, None, cond, refl, sym, ap, subst, ◌∙◌, inl, inr, arith, nat_eq}
 use Rattle.std.specs.Prelude.{slice_get}
 use Rattle.std.proofs.lemmas.Bool.{cases_eq}
-use Rattle.std.proofs.lemmas.Option.{same_Some}
 use Rattle.std.proofs.lemmas.List.{length-set, get_or-set_same, get_or-set_other}
 use Rattle.vale_page.specs.PageState.{PageState, IsPage, IsBlankAt, body_of, body_at, generation_at, level_at, after_death}
 use Rattle.vale_page.proofs.PageLaws.{page_after_death, not_retired}
@@ -10,10 +9,10 @@ use Rattle.vale_heap.specs.declared.body.Place.{Place}
 use Rattle.vale_heap.specs.declared.body.Body.{Body}
 use Rattle.vale_heap.specs.declared.seat.Seat.{Seat}
 use Rattle.vale_heap.specs.declared.seat.Home.{Home}
-use Rattle.vale_heap.specs.declared.seat.Home.TheVariants.{Spare, Open, Kept}
+use Rattle.vale_heap.specs.declared.seat.Home.TheVariants.{Spare}
 use Rattle.vale_base.specs.World.{Object, World, Lives, IsDead}
 use Rattle.vale_heap.specs.HeapState.{body_in}
-use Rattle.vale_heap.specs.Standing.{HasPlace, DenoteAll, IsRegion, Holds, IsNamed, StandsAt, LookMeans}
+use Rattle.vale_heap.specs.Standing.{HasPlace, IsRegion, Holds, IsNamed, StandsAt, LookMeans}
 use Rattle.vale_page.proofs.PageLaws.{at_generation, at_body, generation-le-level, after_body, after_generation_other, after_level_other, after_level_same, no_body}
 use Rattle.vale_heap.proofs.PutLaws.{IsOneChange, same_some, same_place, name_cases, got_within}
 

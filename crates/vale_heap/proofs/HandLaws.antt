@@ -1,5 +1,5 @@
 -- Each page of a heap is of its lender's hand, and a claim comes only where the heap's own slots are used up.
-use Rattle.std.proofs.Common.{◌≡◌, ◌≢◌, ◌⊎◌, ℕ, zero, suc, ◌+◌, ◌-◌, ◌*◌, ◌<◌, ◌≤◌, ◌^◌, Bool, true, false, List, [], ◌∷◌, length, get_or, set, Option, Some, None, is_some, cond, count_by, sum_by, refl, sym, ap, subst, ◌∙◌, inl, inr, arith, nat_eq}
+use Rattle.std.proofs.Common.{◌≡◌, ℕ, zero, suc, ◌+◌, ◌<◌, ◌≤◌, Bool, true, false, List, [], ◌∷◌, length, get_or, set, Option, Some, None, is_some, cond, count_by, sum_by, refl, sym, ap, subst, ◌∙◌, inl, inr, arith, nat_eq}
 use Rattle.std.specs.Prelude.{◌&&◌, nat_lt}
 use Rattle.std.proofs.lemmas.Bool.{cases_eq, cases_lt, eq-eqb}
 use Rattle.std.proofs.lemmas.Bool.Decides.{nat_tests}
@@ -13,10 +13,9 @@ use Rattle.vale_heap.specs.declared.body.Body.{Body}
 use Rattle.vale_heap.specs.declared.seat.Seat.{Seat}
 use Rattle.vale_heap.specs.declared.seat.Home.{Home}
 use Rattle.vale_heap.specs.declared.seat.Home.TheVariants.{Spare, Open, Kept}
-use Rattle.vale_heap.specs.HeapState.{HeapState, seat_at, innermost, FitsHome, IsSeat, IsHeap, serves, has_room, HasNoRoom, with_seat, with_spare, Lent, IsMade, IsMadeByClaim, IsMadeInHeap, IsPut, IsEnded, KnowsFrames, live_of, is_spent, frames_held, live_objects, spent_pages, IsFrugal, ClaimsFrugally, IsOfHand, OfHand, KeepsFrames}
+use Rattle.vale_heap.specs.HeapState.{HeapState, seat_at, innermost, FitsHome, IsSeat, IsHeap, serves, has_room, with_seat, with_spare, Lent, IsMade, IsMadeByClaim, IsPut, IsEnded, KnowsFrames, live_of, is_spent, IsFrugal, ClaimsFrugally, IsOfHand, OfHand, KeepsFrames}
 use Rattle.vale_heap.proofs.PutLaws.{same_some}
 use Rattle.vale_heap.proofs.HeapLaws.{heap_put, heap_spare, left_seat, set_some}
-use Rattle.vale_heap.proofs.StandLaws.{unknown_none}
 
 -- ---- what a lender knows and holds
 

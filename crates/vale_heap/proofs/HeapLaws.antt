@@ -1,19 +1,18 @@
 -- Laws of a heap's pages: each page stays what it is for, and the roots of isolates stay live.
-use Rattle.std.proofs.Common.{◌≡◌, ◌≢◌, ◌⊎◌, ℕ, zero, suc, ◌+◌, ◌-◌, ◌<◌, ◌≤◌, ◌^◌, Bool, true, false, List, length, get_or, set, Option, Some, None, is_some, cond, max, refl, sym, ap, subst, ◌∙◌, inl, inr, arith, nat_eq}
-use Rattle.std.specs.Prelude.{◌&&◌, nat_lt, IsSome}
+use Rattle.std.proofs.Common.{◌≡◌, ◌≢◌, ℕ, zero, suc, ◌<◌, Bool, true, false, List, length, get_or, set, Option, Some, None, is_some, cond, refl, sym, ap, subst, ◌∙◌, inl, inr, arith, nat_eq}
 use Rattle.std.proofs.lemmas.Bool.{cases_eq, cases_lt, eqb-true, eqb-false, eq-eqb}
 use Rattle.std.proofs.lemmas.Option.{same_Some}
-use Rattle.std.proofs.lemmas.List.{length-set, get_or-set_same, get_or-set_other, get_or_past, set_past}
+use Rattle.std.proofs.lemmas.List.{length-set, get_or-set_same, get_or-set_other, get_or_past}
 use Rattle.std.proofs.lemmas.List.Sums.{sum_by-set}
-use Rattle.vale_page.specs.PageState.{PageState, IsPage, IsFree, IsBlankAt, body_of, body_at, generation_at, live_count, free_count, with_body, after_death}
+use Rattle.vale_page.specs.PageState.{PageState, IsPage, IsFree, IsBlankAt, body_of, body_at, generation_at, live_count, with_body, after_death}
 use Rattle.vale_page.proofs.PageLaws.{at_body, at_generation, page_with_body, page_after_death, not_retired, no_body, some_live, after_body, after_frame, after_generation_other}
 use Rattle.vale_heap.specs.declared.body.Place.{Place}
 use Rattle.vale_heap.specs.declared.body.Body.{Body}
 use Rattle.vale_heap.specs.declared.seat.Seat.{Seat}
 use Rattle.vale_heap.specs.declared.seat.Home.{Home}
 use Rattle.vale_heap.specs.declared.seat.Home.TheVariants.{Spare, Open, Kept}
-use Rattle.vale_heap.specs.HeapState.{HeapState, seat_at, body_in, look_in, innermost, LivesIn, IsRoot, FitsHome, IsSeat, IsHeap, serves, has_room, with_seat, with_spare, PutsIn, IsPut, EndsIn, IsEnded, home_after, with_home}
-use Rattle.vale_heap.specs.HeapLends.{with_written, changed}
+use Rattle.vale_heap.specs.HeapState.{HeapState, seat_at, innermost, IsRoot, FitsHome, IsSeat, IsHeap, serves, with_seat, with_spare, IsPut, IsEnded, home_after, with_home}
+use Rattle.vale_heap.specs.HeapLends.{with_written}
 use Rattle.vale_heap.proofs.PutLaws.{same_some, same_place}
 
 -- ---- one page is another now
@@ -187,7 +186,7 @@ can_end h place seat body ok within no_root there at =
         let same : is.seat ≡ seat = same_some _ _ _ is.there (ap (seat_at h) here ∙ there) in
         let was_at : body_at seat.page root.slot root.generation ≡ Some is.body = ap (λ (s : Seat). body_at s.page root.slot root.generation) (sym same) ∙ is.at in
         let apart : (root.slot ≡ place.slot) × (root.generation ≡ place.generation) → ⊥ = λ e.
-            no_root (subst (IsRoot h) (same_place root place.frame place.slot place.generation here e.0 e.1) is) in
+        no_root (subst (IsRoot h) (same_place root place.frame place.slot place.generation here e.0 e.1) is) in
         let now_at = other_at seat.page place.slot place.generation root.slot root.generation body is.body at was_at apart in
         record {
           seat = left_seat seat place.slot;
@@ -252,7 +251,7 @@ can_write h frame slot seat body w ok within there body_there =
       | inl same ↦ (
         w,
         ap (λ b. cond b (get_or (set seat.page.bodies slot (Some w)) other None) None) (eq-eqb _ _ (at_generation seat.page other generation was at))
-        ∙ ap (λ n. get_or (set seat.page.bodies slot (Some w)) n None) same ∙ get_or-set_same seat.page.bodies slot (Some w) None (omega (arith, page_ok.bodies, within)),
+            ∙ ap (λ n. get_or (set seat.page.bodies slot (Some w)) n None) same ∙ get_or-set_same seat.page.bodies slot (Some w) None (omega (arith, page_ok.bodies, within)),
       )
       | inr apart ↦ (was, ap (λ o. cond (nat_eq (generation_at seat.page other) generation) o None) (get_or-set_other seat.page.bodies slot other (Some w) None apart) ∙ at)
     ]

@@ -1,8 +1,7 @@
 -- Laws of the lists that a heap keeps its pages on.
-use Rattle.std.proofs.Common.{◌≡◌, ◌≢◌, ◌⊎◌, ℕ, zero, suc, replicate, ◌+◌, ◌-◌, ◌*◌, ◌<◌, ◌≤◌, ◌^◌, Bool, true, false, List, length, get_or, set, Option, Some, None, cond, max, refl, sym, ap, subst, ◌∙◌, inl, inr, arith, nat_eq}
+use Rattle.std.proofs.Common.{◌≡◌, ◌≢◌, ℕ, replicate, ◌+◌, ◌-◌, ◌*◌, ◌<◌, ◌^◌, Bool, true, false, List, length, get_or, set, Option, Some, None, cond, max, refl, sym, ap, subst, ◌∙◌, inl, inr, arith, nat_eq}
 use Rattle.std.specs.Prelude.{◌&&◌, nat_lt, IfSome, IfNone}
-use Rattle.std.specs.Option.{option_map}
-use Rattle.std.proofs.lemmas.Bool.{cases_eq, cases_lt, cases_Bool, eqb-true, eqb-false, eq-eqb, ne_eqb, lt-ltb, and_parts}
+use Rattle.std.proofs.lemmas.Bool.{cases_eq, cases_lt, eqb-true, eqb-false, eq-eqb, ne_eqb}
 use Rattle.std.proofs.lemmas.Option.{same_Some}
 use Rattle.std.proofs.lemmas.List.{length-set, get_or-set_same, get_or-set_other, get_or_past, get_or-replicate, length-replicate, set-get_or}
 use Rattle.vale_page.specs.PageState.{free_count, live_count, retired_count, body_of}
@@ -10,12 +9,12 @@ use Rattle.vale_heap.specs.declared.body.Place.{Place}
 use Rattle.vale_heap.specs.declared.seat.Seat.{Seat}
 use Rattle.vale_heap.specs.declared.seat.Home.{Home}
 use Rattle.vale_heap.specs.declared.seat.Home.TheVariants.{Spare, Open, Kept}
-use Rattle.vale_heap.specs.HeapState.{HeapState, seat_at, innermost, opened, IsRoot, IsSeat, IsHeap, FitsHome, serves, has_room, HasNoRoom, with_seat, with_home, with_moved, IsFor, NoneFor, IsMovable}
+use Rattle.vale_heap.specs.HeapState.{HeapState, seat_at, innermost, opened, IsRoot, IsHeap, FitsHome, serves, has_room, with_seat, IsFor, NoneFor}
 use Rattle.vale_heap.specs.declared.body.Body.{Body}
 use Rattle.vale_heap.specs.HeapLends.{with_written}
 use Rattle.vale_heap.specs.ListState.{ListState, list_at}
 use Rattle.vale_heap.specs.Layout.{roomy_list, full_list, spare_list, list_of, list_for, IsLaidOut}
-use Rattle.vale_heap.proofs.HeapLaws.{CanSeat, heap_with_seat, can_write, written_live, got_lt, set_some}
+use Rattle.vale_heap.proofs.HeapLaws.{heap_with_seat, can_write, written_live, got_lt}
 
 -- ---- one page is another now
 
@@ -317,7 +316,7 @@ laid_written h l frame slot seat body w ok within there body_there =
     let page_ok = (ok.heap.seats_ok frame seat there).page in
     let live = written_live seat.page slot body w page_ok within body_there in
     let free : list_for (length h.seats) frame (Some (with_written seat slot w)) ≡ list_for (length h.seats) frame (Some seat) =
-        ap (λ n. list_of (length h.seats) frame seat.home (nat_lt 0 (64 - (n + retired_count seat.page)))) (sym live) in
+    ap (λ n. list_of (length h.seats) frame seat.home (nat_lt 0 (64 - (n + retired_count seat.page)))) (sym live) in
     laid_same h l frame (with_written seat slot w) ok (got_lt h.seats frame seat there) (heap_with_seat h frame (with_written seat slot w) (can_write h frame slot seat body w ok.heap within there body_there))
     (free ∙ ap (list_for (length h.seats) frame) (sym there))
 

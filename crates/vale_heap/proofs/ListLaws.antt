@@ -1,9 +1,9 @@
 -- Laws of lists that share their items: rings of nodes after a swap of what comes after two of them.
-use Rattle.std.proofs.Common.{◌≡◌, ◌≢◌, ◌⊎◌, ℕ, zero, suc, ◌+◌, ◌-◌, ◌<◌, ◌≤◌, Bool, true, false, List, [], ◌∷◌, ◌++◌, length, get_or, set, take, replicate, Option, Some, None, cond, refl, sym, ap, subst, ◌∙◌, inl, inr, arith, nat_lt, nat_eq, length-append}
+use Rattle.std.proofs.Common.{◌≡◌, ◌≢◌, ◌⊎◌, ℕ, zero, suc, ◌+◌, ◌-◌, ◌<◌, ◌≤◌, List, [], ◌∷◌, ◌++◌, length, get_or, set, take, replicate, Option, Some, None, cond, refl, sym, ap, subst, ◌∙◌, inl, inr, arith, nat_eq, length-append}
 use Rattle.std.proofs.lemmas.Bool.{cases_eq, cases_lt, lt-ltb, le-ltb, eq-eqb, ne_eqb}
 use Rattle.std.proofs.lemmas.Option.{same_Some}
 use Rattle.std.proofs.lemmas.List.{length-set, get_or-set_same, get_or-set_other, get_or-take, length-take-le, get_or-replicate, length-replicate, get_or_past}
-use Rattle.vale_heap.specs.ListState.{ListState, list_at, list_of_node, IsRinged, IsRoomy}
+use Rattle.vale_heap.specs.ListState.{list_of_node, IsRinged}
 
 abbrev pub at : List ℕ → ℕ → ℕ
 at xs i = get_or xs i 0
@@ -285,8 +285,8 @@ module _ (next previous : List ℕ) (on : List (Option ℕ)) (lists item list : 
   put_falls node l h e = elim (cases_eq node item) [
     | inl is ↦
         let below : put_rank (at put_next item) < put_rank item =
-            let to : put_rank (at put_next item) ≡ ok.rank (at next (length on + list)) = ap put_rank put.after_other ∙ rank_rest (at next (length on + list)) first_apart in
-            omega (arith, to, rank_item) in
+        let to : put_rank (at put_next item) ≡ ok.rank (at next (length on + list)) = ap put_rank put.after_other ∙ rank_rest (at next (length on + list)) first_apart in
+        omega (arith, to, rank_item) in
         inr (subst (λ n. put_rank (at put_next n) < put_rank n) (sym is) below)
     | inr apart ↦
         let was : get_or on node None ≡ Some l = sym (get_or-set_other on item node (Some list) None apart) ∙ e in
@@ -453,14 +453,14 @@ module _ (next previous : List ℕ) (on : List (Option ℕ)) (lists : ℕ) (ok :
   next_stays node h =
       let within = ok.next_within node (less_node node h) in
       let apart : at next node ≢ length on + (lists - 1) = λ e.
-          let is : node ≡ length on + (lists - 1) = sym (ok.back node (less_node node h)) ∙ ap (at previous) e ∙ last_previous in omega (arith, is, h) in
+      let is : node ≡ length on + (lists - 1) = sym (ok.back node (less_node node h)) ∙ ap (at previous) e ∙ last_previous in omega (arith, is, h) in
       omega (arith, within, apart)
 
   previous_stays : (node : ℕ) → node < length on + (lists - 1) → at previous node < length on + (lists - 1)
   previous_stays node h =
       let within = ok.previous_within node (less_node node h) in
       let apart : at previous node ≢ length on + (lists - 1) = λ e.
-          let is : node ≡ length on + (lists - 1) = sym (ok.forth node (less_node node h)) ∙ ap (at next) e ∙ last_next in omega (arith, is, h) in
+      let is : node ≡ length on + (lists - 1) = sym (ok.forth node (less_node node h)) ∙ ap (at next) e ∙ last_next in omega (arith, is, h) in
       omega (arith, within, apart)
 
   pub less_ringed : IsRinged (take (length next - 1) next) (take (length previous - 1) previous) on (lists - 1)

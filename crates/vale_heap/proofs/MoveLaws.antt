@@ -1,12 +1,12 @@
 -- How standing is kept where pages are for something else, and where the objects of a region die.
-use Rattle.std.proofs.Common.{◌≡◌, ◌≢◌, ◌⊎◌, ℕ, zero, suc, ◌+◌, ◌-◌, ◌<◌, ◌≤◌, Bool, true, false, List, [], ◌∷◌, ◌++◌, length, map, Option, Some, None, cond, refl, sym, ap, subst, ◌∙◌, inl, inr, arith, nat_eq}
+use Rattle.std.proofs.Common.{◌≡◌, ◌≢◌, ◌⊎◌, ℕ, zero, suc, ◌<◌, Bool, true, false, List, [], ◌∷◌, Option, Some, None, cond, refl, sym, ap, subst, ◌∙◌, inl, inr, arith, nat_eq}
 use Rattle.std.specs.Prelude.{slice_get, ◌&&◌}
 use Rattle.std.specs.Option.{option_map}
-use Rattle.std.proofs.lemmas.Bool.{cases_eq, cases_Bool, eqb-true, eq-eqb}
+use Rattle.std.proofs.lemmas.Bool.{cases_Bool, eqb-true, eq-eqb}
 use Rattle.std.proofs.lemmas.Option.{same_Some, slice_get-map}
 use Rattle.std.proofs.lemmas.List.{length-map}
 use Rattle.vale_page.specs.PageState.{PageState, IsPage, body_of, body_at, generation_at, level_at}
-use Rattle.vale_base.specs.World.{Region, Freeze, Isolate, Object, World, Lives, IsDead, region_eq, moved, relabelled, unless_of, cleared}
+use Rattle.vale_base.specs.World.{Region, Freeze, Isolate, Object, World, Lives, IsDead, region_eq, moved, relabelled, cleared}
 use Rattle.vale_heap.specs.declared.body.Place.{Place}
 use Rattle.vale_heap.specs.declared.body.Body.{Body}
 use Rattle.vale_heap.specs.declared.seat.Seat.{Seat}
@@ -15,7 +15,7 @@ use Rattle.vale_heap.specs.declared.seat.Home.TheVariants.{Spare, Open, Kept}
 use Rattle.vale_heap.specs.HeapState.{home_eq, rehomed, death_count, IsEmptied, IsClearedSeat}
 use Rattle.vale_heap.specs.Standing.{HasPlace, IsRegion, Holds, IsNamed, StandsAt}
 use Rattle.vale_page.proofs.PageLaws.{at_body, at_generation, generation-le-level}
-use Rattle.vale_heap.proofs.PutLaws.{same_some, name_cases, got_within}
+use Rattle.vale_heap.proofs.PutLaws.{same_some}
 
 -- ---- what pages are for
 
@@ -220,7 +220,11 @@ module _ (seats new_seats : ℕ → Option Seat) (low : ℕ → ℕ → ℕ) (aw
   clear_holds place object stays h = record {
     seat = h.seat;
     there = stays_seat of (seats place.frame) (new_seats place.frame) h.seat (each place.frame) h.there (agree h.seat.home object.region h.region ∙ stays);
-    body = h.body; at = h.at; kind = h.kind; cells = h.cells; region = h.region;
+    body = h.body;
+    at = h.at;
+    kind = h.kind;
+    cells = h.cells;
+    region = h.region;
   }
 
   -- a name that died in this clearing

@@ -1,10 +1,10 @@
 -- How standing is kept where a body is put into a free slot.
-use Rattle.std.proofs.Common.{◌≡◌, ◌≢◌, ◌⊎◌, ℕ, zero, suc, ◌+◌, ◌-◌, ◌<◌, ◌≤◌, ◌^◌, Bool, true, false, List, [], ◌∷◌, ◌++◌, length, get_or, set, Option, Some, None, is_some, cond, count_by, refl, sym, ap, subst, ◌∙◌, inl, inr, arith, replicate, nat_eq, length-append}
+use Rattle.std.proofs.Common.{◌≡◌, ◌≢◌, ◌⊎◌, ℕ, zero, suc, ◌+◌, ◌<◌, ◌^◌, Bool, true, false, List, [], ◌∷◌, ◌++◌, length, get_or, set, Option, Some, None, cond, refl, sym, ap, subst, ◌∙◌, inl, inr, arith, replicate, nat_eq, length-append}
 use Rattle.std.specs.Prelude.{slice_get}
 use Rattle.std.proofs.lemmas.Bool.{cases_eq, cases_lt, eq-eqb}
 use Rattle.std.proofs.lemmas.Option.{same_Some}
-use Rattle.std.proofs.lemmas.List.{length-set, get_or-set_same, get_or-set_other, get_or-replicate, get_or_past, length-replicate}
-use Rattle.vale_page.specs.PageState.{PageState, IsPage, IsFree, body_of, body_at, generation_at, retired_at, level_at, with_body, after_death}
+use Rattle.std.proofs.lemmas.List.{get_or-set_same, get_or-set_other, get_or-replicate, get_or_past, length-replicate}
+use Rattle.vale_page.specs.PageState.{PageState, IsPage, IsFree, body_of, body_at, generation_at, level_at, with_body}
 use Rattle.vale_page.proofs.PageLaws.{page_with_body}
 use Rattle.vale_heap.specs.declared.body.Place.{Place}
 use Rattle.vale_heap.specs.declared.body.Cell.{Cell}
@@ -12,10 +12,9 @@ use Rattle.vale_heap.specs.declared.body.Cell.TheVariants.{Int, Truth, Text, Own
 use Rattle.vale_heap.specs.declared.body.Body.{Body}
 use Rattle.vale_heap.specs.declared.seat.Seat.{Seat}
 use Rattle.vale_heap.specs.declared.seat.Home.{Home}
-use Rattle.vale_heap.specs.declared.seat.Home.TheVariants.{Spare, Open, Kept}
+use Rattle.vale_heap.specs.declared.seat.Home.TheVariants.{Open, Kept}
 use Rattle.vale_base.specs.World.{Value, Region, Freeze, Isolate, Object, World, Lives, IsDead}
 use Rattle.vale_base.specs.World.{Int as number, Truth as truth, Text as text, Own as owner, Ref as reference, Iso as isolate}
-use Rattle.vale_heap.specs.HeapState.{HeapState, seat_at}
 use Rattle.vale_heap.specs.Standing.{HasPlace, Denotes, DenoteAll, IsRegion, Holds, IsNamed, StandsAt}
 
 -- a list of nothing has no seat

@@ -1,23 +1,18 @@
 -- Laws of the calls that open and close regions.
-use Rattle.std.proofs.Common.{◌≡◌, ◌≢◌, ◌⊎◌, ℕ, zero, suc, ◌+◌, ◌-◌, ◌<◌, ◌≤◌, Bool, true, false, List, [], ◌∷◌, length, get_or, set, map, count_by, Option, Some, None, cond, max, refl, sym, ap, subst, ◌∙◌, inl, inr, arith, nat_eq}
-use Rattle.std.specs.Option.{option_or, option_map}
-use Rattle.std.proofs.lemmas.Bool.{cases_eq, cases_lt, cases_Bool, eqb-true, eqb-false, eq-eqb, ne_eqb}
+use Rattle.std.proofs.Common.{◌≡◌, ◌≢◌, ℕ, zero, suc, ◌+◌, ◌-◌, ◌<◌, Bool, true, false, List, [], ◌∷◌, get_or, set, map, count_by, Option, Some, None, cond, refl, sym, ap, subst, ◌∙◌, inl, inr, arith}
+use Rattle.std.specs.Option.{option_map}
+use Rattle.std.proofs.lemmas.Bool.{cases_eq}
 use Rattle.std.proofs.lemmas.Option.{same_Some}
-use Rattle.std.proofs.lemmas.List.{length-map, length-set, get_or-set_same, get_or-set_other, map-set, set-get_or, ext_get_or}
+use Rattle.std.proofs.lemmas.List.{length-map, get_or-set_same, get_or-set_other, map-set, set-get_or, ext_get_or}
 use Rattle.std.proofs.lemmas.List.Sums.{sum_by-set}
-use Rattle.vale_page.specs.PageState.{PageState, generation_at, live_count}
-use Rattle.vale_page.proofs.PageLaws.{no_body}
-use Rattle.vale_base.specs.World.{Region, Freeze, Isolate, World, relabelled, cleared}
+use Rattle.vale_page.specs.PageState.{live_count}
 use Rattle.vale_heap.specs.declared.body.Place.{Place}
-use Rattle.vale_heap.specs.declared.body.Body.{Body}
 use Rattle.vale_heap.specs.declared.seat.Seat.{Seat}
 use Rattle.vale_heap.specs.declared.seat.Home.{Home}
 use Rattle.vale_heap.specs.declared.seat.Home.TheVariants.{Spare, Open, Kept}
-use Rattle.vale_heap.specs.HeapState.{HeapState, seat_at, innermost, LivesIn, IsRoot, FitsHome, IsSeat, IsHeap, with_seat, with_spare, with_home, with_moved, with_rehomed, with_region, without_region, with_merged, home_eq, rehomed, IsFor, NoneFor, IsMovable, IsExit, ClearsPage, IsEmptied, IsClearedSeat, IsCleared, IsOfHand, KnowsFrames, OfHand, KeepsFrames}
-use Rattle.vale_heap.specs.Standing.{HasPlace, IsRegion, StandsAt, Stands, around, home_within, seat_within, seats_of, seat_in, inner_freeze, outer_freeze, StandsSame, StandsMerged, StandsKept, StandsCleared, StandsIsoMerged}
-use Rattle.vale_heap.proofs.PutLaws.{same_some}
-use Rattle.vale_heap.proofs.HeapLaws.{CanSeat, heap_with_seat, can_leave, can_join, root_elsewhere, root_home, open_kept, spare_kept, got_lt, set_some}
-use Rattle.vale_heap.proofs.MoveLaws.{home_eq-refl, home_eq-true, home_eq-false, agree_open, agree_kept, rehomed_some, rehome_stands, clear_stands}
+use Rattle.vale_heap.specs.HeapState.{HeapState, seat_at, innermost, LivesIn, IsRoot, FitsHome, IsHeap, with_seat, with_home, with_moved, with_rehomed, with_region, without_region, with_merged, home_eq, rehomed, IsFor, NoneFor, IsMovable, IsExit}
+use Rattle.vale_heap.proofs.HeapLaws.{heap_with_seat, can_leave, can_join, root_elsewhere, root_home, open_kept, got_lt, set_some}
+use Rattle.vale_heap.proofs.MoveLaws.{home_eq-refl, home_eq-false}
 
 -- ---- one page moves
 
@@ -68,9 +63,9 @@ pub map_moved : (h : HeapState) (frame : ℕ) (from to : Home) → IsFor from (s
 map_moved h frame from to is =
     let seat = is.0 in
     let moved : rehomed from to (option_map (with_home to) (seat_at h frame)) ≡ Some (with_home to seat) =
-        ap (λ o. rehomed from to (option_map (with_home to) o)) is.1 ∙ ap (λ home. Some (record seat { home = home })) (either_same (home_eq to from) to) in
+    ap (λ o. rehomed from to (option_map (with_home to) o)) is.1 ∙ ap (λ home. Some (record seat { home = home })) (either_same (home_eq to from) to) in
     let was : get_or (map (rehomed from to) h.seats) frame None ≡ Some (with_home to seat) =
-        seat_moved h.seats from to frame ∙ ap (rehomed from to) is.1 ∙ ap (λ b. Some (record seat { home = cond b to seat.home })) (home_eq-refl seat.home from is.2) in
+    seat_moved h.seats from to frame ∙ ap (rehomed from to) is.1 ∙ ap (λ b. Some (record seat { home = cond b to seat.home })) (home_eq-refl seat.home from is.2) in
     map-set (rehomed from to) h.seats frame (option_map (with_home to) (seat_at h frame))
     ∙ ap (set (map (rehomed from to) h.seats) frame) (moved ∙ sym was)
     ∙ set-get_or (map (rehomed from to) h.seats) frame None
@@ -210,7 +205,7 @@ merged_is old now iso is alone =
     let last : HeapState = with_moved now iso.frame (Open (innermost old)) in
     let none : NoneFor (Kept iso) (with_moved now iso.frame (Open (innermost old))) = none_left in
     let seats : last.seats ≡ map (rehomed (Kept iso) (Open (innermost old))) old.seats =
-        sym (map_none last (Kept iso) (Open (innermost old)) none) ∙ map_moved now iso.frame (Kept iso) (Open (innermost old)) (is.root.seat, is.root.there, is.root.home_is) ∙ is.maps in
+    sym (map_none last (Kept iso) (Open (innermost old)) none) ∙ map_moved now iso.frame (Kept iso) (Open (innermost old)) (is.root.seat, is.root.there, is.root.home_is) ∙ is.maps in
     λ i. record { seats = seats i; regions = is.regions i; depth = is.depth i }
   where
     none_left : NoneFor (Kept iso) (with_moved now iso.frame (Open (innermost old)))
@@ -260,7 +255,7 @@ pub closed_is : (old h now new : HeapState) (to : Home) → map (rehomed (Open (
 closed_is old h now new to maps regions depth now_is new_is =
     let inner : innermost h ≡ innermost old = ap (λ n. n - 1) regions in
     let seats : new.seats ≡ map (rehomed (Open (innermost old)) to) old.seats =
-        ap (λ (x : HeapState). x.seats) new_is ∙ ap (λ (x : HeapState). x.seats) now_is ∙ ap (λ n. map (rehomed (Open n) to) h.seats) inner ∙ maps in
+    ap (λ (x : HeapState). x.seats) new_is ∙ ap (λ (x : HeapState). x.seats) now_is ∙ ap (λ n. map (rehomed (Open n) to) h.seats) inner ∙ maps in
     let new_regions : new.regions ≡ innermost old = ap (λ (x : HeapState). x.regions) new_is ∙ ap innermost now_is ∙ inner in
     let new_depth : new.depth ≡ old.depth = ap (λ (x : HeapState). x.depth) new_is ∙ ap (λ (x : HeapState). x.depth) now_is ∙ depth in
     λ i. record { seats = seats i; regions = new_regions i; depth = new_depth i }

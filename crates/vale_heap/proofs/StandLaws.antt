@@ -1,26 +1,24 @@
 -- What a heap stands for after each of its calls.
-use Rattle.std.proofs.Common.{◌≡◌, ◌≢◌, ◌⊎◌, ℕ, zero, suc, ◌+◌, ◌-◌, ◌<◌, ◌≤◌, ◌^◌, Bool, true, false, List, [], ◌∷◌, ◌++◌, length, get_or, set, Option, Some, None, is_some, cond, refl, sym, ap, subst, ◌∙◌, inl, inr, arith, nat_eq}
+use Rattle.std.proofs.Common.{◌≡◌, ◌⊎◌, ℕ, ◌+◌, ◌<◌, ◌≤◌, Bool, true, false, List, [], ◌∷◌, ◌++◌, length, Option, Some, None, cond, refl, sym, ap, subst, ◌∙◌, inl, inr, arith, nat_eq}
 use Rattle.std.specs.Option.{option_or, option_map}
-use Rattle.std.specs.Prelude.{◌&&◌, nat_lt, IsSome}
-use Rattle.std.proofs.lemmas.Bool.{cases_eq, cases_lt, eqb-true, eqb-false}
-use Rattle.std.proofs.lemmas.Option.{same_Some}
-use Rattle.std.proofs.lemmas.List.{length-set, get_or-set_same, get_or-set_other, get_or_past}
-use Rattle.vale_page.specs.PageState.{PageState, IsPage, IsFree, IsBlankAt, body_of, body_at, generation_at, live_count, free_count, with_body, after_death}
+use Rattle.std.specs.Prelude.{IsSome}
+use Rattle.std.proofs.lemmas.Bool.{cases_eq, eqb-true}
+use Rattle.std.proofs.lemmas.List.{get_or-set_same, get_or-set_other}
+use Rattle.vale_page.specs.PageState.{PageState, IsBlankAt, body_of, body_at, live_count, with_body, after_death}
 use Rattle.vale_page.proofs.PageLaws.{at_body, no_body}
-use Rattle.vale_table.specs.Lending.{IsClaimedAt}
-use Rattle.vale_base.specs.World.{Value, Region, Freeze, Isolate, Object, World, Lives, IsDead, born, died, written}
+use Rattle.vale_base.specs.World.{Value, Object, World, born, died, written}
 use Rattle.vale_heap.specs.declared.body.Place.{Place}
 use Rattle.vale_heap.specs.declared.body.Body.{Body}
 use Rattle.vale_heap.specs.declared.seat.Seat.{Seat}
 use Rattle.vale_heap.specs.declared.seat.Home.{Home}
 use Rattle.vale_heap.specs.declared.seat.Home.TheVariants.{Spare, Open, Kept}
-use Rattle.vale_heap.specs.HeapState.{HeapState, seat_at, body_in, look_in, innermost, IsRoot, FitsHome, IsSeat, IsHeap, serves, has_room, with_seat, with_spare, PutsIn, IsPut, EndsIn, IsEnded, home_after, KnowsFrames, Lent, IsMade, IsMadeByClaim, IsMadeInHeap}
+use Rattle.vale_heap.specs.HeapState.{HeapState, seat_at, body_in, look_in, innermost, IsRoot, FitsHome, IsHeap, serves, with_seat, with_spare, IsPut, IsEnded, KnowsFrames, Lent, IsMade}
 use Rattle.vale_heap.specs.HeapLends.{with_written, changed}
-use Rattle.vale_heap.specs.Standing.{HasPlace, DenoteAll, StandsAt, Stands, around, home_within, seat_within, seats_of, seat_in, inner_freeze, StandsMade, StandsEnded, StandsLooked, StandsFound, StandsChanged, LookMeans, HereMeans, look_over, KnowsBelow, KnowsAway, LowIsFloor}
-use Rattle.vale_heap.proofs.PutLaws.{IsOneChange, CanPut, put_stands, same_some}
-use Rattle.vale_heap.proofs.EndLaws.{CanEnd, end_stands, spare_stands, look_law}
-use Rattle.vale_heap.proofs.ChangeLaws.{CanWrite, write_stands}
-use Rattle.vale_heap.proofs.HeapLaws.{CanSeat, heap_with_seat, heap_put, heap_ended, heap_spare, can_write, left_seat, got_lt, set_some}
+use Rattle.vale_heap.specs.Standing.{DenoteAll, StandsAt, Stands, around, home_within, seat_within, seats_of, seat_in, inner_freeze, StandsMade, StandsEnded, StandsLooked, StandsFound, StandsChanged, LookMeans, HereMeans, look_over, KnowsBelow, KnowsAway, LowIsFloor}
+use Rattle.vale_heap.proofs.PutLaws.{IsOneChange, put_stands}
+use Rattle.vale_heap.proofs.EndLaws.{end_stands, spare_stands, look_law}
+use Rattle.vale_heap.proofs.ChangeLaws.{write_stands}
+use Rattle.vale_heap.proofs.HeapLaws.{heap_with_seat, heap_put, heap_ended, heap_spare, can_write, left_seat, got_lt}
 
 -- ---- one page is another now: so it is with what is below
 

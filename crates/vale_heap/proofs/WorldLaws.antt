@@ -1,23 +1,23 @@
 -- What a heap stands for after the calls that open and close regions.
-use Rattle.std.proofs.Common.{◌≡◌, ◌≢◌, ◌⊎◌, ℕ, zero, suc, ◌+◌, ◌-◌, ◌<◌, ◌≤◌, Bool, true, false, List, [], ◌∷◌, length, get_or, map, count_by, Option, Some, None, is_some, cond, refl, sym, ap, subst, ◌∙◌, inl, inr, arith, nat_eq}
+use Rattle.std.proofs.Common.{◌≡◌, ◌≢◌, ◌⊎◌, ℕ, suc, ◌+◌, ◌-◌, ◌<◌, ◌≤◌, Bool, true, false, List, [], ◌∷◌, length, get_or, map, count_by, Option, Some, None, is_some, cond, refl, sym, ap, subst, ◌∙◌, inl, inr, arith}
 use Rattle.std.specs.Option.{option_or, option_map}
-use Rattle.std.proofs.lemmas.Bool.{cases_eq, cases_Bool, eqb-true, eqb-false, eq-eqb, ne_eqb}
+use Rattle.std.proofs.lemmas.Bool.{cases_eq, cases_Bool, eqb-true, eq-eqb, ne_eqb}
 use Rattle.std.proofs.lemmas.Option.{same_Some}
 use Rattle.std.proofs.lemmas.List.{length-map, length-set, get_or-set_same, get_or-set_other}
 use Rattle.std.proofs.lemmas.List.Sums.{sum_by-cons}
-use Rattle.vale_page.specs.PageState.{PageState, generation_at, body_of, live_count}
-use Rattle.vale_base.specs.World.{Region, Freeze, Isolate, World, region_eq, relabelled, cleared}
+use Rattle.vale_page.specs.PageState.{PageState, generation_at, live_count}
+use Rattle.vale_base.specs.World.{Region, Isolate, World, region_eq, relabelled}
 use Rattle.vale_heap.specs.declared.body.Place.{Place}
 use Rattle.vale_heap.specs.declared.body.Body.{Body}
 use Rattle.vale_heap.specs.declared.seat.Seat.{Seat}
 use Rattle.vale_heap.specs.declared.seat.Home.{Home}
 use Rattle.vale_heap.specs.declared.seat.Home.TheVariants.{Spare, Open, Kept}
-use Rattle.vale_heap.specs.HeapState.{HeapState, seat_at, innermost, IsRoot, FitsHome, IsSeat, IsHeap, with_seat, with_spare, with_region, without_region, with_merged, home_eq, rehomed, IsFor, NoneFor, ClearsSeat, ClearsPage, IsEmptied, IsClearedSeat, IsCleared, IsOfHand, KnowsFrames, OfHand, KeepsFrames}
-use Rattle.vale_heap.specs.Standing.{HasPlace, IsRegion, StandsAt, Stands, around, home_within, seat_within, seats_of, seat_in, inner_freeze, outer_freeze, StandsSame, StandsMerged, StandsKept, StandsCleared, StandsIsoMerged}
+use Rattle.vale_heap.specs.HeapState.{HeapState, seat_at, innermost, IsRoot, FitsHome, IsHeap, with_spare, with_region, without_region, with_merged, home_eq, rehomed, IsFor, NoneFor, ClearsPage, IsEmptied, IsClearedSeat, IsCleared, KeepsFrames}
+use Rattle.vale_heap.specs.Standing.{IsRegion, StandsAt, Stands, around, home_within, seat_within, seats_of, seat_in, inner_freeze, outer_freeze, StandsSame, StandsMerged, StandsKept, StandsCleared, StandsIsoMerged}
 use Rattle.vale_heap.proofs.PutLaws.{same_some}
-use Rattle.vale_heap.proofs.HeapLaws.{CanSeat, heap_with_seat, root_home, open_kept, spare_kept, got_lt}
+use Rattle.vale_heap.proofs.HeapLaws.{heap_with_seat, root_home, open_kept, spare_kept, got_lt}
 use Rattle.vale_heap.proofs.MoveLaws.{home_eq-refl, home_eq-true, agree_open, agree_kept, rehomed_some, rehome_stands, clear_stands}
-use Rattle.vale_heap.proofs.RegionLaws.{seat_moved, fewer_with, pages_for, is_for}
+use Rattle.vale_heap.proofs.RegionLaws.{seat_moved, fewer_with, pages_for}
 
 -- ---- depths counted from the outermost region of the heap below
 
@@ -134,11 +134,14 @@ cleared_seat base inner (Some s) new below (inr emptied) none =
 was_there : (of : Home) (old new : Option Seat) (seat : Seat) → IsClearedSeat of old new → new ≡ Some seat → (was : Seat) × (old ≡ Some was) × ((slot : ℕ) → slot < 64 → generation_at was.page slot ≤ generation_at seat.page slot)
 was_there of None new seat is e = absurd (let clash : None ≡ Some seat = sym is ∙ e in cc)
 was_there of (Some was) new seat (inl same) e = (was, refl, λ slot h. let g : generation_at was.page slot ≡ generation_at seat.page slot = ap (λ (s : Seat). generation_at s.page slot) (same_Some _ _ (sym same.1 ∙ e)) in omega (arith, g))
-was_there of (Some was) new seat (inr emptied) e =
-    (was, refl, λ slot h.
-        let g : generation_at emptied.1 slot ≡ generation_at seat.page slot = ap (λ (s : Seat). generation_at s.page slot) (same_Some _ _ (sym emptied.2 ∙ e)) in
-        let rising = emptied.3.rising slot h in
-        omega (arith, g, rising))
+was_there of (Some was) new seat (inr emptied) e = (
+  was,
+  refl,
+  λ slot h.
+      let g : generation_at emptied.1 slot ≡ generation_at seat.page slot = ap (λ (s : Seat). generation_at s.page slot) (same_Some _ _ (sym emptied.2 ∙ e)) in
+      let rising = emptied.3.rising slot h in
+      omega (arith, g, rising),
+)
 
 pub cleared_law : (old new : HeapState) → IsHeap new → IsCleared old new → StandsCleared old new
 cleared_law old new ok is below low away names world stood = record {
@@ -166,8 +169,8 @@ keeps_by old new long each = record {
 pub moved_keeps : (old new : HeapState) (from to : Home) → new.seats ≡ map (rehomed from to) old.seats → KeepsFrames old new
 moved_keeps old new from to are =
     keeps_by old new (ap length are ∙ length-map old.seats (rehomed from to)) (λ f s e.
-        let was = rehomed_some from to (get_or old.seats f None) s (sym (ap (λ xs. get_or xs f None) are ∙ seat_moved old.seats from to f) ∙ e) in
-        (was.0, was.1, λ slot h. let g : generation_at was.0.page slot ≡ generation_at s.page slot = ap (λ (x : Seat). generation_at x.page slot) was.2 in omega (arith, g)))
+    let was = rehomed_some from to (get_or old.seats f None) s (sym (ap (λ xs. get_or xs f None) are ∙ seat_moved old.seats from to f) ∙ e) in
+    (was.0, was.1, λ slot h. let g : generation_at was.0.page slot ≡ generation_at s.page slot = ap (λ (x : Seat). generation_at x.page slot) was.2 in omega (arith, g)))
 
 pub cleared_keeps : (old new : HeapState) → IsCleared old new → KeepsFrames old new
 cleared_keeps old new is = keeps_by old new is.as_long (λ f s e. was_there (Open (innermost old)) (seat_at old f) (seat_at new f) s (is.each f) e)

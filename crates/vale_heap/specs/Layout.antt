@@ -1,8 +1,7 @@
 -- How a heap keeps its pages on lists: the spare pages that can take an object, the other pages of each isolate beside its root's,
 -- and for each open region the pages that can take an object and those that can't.
-use Rattle.std.specs.Prelude.{◌≡◌, ℕ, ◌+◌, ◌*◌, ◌<◌, ◌^◌, max, List, length, Option, Some, None, Bool, true, false, slice_index_or, nat_lt, ◌==◌, if◌then◌else◌}
+use Rattle.std.specs.Prelude.{◌≡◌, ℕ, ◌+◌, ◌*◌, ◌<◌, ◌^◌, max, length, Option, Some, None, Bool, slice_index_or, nat_lt, ◌==◌, if◌then◌else◌}
 use Rattle.vale_page.specs.PageState.{free_count}
-use Rattle.vale_heap.specs.declared.body.Place.{Place}
 use Rattle.vale_heap.specs.declared.seat.Seat.{Seat}
 use Rattle.vale_heap.specs.declared.seat.Home.{Home}
 use Rattle.vale_heap.specs.declared.seat.Home.TheVariants.{Spare, Open, Kept}

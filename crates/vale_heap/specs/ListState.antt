@@ -1,6 +1,6 @@
 -- What a contract sees of lists that share their items: for each item the list that it is on, how many lists there are, and how
 -- many there may be at most.
-use Rattle.std.specs.Prelude.{◌≡◌, ◌⊎◌, ℕ, ◌+◌, ◌-◌, ◌<◌, ◌≤◌, List, length, Option, Some, None, Bool, slice_index, slice_index_or, nat_lt, if◌then◌else◌}
+use Rattle.std.specs.Prelude.{◌≡◌, ◌⊎◌, ℕ, ◌+◌, ◌-◌, ◌<◌, ◌≤◌, List, length, Option, Some, None, slice_index, slice_index_or, nat_lt, if◌then◌else◌}
 
 pub record ListState : Type 0 where
   pub on : List (Option ℕ)

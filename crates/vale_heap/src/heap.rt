@@ -10,7 +10,9 @@ ghost use Rattle.vale_heap.specs.Standing.{look_over, StandsMade, StandsLooked, 
 
 use crate::body::{Body, Place};
 use crate::lists::Lists;
-use crate::seat::{Home, Seat, clear_in, end_in, put_in, relist, roomy_list, seat_body_mut, seat_mut, set_home};
+use crate::seat::{
+    Home, Seat, clear_in, end_in, put_in, relist, roomy_list, seat_body_mut, seat_mut, set_home,
+};
 use std::alloc::Global;
 use std::marker::Model;
 use vale_base::Memory;

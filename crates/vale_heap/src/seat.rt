@@ -46,13 +46,7 @@ fn list_of(frames: usize, frame: usize, home: Home, room: bool) -> Option<usize>
     ensures { result ≡ list_of frames frame home room }
 {
     match home {
-        Home::Spare => {
-            if room {
-                Some(frames)
-            } else {
-                None
-            }
-        }
+        Home::Spare => { if room { Some(frames) } else { None } }
         Home::Open(region) => {
             let list = roomy_list(frames, region);
             if room { Some(list) } else { Some(list + 1) }

@@ -1,4 +1,4 @@
-use Rattle.std.proofs.Common.{◌≡◌, ◌∙◌, ap, arith}
+use Rattle.std.proofs.Common.{◌∙◌, ap, arith}
 use Rattle.vale_page.specs.PageState.{body_at}
 use Rattle.vale_heap.proofs.ClearLaws.{emptied_next}
 use Rattle.vale_heap.proofs.seat.clear.Goals as goal

@@ -1,4 +1,4 @@
-use Rattle.std.proofs.Common.{◌≡◌, ◌<◌, sym, ◌∙◌, get_or, Some, None, length}
+use Rattle.std.proofs.Common.{◌≡◌, sym, ◌∙◌, get_or, Some, None}
 use Rattle.std.proofs.lemmas.List.{get_or_read}
 use Rattle.vale_heap.specs.HeapState.{HeapState}
 use Rattle.vale_heap.proofs.HeapLaws.{got_lt}

@@ -1,4 +1,4 @@
-use Rattle.std.proofs.Common.{◌≡◌, Option, Some, None, sym, refl, ◌∙◌, ap, arith}
+use Rattle.std.proofs.Common.{◌≡◌, Option, Some, None, sym, refl, arith}
 use Rattle.std.proofs.lemmas.Grind.{common_steps}
 use Rattle.vale_heap.specs.declared.body.Body.{Body}
 use Rattle.vale_heap.specs.HeapState.{look_in}
@@ -19,8 +19,7 @@ returns-then-is_some c = (
 pub returns-else-is_some : goal.returns-else-is_some
 returns-else-is_some c =
     let none : Option Body = None in
-    let value : none ≡ look_in c.args.self.now c.args.at = grind (arith, common_steps) in
-    (
+    let value : none ≡ look_in c.args.self.now c.args.at = grind (arith, common_steps) in (
       refl,
       record {
         writes_back = tt;

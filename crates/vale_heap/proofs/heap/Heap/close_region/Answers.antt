@@ -28,7 +28,7 @@ invariant_of-self c =
     let many : 1 < h.regions = rw (← c.self.view_is) at c.requires.many in
     let none : NoneFor (Open (innermost h)) h = rw (← c.self.view_is) at c.requires.none in
     let lists : c.remove_last-2.new.self ≡ record l { lists = l.lists - 2 } =
-        c.remove_last-2.ensures ∙ ap (λ (s : ListState). record s { lists = s.lists - 1 }) c.remove_last.ensures ∙ ap (λ n. record l { lists = n }) (omega arith) in
+    c.remove_last-2.ensures ∙ ap (λ (s : ListState). record s { lists = s.lists - 1 }) c.remove_last.ensures ∙ ap (λ n. record l { lists = n }) (omega arith) in
     subst (IsLaidOut (record h { regions = innermost h })) (sym lists) (laid_closed h l c.self.invariant many (heap_closed h c.self.invariant.heap many none))
 
 pub returns-clause-sound : goal.returns-clause-sound

@@ -1,7 +1,7 @@
-use Rattle.std.proofs.Common.{◌≡◌, ◌≢◌, ◌<◌, ◌-◌, sym, refl, ◌∙◌, ap, subst, arith}
+use Rattle.std.proofs.Common.{◌≡◌, ◌≢◌, ◌-◌, sym, ◌∙◌, ap, subst, arith}
 use Rattle.vale_heap.specs.declared.seat.Home.TheVariants.{Open}
 use Rattle.vale_heap.specs.HeapState.{HeapState, IsFor, NoneFor, seat_at, innermost}
-use Rattle.vale_heap.proofs.RegionLaws.{emptying_starts, emptying_goes, emptied_is, can_exit, fewer_moved, exit_apart, IsEmptying, pages_for}
+use Rattle.vale_heap.proofs.RegionLaws.{emptying_starts, emptying_goes, emptied_is, can_exit, fewer_moved, exit_apart}
 use Rattle.vale_heap.proofs.heap.Heap.empty_region.Goals as goal
 
 pub loop-frame-init : goal.loop-frame-init

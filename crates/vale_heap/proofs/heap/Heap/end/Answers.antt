@@ -1,7 +1,7 @@
 use Rattle.std.proofs.Common.{◌≡◌, ◌<◌, arith, sym, ap, subst, ◌∙◌, get_or, Some, None, length, refl}
 use Rattle.std.proofs.lemmas.List.{get_or_read}
 use Rattle.std.proofs.lemmas.Grind.{common_steps}
-use Rattle.vale_heap.specs.HeapState.{HeapState, body_in, look_in, EndsIn, IsEnded, IsRoot, IsHeap, KeepsFrames, with_seat}
+use Rattle.vale_heap.specs.HeapState.{HeapState, body_in, look_in, EndsIn, IsEnded, IsRoot, KeepsFrames, with_seat}
 use Rattle.vale_heap.proofs.HeapLaws.{heap_ended}
 use Rattle.vale_heap.proofs.LayoutLaws.{relisted_law, relist_within}
 use Rattle.vale_heap.proofs.StandLaws.{found_law, end_law}

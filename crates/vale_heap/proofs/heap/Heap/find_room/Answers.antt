@@ -1,6 +1,6 @@
-use Rattle.std.proofs.Common.{◌≡◌, ◌≢◌, ◌<◌, ◌-◌, ℕ, Some, None, Option, length, sym, ◌∙◌, ap, arith, subst}
-use Rattle.vale_heap.specs.HeapState.{HeapState, HasNoRoom, innermost, has_room, seat_at}
-use Rattle.vale_heap.specs.Layout.{roomy_list, spare_list}
+use Rattle.std.proofs.Common.{◌≡◌, ◌≢◌, ◌<◌, ℕ, Some, length, ◌∙◌, ap, arith}
+use Rattle.vale_heap.specs.HeapState.{HeapState, innermost}
+use Rattle.vale_heap.specs.Layout.{roomy_list}
 use Rattle.vale_heap.specs.ListState.{list_at}
 use Rattle.vale_heap.proofs.LayoutLaws.{roomy_has_room, first_spare, no_room_law}
 use Rattle.vale_heap.proofs.heap.Heap.find_room.Goals as goal

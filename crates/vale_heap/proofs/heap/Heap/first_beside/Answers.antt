@@ -1,4 +1,3 @@
-use Rattle.std.proofs.Common.{◌≡◌}
 use Rattle.vale_heap.specs.HeapState.{HeapState, IsRoot}
 use Rattle.vale_heap.proofs.LayoutLaws.{first_beside, none_beside_law}
 use Rattle.vale_heap.proofs.heap.Heap.first_beside.Goals as goal

@@ -1,4 +1,4 @@
-use Rattle.std.proofs.Common.{◌≡◌, ◌≢◌, ◌+◌, ◌<◌, ℕ, Some, None, length, ◌∙◌, ap, arith}
+use Rattle.std.proofs.Common.{◌≡◌, ◌≢◌, ◌<◌, ℕ, Some, length, ◌∙◌, ap, arith}
 use Rattle.vale_heap.specs.HeapState.{HeapState}
 use Rattle.vale_heap.specs.Layout.{roomy_list}
 use Rattle.vale_heap.specs.ListState.{list_at}

@@ -1,6 +1,6 @@
-use Rattle.std.proofs.Common.{◌≡◌, ◌-◌, ◌∙◌, ap, sym, subst}
+use Rattle.std.proofs.Common.{◌-◌, ◌∙◌, ap, sym, subst}
 use Rattle.vale_heap.specs.declared.seat.Home.TheVariants.{Open}
-use Rattle.vale_heap.specs.HeapState.{HeapState, innermost, seat_at, IsFor, NoneFor}
+use Rattle.vale_heap.specs.HeapState.{innermost, seat_at, IsFor, NoneFor}
 use Rattle.vale_heap.proofs.WorldLaws.{clearing_goes, cleared_is, cleared_law, cleared_keeps}
 use Rattle.vale_heap.proofs.heap.Heap.freeze_clear.Goals as goal
 

@@ -13,7 +13,7 @@ invariant_of-self c =
     let l = c.self.inside.lists in
     let within : h.regions < h.depth = rw (← c.self.view_is) at c.requires in
     let lists : c.add-2.new.self ≡ record l { lists = l.lists + 2 } =
-        c.add-2.ensures ∙ ap (λ (s : ListState). record s { lists = s.lists + 1 }) c.add.ensures ∙ ap (λ n. record l { lists = n }) (omega arith) in
+    c.add-2.ensures ∙ ap (λ (s : ListState). record s { lists = s.lists + 1 }) c.add.ensures ∙ ap (λ n. record l { lists = n }) (omega arith) in
     subst (IsLaidOut (with_region h)) (sym lists) (laid_opened h l c.self.invariant (heap_opened h c.self.invariant.heap within))
 
 pub returns-clause-stands : goal.returns-clause-stands

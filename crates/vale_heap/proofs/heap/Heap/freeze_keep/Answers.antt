@@ -1,6 +1,6 @@
 use Rattle.std.proofs.Common.{◌≡◌, ◌∙◌, map, ap, sym, subst}
 use Rattle.vale_heap.specs.declared.seat.Home.TheVariants.{Open, Kept}
-use Rattle.vale_heap.specs.HeapState.{HeapState, innermost, rehomed, with_moved, IsHeap, IsRoot}
+use Rattle.vale_heap.specs.HeapState.{HeapState, innermost, rehomed, IsHeap, IsRoot}
 use Rattle.vale_heap.proofs.RegionLaws.{can_keep, kept_root, map_moved, none_still, closed_is}
 use Rattle.vale_heap.proofs.WorldLaws.{kept_law, moved_keeps}
 use Rattle.vale_heap.proofs.heap.Heap.freeze_keep.Goals as goal
@@ -22,7 +22,7 @@ returns-clause-after c =
     let root = c.args.root in
     let lives = c.requires.root in
     let maps : map (rehomed (Open (innermost now)) (Kept root)) c.rehome.new.self.seats ≡ map (rehomed (Open (innermost now)) (Kept root)) now.seats =
-        ap (λ (h : HeapState). map (rehomed (Open (innermost now)) (Kept root)) h.seats) c.rehome.ensures ∙ map_moved now root.frame (Open (innermost now)) (Kept root) (lives.seat, lives.there, lives.home_is) in
+    ap (λ (h : HeapState). map (rehomed (Open (innermost now)) (Kept root)) h.seats) c.rehome.ensures ∙ map_moved now root.frame (Open (innermost now)) (Kept root) (lives.seat, lives.there, lives.home_is) in
     closed_is now c.rehome.new.self c.empty_region.new.self c.close_region.new.self (Kept root) maps (ap (λ (h : HeapState). h.regions) c.rehome.ensures) (ap (λ (h : HeapState). h.depth) c.rehome.ensures)
     c.empty_region.ensures.after c.close_region.ensures.after
 

@@ -1,5 +1,4 @@
 use Rattle.std.proofs.Common.{◌≡◌, sym, ap, subst, ◌∙◌, inr}
-use Rattle.vale_table.specs.Lending.{IsClaimedAt}
 use Rattle.vale_heap.specs.HeapState.{IsPut, with_spare}
 use Rattle.vale_heap.proofs.StandLaws.{put_law, made_law}
 use Rattle.vale_heap.proofs.HandLaws.{frugal_law, made_of_hand}

@@ -17,8 +17,7 @@ loop-frame-preserved c =
     let inv = c.loop-frame.invariant.0 in
     let now = c.loop-frame.self in
     let inner : c.self.inside.regions - 1 ≡ innermost c.args.self.now = ap innermost c.self.view_is in
-    let is = c.rehome.ensures ∙ ap (λ n. with_moved now c.in-Some.frame (Open n)) inner in
-    (
+    let is = c.rehome.ensures ∙ ap (λ n. with_moved now c.in-Some.frame (Open n)) inner in (
       subst (λ h. IsMerging c.args.self.now h c.args.iso) (sym is) (merging_goes c.args.self.now now c.in-Some.frame c.args.iso inv c.in-Some.ensures.some.0 c.in-Some.ensures.some.1),
       ap Open inner,
     )
@@ -43,7 +42,7 @@ returns-clause-stands c =
     let now = c.loop-frame.self in
     let inner : c.self.inside.regions - 1 ≡ innermost now = ap innermost c.self.view_is ∙ ap (λ n. n - 1) (sym inv.regions) in
     let can : IsMovable now c.args.iso.frame (Open (c.self.inside.regions - 1)) =
-        subst (λ n. IsMovable now c.args.iso.frame (Open n)) (sym inner) (can_merge_root now c.args.iso c.first_beside.ensures.sound inv.root c.in_default.ensures.none) in
+    subst (λ n. IsMovable now c.args.iso.frame (Open n)) (sym inner) (can_merge_root now c.args.iso c.first_beside.ensures.sound inv.root c.in_default.ensures.none) in
     let ok : IsHeap c.rehome-2.new.self = subst IsHeap (sym c.rehome-2.ensures) can.heap in
     iso_law c.args.self.now c.rehome-2.new.self c.args.iso ok c.requires (returns-clause-after c)
 

@@ -1,6 +1,3 @@
-use Rattle.std.proofs.Common.{◌≡◌, ◌<◌, sym, subst}
-use Rattle.vale_heap.specs.HeapState.{HeapState}
-use Rattle.vale_heap.specs.Layout.{IsLaidOut}
 use Rattle.vale_heap.proofs.LayoutLaws.{open_laid}
 use Rattle.vale_heap.proofs.heap.Heap.open.Goals as goal
 

@@ -12,5 +12,5 @@ invariant_of-self c =
     let within : c.args.frame < length h.seats = room_lt h.seats (h.regions - 1) c.args.frame (rw (← c.self.view_is) at c.requires) in
     let read : get_or h.seats c.args.frame None ≡ c.index_mut.result.now = sym (get_or_read _ c.args.frame _ within c.index_mut.ensures.value None) in
     let heap : IsHeap (with_seat h c.args.frame c.put_in-place.new.seat) =
-        subst (λ o. IsHeap (with_seat h c.args.frame o)) (sym puts.now) (heap_with_seat h c.args.frame _ (can_put h c.args.frame c.put_in-place.result.slot puts.seat c.args.body c.self.invariant.heap (read ∙ puts.was) puts.serving puts.free)) in
+    subst (λ o. IsHeap (with_seat h c.args.frame o)) (sym puts.now) (heap_with_seat h c.args.frame _ (can_put h c.args.frame c.put_in-place.result.slot puts.seat c.args.body c.self.invariant.heap (read ∙ puts.was) puts.serving puts.free)) in
     relisted_law h c.self.inside.lists c.relist.new.lists c.args.frame c.put_in-place.new.seat c.deref.result.now c.self.invariant within heap c.deref.ensures.value c.relist.ensures

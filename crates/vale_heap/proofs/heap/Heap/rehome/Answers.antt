@@ -1,7 +1,6 @@
-use Rattle.std.proofs.Common.{◌≡◌, ◌<◌, sym, ◌∙◌, ap, get_or, Some, None, Option, length, subst}
+use Rattle.std.proofs.Common.{◌≡◌, ◌<◌, sym, ◌∙◌, ap, get_or, None, length, subst}
 use Rattle.std.specs.Option.{option_map}
 use Rattle.std.proofs.lemmas.List.{get_or_read}
-use Rattle.vale_heap.specs.declared.seat.Seat.{Seat}
 use Rattle.vale_heap.specs.HeapState.{HeapState, IsMovable, IsHeap, with_seat, with_home}
 use Rattle.vale_heap.proofs.HeapLaws.{got_lt}
 use Rattle.vale_heap.proofs.LayoutLaws.{relisted_law, relist_within}

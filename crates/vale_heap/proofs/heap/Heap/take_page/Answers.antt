@@ -1,8 +1,8 @@
-use Rattle.std.proofs.Common.{◌≡◌, ◌<◌, sym, ◌∙◌, ap, get_or, set, subst, None, Some, Option, length, arith}
+use Rattle.std.proofs.Common.{◌≡◌, ◌<◌, sym, ◌∙◌, ap, subst, None, Some, Option, length}
 use Rattle.vale_page.specs.PageState.{IsBlankAt}
 use Rattle.vale_heap.specs.declared.seat.Seat.{Seat}
 use Rattle.vale_heap.specs.declared.seat.Home.TheVariants.{Spare}
-use Rattle.vale_heap.specs.HeapState.{HeapState, IsHeap, seat_at, with_seat, with_spare}
+use Rattle.vale_heap.specs.HeapState.{HeapState, IsHeap, seat_at, with_seat}
 use Rattle.vale_heap.proofs.HeapLaws.{heap_spare}
 use Rattle.vale_heap.proofs.LayoutLaws.{relisted_law}
 use Rattle.vale_heap.proofs.heap.Heap.take_page.Goals as goal

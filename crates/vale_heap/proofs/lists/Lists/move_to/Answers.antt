@@ -1,4 +1,4 @@
-use Rattle.std.proofs.Common.{◌≡◌, Some, None, sym, ◌∙◌, ap, set}
+use Rattle.std.proofs.Common.{Some, None, sym, ◌∙◌, ap, set}
 use Rattle.std.proofs.lemmas.List.{set-set}
 use Rattle.vale_heap.specs.ListState.{ListState}
 use Rattle.vale_heap.proofs.lists.Lists.move_to.Goals as goal

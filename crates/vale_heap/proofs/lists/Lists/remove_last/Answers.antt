@@ -1,5 +1,4 @@
-use Rattle.std.proofs.Common.{◌≡◌, ◌≢◌, ◌+◌, ◌-◌, ◌<◌, ◌≤◌, ℕ, Some, None, get_or, take, List, length, sym, ◌∙◌, arith, subst, ap}
-use Rattle.vale_heap.specs.ListState.{IsRinged}
+use Rattle.std.proofs.Common.{◌≡◌, ◌≢◌, ◌-◌, ◌<◌, ℕ, Some, None, get_or, take, length, ◌∙◌, arith, ap}
 use Rattle.vale_heap.proofs.ListLaws.{less_ringed}
 use Rattle.vale_heap.proofs.lists.Lists.remove_last.Goals as goal
 
@@ -10,8 +9,7 @@ invariant_of-self c =
     let some : 0 < c.self.inside.lists = rw (← c.self.view_is) at c.requires.some in
     let none : (item : ℕ) → item < length c.self.inside.on.items → get_or c.self.inside.on.items item None ≢ Some (c.self.inside.lists - 1) = rw (← c.self.view_is) at c.requires.none in
     let next : c.pop-head.new.self.items ≡ take (length c.self.inside.next.items - 1) c.self.inside.next.items = c.pop-head.ensures.rest ∙ ap (λ n. take (n - 1) c.self.inside.next.items) c.self.inside.next.ok.0 in
-    let previous : c.pop-head-2.new.self.items ≡ take (length c.self.inside.previous.items - 1) c.self.inside.previous.items = c.pop-head-2.ensures.rest ∙ ap (λ n. take (n - 1) c.self.inside.previous.items) c.self.inside.previous.ok.0 in
-    (
+    let previous : c.pop-head-2.new.self.items ≡ take (length c.self.inside.previous.items - 1) c.self.inside.previous.items = c.pop-head-2.ensures.rest ∙ ap (λ n. take (n - 1) c.self.inside.previous.items) c.self.inside.previous.ok.0 in (
       rw (next, previous) (less_ringed c.self.inside.next.items c.self.inside.previous.items c.self.inside.on.items c.self.inside.lists ring some none),
       record {
         few = omega (arith, room.few);
