@@ -1,5 +1,6 @@
 -- Each page of a heap is of its lender's hand, and a claim comes only where the heap's own slots are used up.
 use Rattle.std.proofs.Common.{◌≡◌, ℕ, zero, suc, ◌+◌, ◌<◌, ◌≤◌, Bool, true, false, List, [], ◌∷◌, length, get_or, set, Option, Some, None, is_some, cond, count_by, sum_by, refl, sym, ap, subst, ◌∙◌, inl, inr, arith, nat_eq}
+use Rattle.std.specs.Option.{option_map}
 use Rattle.std.specs.Prelude.{◌&&◌, nat_lt}
 use Rattle.std.proofs.lemmas.Bool.{cases_eq, cases_lt, eq-eqb}
 use Rattle.std.proofs.lemmas.Bool.Decides.{nat_tests}
@@ -14,6 +15,7 @@ use Rattle.vale_heap.specs.declared.seat.Seat.{Seat}
 use Rattle.vale_heap.specs.declared.seat.Home.{Home}
 use Rattle.vale_heap.specs.declared.seat.Home.TheVariants.{Spare, Open, Kept}
 use Rattle.vale_heap.specs.HeapState.{HeapState, seat_at, innermost, FitsHome, IsSeat, IsHeap, serves, has_room, with_seat, with_spare, Lent, IsMade, IsMadeByClaim, IsPut, IsEnded, KnowsFrames, live_of, is_spent, IsFrugal, ClaimsFrugally, IsOfHand, OfHand, KeepsFrames}
+use Rattle.vale_heap.specs.HeapLends.{with_written, changed}
 use Rattle.vale_heap.proofs.PutLaws.{same_some}
 use Rattle.vale_heap.proofs.HeapLaws.{heap_put, heap_spare, left_seat, set_some}
 
@@ -96,6 +98,23 @@ ended_keeps old new body place ended =
 
 pub keeps_same : (h : HeapState) → KeepsFrames h h
 keeps_same h = record { as_long = refl; known = λ out known. known; of_hand = λ hand ok. ok }
+
+pub changed_keeps : (h : HeapState) (at : Place) (left : Body) → KeepsFrames h (changed h at left)
+changed_keeps h at left = by_seat (seat_at h at.frame) refl
+  where
+    by_seat : (o : Option Seat) → seat_at h at.frame ≡ o → KeepsFrames h (with_seat h at.frame (option_map (λ s. with_written s at.slot left) o))
+    by_seat (Some seat) e = keeps_with_seat h at.frame seat (with_written seat at.slot left) e (λ slot _. omega arith)
+    by_seat None e = record {
+      as_long = length-set h.seats at.frame None;
+      known = λ out known f s there. known f s (same f s there);
+      of_hand = λ hand ok f s there. ok f s (same f s there);
+    }
+      where
+        same : (f : ℕ) (s : Seat) → seat_at (with_seat h at.frame None) f ≡ Some s → seat_at h f ≡ Some s
+        same f s there = elim (cases_eq f at.frame) [
+          | inr apart ↦ sym (get_or-set_other h.seats at.frame f None None apart) ∙ there
+          | inl here ↦ absurd (let clash : None ≡ Some s = set_some h.seats at.frame None s (ap (seat_at (with_seat h at.frame None)) (sym here) ∙ there) in cc)
+        ]
 
 -- ---- a claim comes only where the heap's own slots are used up
 

@@ -4,7 +4,7 @@ ghost use Rattle.std.specs.Borrow.{sem};
 ghost use Rattle.std.specs.Option.{option_copied_mut};
 ghost use Rattle.vale_page.specs.PageState.{IsBlankAt};
 ghost use Rattle.vale_table.specs.Lending.{Same, StillOut};
-ghost use Rattle.vale_heap.specs.HeapLends.{lends_if, lends_body};
+ghost use Rattle.vale_heap.specs.HeapLends.{lends_if, lends_body, changed};
 ghost use Rattle.vale_heap.specs.HeapState.{opened, seat_at, look_in, innermost, has_room, HasNoRoom, IsHeap, IsRoot, LivesIn, IsFor, NoneFor, IsMovable, IsExit, ClearsPage, IsPut, IsEnded, IsMade, IsRefused, IsCleared, KnowsFrames, OfHand, KeepsFrames, ClaimsFrugally, with_spare, with_moved, with_rehomed, with_region, without_region, with_merged};
 ghost use Rattle.vale_heap.specs.Standing.{look_over, StandsMade, StandsLooked, StandsFound, StandsEnded, StandsChanged, StandsSame, StandsMerged, StandsKept, StandsCleared, StandsIsoMerged};
 
@@ -188,10 +188,8 @@ impl Heap {
         requires { at.slot < 64 }
         ensures { option_copied result ≡ look_in self.now at }
     {
-        match self.seats.get(at.frame as usize) {
-            Some(Some(seat)) => seat.page.get(at.slot, at.generation),
-            _ => None,
-        }
+        let seat = self.seats.get(at.frame as usize)?.as_ref()?;
+        seat.page.get(at.slot, at.generation)
     }
 
     /// The body at a place of this heap, for writing. `None` comes exactly where the name that the place stands for isn't alive
@@ -202,6 +200,7 @@ impl Heap {
         ensures value { option_copied_mut result ≡ look_in self.old at }
         ensures found { StandsFound self.old at (option_copied_mut result) }
         ensures stands { (left : Body) → StandsChanged self.old at left }
+        ensures keeps { (left : Body) → KeepsFrames self.old (changed self.old at left) }
     {
         if self.look_here(at).is_some() {
             Some(self.body_mut(at))
