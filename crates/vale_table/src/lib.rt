@@ -2,8 +2,17 @@
 //! of a run draw from.
 #![tactic(auto)]
 
+mod desk;
 mod lender;
 mod plain;
+mod rule;
+mod seat;
+mod table;
+mod threads;
+mod view;
 
+pub use desk::Desk;
 pub use lender::Lender;
 pub use plain::PlainTable;
+pub use seat::Seat;
+pub use table::SharedTable;

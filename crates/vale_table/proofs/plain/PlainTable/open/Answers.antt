@@ -1,5 +1,5 @@
-use Rattle.std.proofs.Common.{◌≡◌, ◌++◌, [], arith, ap, sym, ◌∙◌, length, append-nil, get_or, map, Some, is_none}
-use Rattle.std.proofs.lemmas.List.{nil_from_length, length-replicate, get_or-replicate, length-map}
+use Rattle.std.proofs.Common.{◌≡◌, ◌++◌, [], arith, ap, sym, ◌∙◌, append-nil, get_or, map, Some, is_none}
+use Rattle.std.proofs.lemmas.List.{nil_from_length, get_or-replicate, length-map}
 use Rattle.vale_page.specs.PageState.{IsBatch}
 use Rattle.vale_table.proofs.PlainLemmas.{table_opened, all_home}
 use Rattle.vale_table.proofs.plain.PlainTable.open.Given.{Over}

@@ -1,4 +1,4 @@
-use Rattle.std.proofs.Common.{◌≡◌, ◌<◌, ℕ, arith, sym, ◌∙◌, get_or, None, length, refl, inl, inr, map, is_none}
+use Rattle.std.proofs.Common.{◌≡◌, ◌<◌, ℕ, arith, sym, ◌∙◌, get_or, None, length, refl, inl, inr, is_none}
 use Rattle.std.proofs.lemmas.List.{get_or_read, length-map}
 use Rattle.std.proofs.lemmas.Bool.{cases_lt}
 use Rattle.vale_table.proofs.PlainLemmas.{claimed_if, none_home, still_out}
