@@ -28,6 +28,6 @@ returns-else-is_some c =
         value = value;
         found = found_law c.args.self.now c.args.at None value;
         stands = λ left. changed_law c.args.self.now c.args.at left;
-    keeps = λ left. changed_keeps c.args.self.now c.args.at left;
+        keeps = λ left. changed_keeps c.args.self.now c.args.at left;
       },
     )
