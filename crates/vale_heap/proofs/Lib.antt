@@ -10,3 +10,4 @@ pub mod HandLaws
 pub mod ClearLaws
 pub mod RegionLaws
 pub mod WorldLaws
+pub mod NameLaws

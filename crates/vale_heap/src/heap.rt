@@ -5,7 +5,7 @@ ghost use Rattle.std.specs.Option.{option_copied_mut};
 ghost use Rattle.vale_page.specs.PageState.{IsBlankAt};
 ghost use Rattle.vale_table.specs.Lending.{Same, StillOut};
 ghost use Rattle.vale_heap.specs.HeapLends.{lends_if, lends_body, changed};
-ghost use Rattle.vale_heap.specs.HeapState.{opened, seat_at, look_in, innermost, has_room, HasNoRoom, IsHeap, IsRoot, LivesIn, IsFor, NoneFor, IsMovable, IsExit, ClearsPage, IsPut, IsEnded, IsMade, IsRefused, IsCleared, KnowsFrames, OfHand, KeepsFrames, ClaimsFrugally, with_spare, with_moved, with_rehomed, with_region, without_region, with_merged};
+ghost use Rattle.vale_heap.specs.HeapState.{opened, seat_at, look_in, innermost, has_room, HasNoRoom, IsHeap, IsRoot, LivesIn, IsFor, NoneFor, IsMovable, IsExit, ClearsPage, IsPut, IsEnded, IsMade, IsRefused, IsCleared, KnowsFrames, Lent, OfHand, KeepsFrames, ClaimsFrugally, with_spare, with_moved, with_rehomed, with_region, without_region, with_merged};
 ghost use Rattle.vale_heap.specs.Standing.{look_over, StandsMade, StandsLooked, StandsFound, StandsEnded, StandsChanged, StandsSame, StandsMerged, StandsKept, StandsCleared, StandsIsoMerged};
 
 use crate::body::{Body, Place};
@@ -105,8 +105,24 @@ impl Heap {
     pub fn make<L: Lender<Body>>(&mut self, lender: &mut L, body: Body) -> Result<Place, NoPage>
         requires few { L.frames lender.old ≤ length self.old.seats }
         requires known { KnowsFrames self.old (L.out lender.old) }
-        ensures made { IfOk result (IsMade self.old self.new (record { frames = L.frames lender.old; hand = L.hand lender.old; new_hand = L.hand lender.new; out = L.out lender.old; new_out = L.out lender.new; floors = L.floors lender.old }) body) }
-        ensures refused { OnErr result (IsRefused self.old self.new (record { frames = L.frames lender.old; hand = L.hand lender.old; new_hand = L.hand lender.new; out = L.out lender.old; new_out = L.out lender.new; floors = L.floors lender.old })) }
+        ensures made { let lent : Lent = record {
+          frames = L.frames lender.old;
+          hand = L.hand lender.old;
+          new_hand = L.hand lender.new;
+          out = L.out lender.old;
+          new_out = L.out lender.new;
+          floors = L.floors lender.old;
+        } in
+            IfOk result (IsMade self.old self.new lent body) }
+        ensures refused { let lent : Lent = record {
+          frames = L.frames lender.old;
+          hand = L.hand lender.old;
+          new_hand = L.hand lender.new;
+          out = L.out lender.old;
+          new_out = L.out lender.new;
+          floors = L.floors lender.old;
+        } in
+            OnErr result (IsRefused self.old self.new lent) }
         ensures body_back { IfErr result (λ refused. refused.body ≡ body) }
         ensures stands { IfOk result (StandsMade self.old self.new (L.out lender.old) (L.floors lender.old) body) }
         ensures frugal { IfOk result (ClaimsFrugally self.old self.new) }
