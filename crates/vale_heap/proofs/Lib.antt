@@ -1,0 +1,13 @@
+pub mod ListLaws
+pub mod PutLaws
+pub mod EndLaws
+pub mod ChangeLaws
+pub mod MoveLaws
+pub mod HeapLaws
+pub mod LayoutLaws
+pub mod StandLaws
+pub mod HandLaws
+pub mod ClearLaws
+pub mod RegionLaws
+pub mod WorldLaws
+pub mod NameLaws

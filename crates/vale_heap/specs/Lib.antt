@@ -1,0 +1,5 @@
+pub mod ListState
+pub mod HeapState
+pub mod Layout
+pub mod HeapLends
+pub mod Standing

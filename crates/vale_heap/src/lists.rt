@@ -1,0 +1,178 @@
+// Lists that share their items. An item is on one list or on none. To move an item costs the same, however long the lists are.
+ghost use Rattle.std.specs.Prelude.{◌≡◌, ◌≢◌, ℕ, ◌+◌, ◌-◌, ◌<◌, ◌≤◌, ◌^◌, List, length, Option, Some, None, IfOk, IfSome, IfNone, replicate, slice_index, slice_set, vec_capacity};
+ghost use Rattle.vale_heap.specs.ListState.{list_at};
+
+use std::alloc::{AllocError, Global};
+use std::marker::Model;
+
+/// Items on lists.
+#[derive(Drop)]
+pub struct Lists {
+    // The node after each node, and the one before it. The nodes are the items and then the heads of the lists; a head stands
+    // before the first item of its list and after the last. An item that is on no list is alone.
+    next: Vec<usize>,
+    previous: Vec<usize>,
+    // The list of each item.
+    on: Vec<Option<usize>>,
+    lists: usize,
+    most: usize,
+}
+
+impl Model for Lists {
+    ghost use Rattle.std.specs.Prelude.{vec_capacity};
+    ghost use Rattle.vale_heap.specs.ListState.{ListState, IsRinged, IsRoomy};
+
+    ghost Value = { ListState };
+
+    ghost view = { λ l. record { on = l.on.items; lists = l.lists; most = l.most } };
+
+    ghost invariant = { λ l. IsRinged l.next.items l.previous.items l.on.items l.lists × IsRoomy (vec_capacity l.next) (vec_capacity l.previous) (record { on = l.on.items; lists = l.lists; most = l.most }) };
+}
+
+// Nodes from 0 on, each alone.
+fn alone(alloc: Global, nodes: usize, most: usize) -> Result<Vec<usize>, AllocError>
+    requires { nodes ≤ most }
+    ensures each { IfOk result (λ v. (node : ℕ) → node < nodes → slice_index v.items node ≡ node) }
+    ensures many { IfOk result (λ v. length v.items ≡ nodes) }
+    ensures room { IfOk result (λ v. most ≤ vec_capacity v) }
+{
+    let mut all = Vec::with_capacity(alloc, most)?;
+    for node in 0..nodes {
+        all.push(node)?;
+    }
+    Ok(all)
+}
+
+// Items that are on no list.
+fn nowhere(alloc: Global, items: usize) -> Result<Vec<Option<usize>>, AllocError>
+    ensures { IfOk result (λ v. v.items ≡ replicate items None) }
+{
+    let mut on = Vec::with_capacity(alloc, items)?;
+    for _item in 0..items {
+        on.push(None)?;
+    }
+    Ok(on)
+}
+
+// Swaps what comes after two nodes. Two rings become one, or one becomes two.
+fn splice(next: &mut Vec<usize>, previous: &mut Vec<usize>, one: usize, other: usize)
+    requires one { one < length next.old.items }
+    requires other { other < length next.old.items }
+    requires one_before { slice_index next.old.items one < length previous.old.items }
+    requires other_before { slice_index next.old.items other < length previous.old.items }
+    ensures next { next.new.items ≡ slice_set (slice_set next.old.items one (slice_index next.old.items other)) other (slice_index next.old.items one) }
+    ensures previous { previous.new.items ≡ slice_set (slice_set previous.old.items (slice_index next.old.items other) one) (slice_index next.old.items one) other }
+    ensures next_room { vec_capacity next.new ≡ vec_capacity next.old }
+    ensures previous_room { vec_capacity previous.new ≡ vec_capacity previous.old }
+{
+    let after_one = next[one];
+    let after_other = next[other];
+    next[one] = after_other;
+    next[other] = after_one;
+    previous[after_other] = one;
+    previous[after_one] = other;
+}
+
+impl Lists {
+    /// Lists without items, and with room for `most` lists.
+    pub fn open(alloc: Global, items: usize, lists: usize, most: usize) -> Result<Lists, AllocError>
+        requires few { lists ≤ most }
+        requires fit { items + most < 2 ^ 63 }
+        ensures { IfOk result (λ l. l ≡ record { on = replicate items None; lists = lists; most = most }) }
+    {
+        let next = alone(alloc, items + lists, items + most)?;
+        let previous = alone(alloc, items + lists, items + most)?;
+        let on = nowhere(alloc, items)?;
+        Ok(Lists {
+            next,
+            previous,
+            on,
+            lists,
+            most,
+        })
+    }
+
+    /// The first item of a list. There is none exactly where no item is on the list.
+    pub fn first(&self, list: usize) -> Option<usize>
+        requires { list < self.now.lists }
+        ensures some { IfSome result (λ item. (item < length self.now.on) × (list_at self.now item ≡ Some list)) }
+        ensures none { IfNone result ((item : ℕ) → item < length self.now.on → list_at self.now item ≢ Some list) }
+    {
+        let head = self.on.len() + list;
+        let item = self.next[head];
+        if item == head { None } else { Some(item) }
+    }
+
+    /// Takes an item off its list, if it is on one.
+    pub fn take_off(&mut self, item: usize)
+        requires { item < length self.old.on }
+        ensures { self.new ≡ record self.old { on = slice_set self.old.on item None } }
+    {
+        let before = self.previous[item];
+        splice(&mut self.next, &mut self.previous, before, item);
+        self.on[item] = None;
+    }
+
+    /// Puts an item that is on no list at the front of a list.
+    pub fn put_on(&mut self, item: usize, list: usize)
+        requires item { item < length self.old.on }
+        requires alone { list_at self.old item ≡ None }
+        requires list { list < self.old.lists }
+        ensures { self.new ≡ record self.old { on = slice_set self.old.on item (Some list) } }
+    {
+        let head = self.on.len() + list;
+        splice(&mut self.next, &mut self.previous, head, item);
+        self.on[item] = Some(list);
+    }
+
+    /// The list that an item is on.
+    pub fn list(&self, item: usize) -> Option<usize>
+        requires { item < length self.now.on }
+        ensures { result ≡ list_at self.now item }
+    {
+        self.on[item]
+    }
+
+    /// Moves an item to the front of a list, or off every list, unless it is there.
+    pub fn move_to(&mut self, item: usize, list: Option<usize>)
+        requires item { item < length self.old.on }
+        requires list { IfSome list (λ l. l < self.old.lists) }
+        ensures { self.new ≡ record self.old { on = slice_set self.old.on item list } }
+    {
+        if self.list(item) == list {
+            return;
+        }
+        self.take_off(item);
+        if let Some(list) = list {
+            self.put_on(item, list);
+        }
+    }
+
+    /// Adds a list without items, the last one.
+    pub fn add(&mut self)
+        requires { self.old.lists < self.old.most }
+        ensures { self.new ≡ record self.old { lists = self.old.lists + 1 } }
+    {
+        let head = self.next.len();
+        match self.next.push(head) {
+            Ok(()) => {}
+            Err(_) => unreachable!(),
+        }
+        match self.previous.push(head) {
+            Ok(()) => {}
+            Err(_) => unreachable!(),
+        }
+        self.lists += 1;
+    }
+
+    /// Removes the last list, which has no items.
+    pub fn remove_last(&mut self)
+        requires some { 0 < self.old.lists }
+        requires none { (item : ℕ) → item < length self.old.on → list_at self.old item ≢ Some (self.old.lists - 1) }
+        ensures { self.new ≡ record self.old { lists = self.old.lists - 1 } }
+    {
+        let _head = self.next.pop();
+        let _head = self.previous.pop();
+        self.lists -= 1;
+    }
+}
