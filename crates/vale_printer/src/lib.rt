@@ -1,0 +1,5 @@
+//! The canonical text of a program's tree.
+#![tactic(auto)]
+
+/// Nothing yet.
+pub fn nothing() {}
