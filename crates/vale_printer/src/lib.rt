@@ -1,5 +1,10 @@
 //! The canonical text of a program's tree.
 #![tactic(auto)]
 
-/// Nothing yet.
-pub fn nothing() {}
+mod bytes;
+// mod exprs;
+// mod items;
+mod pieces;
+mod types;
+
+// pub use items::print;

@@ -1,5 +1,5 @@
 -- The canonical text of a tree (docs/LANGUAGE.md, "Canonical text").
-use Rattle.std.specs.Prelude.{ℕ, ◌*◌, ◌==◌, List, [], ◌∷◌, ◌++◌, replicate, if◌then◌else◌}
+use Rattle.std.specs.Prelude.{ℕ, ◌*◌, ◌==◌, List, [], ◌∷◌, ◌++◌, replicate, flat_map, if◌then◌else◌}
 use Rattle.std.specs.Fmt.{signed_decimal}
 use Rattle.vale_syntax.specs.declared.token.TokenKind.{TokenKind}
 use Rattle.vale_syntax.specs.declared.token.TokenKind.TheVariants as k
@@ -12,8 +12,7 @@ abbrev pub escaped : ℕ → List ℕ
 escaped b = if b == 10 then 92 ∷ 110 ∷ [] else if b == 9 then 92 ∷ 116 ∷ [] else if b == 92 then 92 ∷ 92 ∷ [] else if b == 34 then 92 ∷ 34 ∷ [] else b ∷ []
 
 abbrev pub all_escaped : List ℕ → List ℕ
-all_escaped [] = []
-all_escaped (b ∷ text) = escaped b ++ all_escaped text
+all_escaped text = flat_map escaped text
 
 -- a token's bytes: a number has no leading zeros
 abbrev pub text_of : TokenKind → List ℕ
@@ -23,12 +22,14 @@ text_of (k.Number n) = signed_decimal n
 text_of (k.Quote text) = 34 ∷ all_escaped text ++ 34 ∷ []
 text_of (k.Sign s) = sign_text s
 
--- the pieces' bytes: two spaces for each depth of a line
+-- a piece's bytes: a line has two spaces for each depth
+abbrev pub piece_text : Piece → List ℕ
+piece_text (lexeme kind) = text_of kind
+piece_text space = 32 ∷ []
+piece_text (line d) = 10 ∷ replicate (2 * d) 32
+
 abbrev pub rendered : List Piece → List ℕ
-rendered [] = []
-rendered (lexeme kind ∷ ps) = text_of kind ++ rendered ps
-rendered (space ∷ ps) = 32 ∷ rendered ps
-rendered (line d ∷ ps) = 10 ∷ replicate (2 * d) 32 ++ rendered ps
+rendered ps = flat_map piece_text ps
 
 abbrev pub canon : Tree → List ℕ
-canon t = rendered (lay_tree t [])
+canon t = rendered (lay_tree t)
