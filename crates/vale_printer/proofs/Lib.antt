@@ -1,2 +1,4 @@
 mod ByteLaws
+mod EachLaws
 mod Examples
+mod ExprLaws

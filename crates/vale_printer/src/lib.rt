@@ -4,6 +4,7 @@
 mod bytes;
 // mod exprs;
 // mod items;
+mod operators;
 mod pieces;
 mod types;
 

@@ -65,7 +65,7 @@ pub fn gap(text: &mut Vec<u8>) -> Result<(), Memory>
     Ok(())
 }
 
-#[tactic(auto, using(crate::proofs::ByteLaws::spaces_more))]
+
 pub fn new_line(text: &mut Vec<u8>, depth: usize) -> Result<(), Memory>
     ensures { OnOk result (text.new.items ≡ text.old.items ++ rendered (l.new_line depth)) }
 {

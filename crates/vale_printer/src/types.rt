@@ -5,9 +5,9 @@ ghost use Rattle.vale_syntax.specs.Layout as l;
 ghost use Rattle.vale_syntax.specs.View.{view_type};
 ghost use Rattle.vale_syntax.specs.declared.token.Sign.TheVariants.{OpenBracket, CloseBracket};
 
-use crate::pieces::{named, sign, word, word_gap};
+use crate::pieces::{comma_gap, named, sign, word, word_gap};
 use vale_base::{Memory, Text};
-use vale_syntax::{Sign, TypeExpr, Word};
+use vale_syntax::{NameAt, Sign, TypeExpr, Word};
 
 /// `[]`.
 pub fn brackets(text: &mut Vec<u8>) -> Result<(), Memory>
@@ -43,4 +43,19 @@ pub fn type_expr(names: &[Text], text: &mut Vec<u8>, ty: &TypeExpr) -> Result<()
             type_expr(names, text, root.get())
         }
     }
+}
+
+/// Names with commas between them.
+pub fn name_list(names: &[Text], text: &mut Vec<u8>, list: &[NameAt]) -> Result<(), Memory>
+    ensures { OnOk result (text.new.items ≡ text.old.items ++ rendered (l.with_commas (l.named names.now) list.now)) }
+{
+    let [first, more @ ..] = list else {
+        return Ok(());
+    };
+    named(names, text, *first)?;
+    for name in more {
+        comma_gap(text)?;
+        named(names, text, *name)?;
+    }
+    Ok(())
 }
