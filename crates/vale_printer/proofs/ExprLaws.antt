@@ -8,7 +8,7 @@ use Rattle.vale_syntax.specs.declared.tree.Step.{Step}
 use Rattle.vale_syntax.specs.declared.tree.Stmt.{Stmt}
 use Rattle.vale_syntax.specs.declared.tree.Block.{Block, out-Block}
 use Rattle.vale_syntax.specs.declared.tree.ElseIf.{ElseIf, out-ElseIf}
-use Rattle.vale_syntax.specs.Layout.{Layout, mark, gap, new_line, each, lay_expr, lay_args, lay_more_args, lay_link, lay_links, lay_step, lay_steps, lay_else_if, lay_elses, lay_stmt, lay_stmts, lay_block}
+use Rattle.vale_syntax.specs.Layout.{Layout, mark, gap, new_line, each, with_commas, lay_expr, lay_args, lay_more_args, lay_link, lay_links, lay_step, lay_steps, lay_else_if, lay_elses, lay_stmt, lay_stmts, lay_block}
 use Rattle.vale_syntax.specs.Tree as t
 use Rattle.vale_syntax.specs.View.{exprs_of, links_of, steps_of, elses_of, stmts_of, else_end, last_end, view_expr, view_step, view_stmt, view_block, view_else_if, view_link}
 
@@ -42,4 +42,8 @@ module _ (names : List (List ℕ)) (d : ℕ) where
   more_args [] = refl
   more_args (x ∷ xs) = let front : Layout = mark s.Comma ++ gap ++ lay_expr names d (view_expr x) in ap (λ (z : Layout). front ++ z) (more_args xs)
 
-pub ruleset lists = (of_link, of_else_if, of_block, links, steps, elses, stmts, more_args)
+pub args : (names : List (List ℕ)) (d : ℕ) (xs : List Expr) → lay_args names d (exprs_of (map view_expr xs)) ≡ with_commas (λ x. lay_expr names d (view_expr x)) xs
+args names d [] = refl
+args names d (x ∷ xs) = ap (λ (z : Layout). lay_expr names d (view_expr x) ++ z) (more_args names d xs)
+
+pub ruleset lists = (of_link, of_else_if, of_block, links, steps, elses, stmts)

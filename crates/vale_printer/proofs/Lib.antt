@@ -1,4 +1,6 @@
+mod ArmLaws
 mod ByteLaws
 mod EachLaws
 mod Examples
 mod ExprLaws
+mod StepLaws

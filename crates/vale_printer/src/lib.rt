@@ -2,7 +2,7 @@
 #![tactic(auto)]
 
 mod bytes;
-// mod exprs;
+mod exprs;
 // mod items;
 mod operators;
 mod pieces;

@@ -116,3 +116,12 @@ pub fn close_block(text: &mut Vec<u8>, depth: usize) -> Result<(), Memory>
     new_line(text, depth)?;
     sign(text, Sign::CloseBrace)
 }
+
+/// `else if` behind a `}`.
+pub fn else_if_words(text: &mut Vec<u8>) -> Result<(), Memory>
+    ensures { OnOk result (text.new.items ≡ text.old.items ++ rendered (l.gap ++ l.key w.Else ++ l.gap ++ l.key w.If)) }
+{
+    gap(text)?;
+    word_gap(text, Word::Else)?;
+    word(text, Word::If)
+}

@@ -46,6 +46,7 @@ pub fn type_expr(names: &[Text], text: &mut Vec<u8>, ty: &TypeExpr) -> Result<()
 }
 
 /// Names with commas between them.
+#[tactic(auto, using(crate::proofs::EachLaws::each_more))]
 pub fn name_list(names: &[Text], text: &mut Vec<u8>, list: &[NameAt]) -> Result<(), Memory>
     ensures { OnOk result (text.new.items ≡ text.old.items ++ rendered (l.with_commas (l.named names.now) list.now)) }
 {
