@@ -3,4 +3,5 @@ mod ByteLaws
 mod EachLaws
 mod Examples
 mod ExprLaws
+mod ListLaws
 mod StepLaws

@@ -3,10 +3,14 @@ ghost use Rattle.std.specs.Prelude.{◌≡◌, ◌++◌, map, OnOk};
 ghost use Rattle.vale_syntax.specs.Canon.{rendered};
 ghost use Rattle.vale_syntax.specs.Layout as l;
 ghost use Rattle.vale_syntax.specs.View.{exprs_of, view_expr, view_form, view_step, view_stmt, view_block, view_else_if, view_link};
-ghost use Rattle.vale_syntax.specs.declared.token.Sign.TheVariants.{OpenParen, CloseParen, Assign};
+ghost use Rattle.vale_syntax.specs.declared.token.Sign.TheVariants.{OpenParen, CloseParen};
 
-use crate::operators::{after_word, assign, close_block, else_if_words, loop_head, truth, unary_op, binary_op};
-use crate::pieces::{comma_gap, deeper, gap, member, named, new_line, number, quote, sign, word, word_gap};
+use crate::operators::{
+    after_word, assign, binary_op, close_block, else_if_words, loop_head, truth, unary_op,
+};
+use crate::pieces::{
+    comma_gap, deeper, gap, member, named, new_line, number, quote, sign, word, word_gap,
+};
 use crate::types::{brackets, name_list, type_expr};
 use vale_base::{Memory, Text};
 use vale_syntax::{Block, ElseIf, Expr, Form, Link, Sign, Step, Stmt, Word};
@@ -62,8 +66,12 @@ fn expr(names: &[Text], depth: usize, text: &mut Vec<u8>, e: &Expr) -> Result<()
 }
 
 #[cycle(exprs)]
-#[tactic(auto, using(crate::proofs::ExprLaws::args))]
-fn args_in_parens(names: &[Text], depth: usize, text: &mut Vec<u8>, args: &[Expr]) -> Result<(), Memory>
+fn args_in_parens(
+    names: &[Text],
+    depth: usize,
+    text: &mut Vec<u8>,
+    args: &[Expr],
+) -> Result<(), Memory>
     ensures { OnOk result (text.new.items ≡ text.old.items ++ rendered (l.mark OpenParen ++ l.lay_args names.now depth (exprs_of (map view_expr args.now)) ++ l.mark CloseParen)) }
 {
     sign(text, Sign::OpenParen)?;
@@ -89,7 +97,12 @@ fn all_args(names: &[Text], depth: usize, text: &mut Vec<u8>, args: &[Expr]) -> 
 
 #[cycle(exprs)]
 #[tactic(auto, using(crate::proofs::EachLaws::each_more, crate::proofs::ExprLaws::of_link))]
-fn more_operands(names: &[Text], depth: usize, text: &mut Vec<u8>, links: &[Link]) -> Result<(), Memory>
+fn more_operands(
+    names: &[Text],
+    depth: usize,
+    text: &mut Vec<u8>,
+    links: &[Link],
+) -> Result<(), Memory>
     ensures { OnOk result (text.new.items ≡ text.old.items ++ rendered (l.each (λ x. l.lay_link names.now depth (view_link x)) links.now)) }
 {
     for link in links {
@@ -178,7 +191,12 @@ fn form(names: &[Text], depth: usize, text: &mut Vec<u8>, f: &Form) -> Result<()
 
 #[cycle(exprs)]
 #[tactic(auto, using(crate::proofs::EachLaws::each_more))]
-fn all_else_ifs(names: &[Text], depth: usize, text: &mut Vec<u8>, else_ifs: &[ElseIf]) -> Result<(), Memory>
+fn all_else_ifs(
+    names: &[Text],
+    depth: usize,
+    text: &mut Vec<u8>,
+    else_ifs: &[ElseIf],
+) -> Result<(), Memory>
     ensures { OnOk result (text.new.items ≡ text.old.items ++ rendered (l.each (λ x. l.lay_else_if names.now depth (view_else_if x)) else_ifs.now)) }
 {
     for x in else_ifs {

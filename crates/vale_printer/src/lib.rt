@@ -3,9 +3,9 @@
 
 mod bytes;
 mod exprs;
-// mod items;
+mod items;
 mod operators;
 mod pieces;
 mod types;
 
-// pub use items::print;
+pub use items::print;

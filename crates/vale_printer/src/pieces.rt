@@ -65,7 +65,6 @@ pub fn gap(text: &mut Vec<u8>) -> Result<(), Memory>
     Ok(())
 }
 
-
 pub fn new_line(text: &mut Vec<u8>, depth: usize) -> Result<(), Memory>
     ensures { OnOk result (text.new.items ≡ text.old.items ++ rendered (l.new_line depth)) }
 {
