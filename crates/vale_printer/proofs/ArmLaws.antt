@@ -1,5 +1,5 @@
 -- The layouts of nodes, by what the printer does for each.
-use Rattle.std.proofs.Common.{◌≡◌, ℕ, suc, List, [], ◌∷◌, ◌++◌, Option, Some, None, refl, sym, ap, subst, ◌∙◌, append_assoc, append-nil, arith}
+use Rattle.std.proofs.Common.{◌≡◌, ℕ, suc, List, [], ◌++◌, Option, Some, None, refl, sym, ap, subst, ◌∙◌, append_assoc, append-nil, arith}
 use Rattle.std.specs.Prelude.{map, option_map, Result, OnOk}
 use Rattle.vale_syntax.specs.Canon.{rendered}
 use Rattle.vale_base.specs.declared.spot.Spot.{Spot}

@@ -1,7 +1,6 @@
 -- Trees with their canonical texts.
-use Rattle.std.proofs.Common.{◌≡◌, ℕ, true, false, List, [], ◌∷◌, ◌++◌, Some, None, codes, pos, refl}
+use Rattle.std.proofs.Common.{◌≡◌, ℕ, true, false, [], ◌∷◌, ◌++◌, Some, None, codes, pos, refl}
 use Rattle.std.specs.Fmt.{digits}
-use Rattle.vale_base.specs.declared.name.Name.{Name}
 use Rattle.vale_base.specs.declared.spot.Spot.{Spot}
 use Rattle.vale_syntax.specs.declared.tree.NameAt.{NameAt}
 use Rattle.vale_syntax.specs.declared.tree.BinaryOp.TheVariants as b

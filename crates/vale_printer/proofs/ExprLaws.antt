@@ -1,6 +1,6 @@
 -- The layouts of lists, by those of their elements.
-use Rattle.std.proofs.Common.{◌≡◌, ℕ, suc, List, [], ◌∷◌, ◌++◌, Option, Some, None, refl, sym, ap, ◌∙◌, append_assoc, rules}
-use Rattle.std.specs.Prelude.{map, option_map, flat_map}
+use Rattle.std.proofs.Common.{◌≡◌, ℕ, List, [], ◌∷◌, ◌++◌, Option, refl, sym, ap, ◌∙◌, append_assoc, rules}
+use Rattle.std.specs.Prelude.{map, option_map}
 use Rattle.vale_syntax.specs.declared.token.Sign.TheVariants as s
 use Rattle.vale_syntax.specs.declared.tree.Expr.{Expr, the_lemmas}
 use Rattle.vale_syntax.specs.declared.tree.Link.{Link, out-Link}
@@ -8,7 +8,7 @@ use Rattle.vale_syntax.specs.declared.tree.Step.{Step}
 use Rattle.vale_syntax.specs.declared.tree.Stmt.{Stmt}
 use Rattle.vale_syntax.specs.declared.tree.Block.{Block, out-Block}
 use Rattle.vale_syntax.specs.declared.tree.ElseIf.{ElseIf, out-ElseIf}
-use Rattle.vale_syntax.specs.Layout.{Layout, mark, gap, new_line, each, with_commas, lay_expr, lay_args, lay_more_args, lay_link, lay_links, lay_step, lay_steps, lay_else_if, lay_elses, lay_stmt, lay_stmts, lay_block}
+use Rattle.vale_syntax.specs.Layout.{Layout, mark, gap, new_line, each, with_commas, lay_expr, lay_args, lay_more_args, lay_link, lay_links, lay_step, lay_steps, lay_else_if, lay_elses, lay_stmt, lay_stmts}
 use Rattle.vale_syntax.specs.Tree as t
 use Rattle.vale_syntax.specs.View.{exprs_of, links_of, steps_of, elses_of, stmts_of, else_end, last_end, view_expr, view_step, view_stmt, view_block, view_else_if, view_link}
 

@@ -3,5 +3,6 @@ mod ByteLaws
 mod EachLaws
 mod Examples
 mod ExprLaws
+mod ItemLaws
 mod ListLaws
 mod StepLaws

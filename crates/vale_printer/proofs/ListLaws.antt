@@ -1,5 +1,5 @@
 -- Lists with commas, and heads.
-use Rattle.std.proofs.Common.{◌≡◌, ◌≤◌, ◌-◌, ℕ, Bool, List, [], ◌∷◌, ◌++◌, Option, length, get_or, take, drop, refl, sym, ap, ◌∙◌, append_assoc, arith}
+use Rattle.std.proofs.Common.{◌≡◌, ◌≤◌, ◌-◌, ℕ, Bool, List, [], ◌∷◌, ◌++◌, Option, length, get_or, take, drop, sym, ap, ◌∙◌, append_assoc, arith}
 use Rattle.std.specs.Prelude.{map, option_map, Result, OnOk}
 use Rattle.std.proofs.lemmas.List.{take_all}
 use Rattle.vale_syntax.specs.declared.token.Sign.TheVariants.{Comma, OpenParen, CloseParen}

@@ -1,4 +1,4 @@
-use Rattle.std.proofs.Common.{◌≡◌, ◌++◌, ◌∷◌, ◌*◌, replicate}
+use Rattle.std.proofs.Common.{◌≡◌, ◌++◌, ◌*◌, replicate}
 use Rattle.vale_printer.proofs.pieces.new_line.Given as goal
 
 abbrev pub invariant-loop : goal.invariant-loop
