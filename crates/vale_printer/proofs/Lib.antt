@@ -6,3 +6,6 @@ mod ExprLaws
 mod ItemLaws
 mod ListLaws
 mod StepLaws
+mod Lays
+mod Numbered
+mod Same
