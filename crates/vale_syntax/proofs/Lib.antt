@@ -1,1 +1,2 @@
+pub mod JudgedLaws
 pub mod ViewLaws

@@ -1,6 +1,11 @@
 pub mod Bytes
 pub mod Cut
+pub mod Declarations
+pub mod DeclFaults
+pub mod DeclRules
 pub mod Grammar
+pub mod Judged
+pub mod Reach
 pub mod Sums
 pub mod Tree
 pub mod View
