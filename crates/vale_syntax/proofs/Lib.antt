@@ -1,2 +1,3 @@
 pub mod JudgedLaws
+pub mod ReachLaws
 pub mod ViewLaws
