@@ -6,7 +6,6 @@ use Rattle.vale_syntax.specs.Judged.{codes_of}
 use Rattle.vale_syntax.specs.DeclRules.{Position, iso_rules, head_rules, impl_rules, function_rules}
 
 module _ (names : List (List ℕ)) (items : List Item) where
-
   iso_codes : (position : Position) (x : TypeExpr) → codes_of (iso_rules names items position x) ≡ 14 ∷ 16 ∷ []
   iso_codes position x = refl
 

@@ -1,11 +1,11 @@
 -- The first fault of a part is the first that a walk in post-order meets; and what the answers of a phase say.
-use Rattle.std.proofs.Common.{◌≡◌, ℕ, List, [], ◌∷◌, ◌++◌, refl, sym, ap, ◌∙◌, subst, Option, Some, None}
+use Rattle.std.proofs.Common.{◌≡◌, ℕ, List, [], ◌∷◌, ◌++◌, refl, Option, Some, None}
 use Rattle.std.specs.Prelude.{Result, Ok, Err, IfOk}
 use Rattle.vale_base.specs.declared.spot.Spot.{Spot}
 use Rattle.vale_base.specs.declared.fault.Fail.{Fail}
 use Rattle.vale_base.specs.declared.fault.Fail.TheVariants.{Memory, Is}
 use Rattle.vale_base.specs.Faults.{IfFault, IsValueUnlessMemory, IsFaultUnlessMemory}
-use Rattle.vale_syntax.specs.Judged.{Fault, Rules, broken, fault_of, own, Judged, fine, faulty, faults, unless, both, node, leaf, plain, scoped, first, first_of, IsFine, IsFirstFault, Gives}
+use Rattle.vale_syntax.specs.Judged.{Fault, Rules, broken, fault_of, Judged, fine, faulty, unless, both, node, leaf, plain, scoped, first, IsFine, IsFirstFault, Gives}
 
 -- ---- the walk
 

@@ -1,6 +1,6 @@
 -- The test along edges decides what is reached.
 use Rattle.std.proofs.Common.{◌≡◌, ℕ, List, [], ◌∷◌, ◌⊎◌, inl, inr, refl, sym, subst}
-use Rattle.std.specs.Prelude.{Bool, true, false, ◌||◌, ◌&&◌, ◌==◌}
+use Rattle.std.specs.Prelude.{Bool, true, false, ◌||◌, ◌&&◌}
 use Rattle.std.proofs.lemmas.Bool.{eq-eqb, eqb-true}
 use Rattle.vale_syntax.specs.Reach.{Edge, Leads, IsReached, here, along, is_reached}
 
@@ -39,7 +39,7 @@ pub is_sound : (edges : List Edge) (m n : ℕ) → is_reached edges m n ≡ true
 is_sound [] m n e = here (eqb-true m n e)
 is_sound (edge ∷ edges) m n e =
     elim (or_cases (is_reached edges m n) (is_reached edges m edge.0) (is_reached edges edge.1 n) e) [
-        inl h ↦ more_edges edge edges m n (is_sound edges m n h)
+      | inl h ↦ more_edges edge edges m n (is_sound edges m n h)
       | inr h ↦ joined (edge ∷ edges) m edge.0 n (more_edges edge edges m edge.0 (is_sound edges m edge.0 h.0)) (along (inl (refl, refl)) (more_edges edge edges edge.1 n (is_sound edges edge.1 n h.1)))
     ]
 
@@ -50,12 +50,12 @@ one_more [] m k n l e = elim l [ ]
 one_more (edge ∷ edges) m k n (inl l) e =
     let to_edge : is_reached edges m edge.0 ≡ true = itself_along edges edge.0 m l.0 in
     elim (or_cases (is_reached edges k n) (is_reached edges k edge.0) (is_reached edges edge.1 n) e) [
-        inl h ↦ let P : ℕ → Type 0 = λ x. is_reached edges x n ≡ true in or_right (is_reached edges m n) (is_reached edges m edge.0) (is_reached edges edge.1 n) to_edge (subst P (sym l.1) h)
+      | inl h ↦ let P : ℕ → Type 0 = λ x. is_reached edges x n ≡ true in or_right (is_reached edges m n) (is_reached edges m edge.0) (is_reached edges edge.1 n) to_edge (subst P (sym l.1) h)
       | inr h ↦ or_right (is_reached edges m n) (is_reached edges m edge.0) (is_reached edges edge.1 n) to_edge h.1
     ]
 one_more (edge ∷ edges) m k n (inr l) e =
     elim (or_cases (is_reached edges k n) (is_reached edges k edge.0) (is_reached edges edge.1 n) e) [
-        inl h ↦ or_left (is_reached edges m n) (is_reached edges m edge.0 && is_reached edges edge.1 n) (one_more edges m k n l h)
+      | inl h ↦ or_left (is_reached edges m n) (is_reached edges m edge.0 && is_reached edges edge.1 n) (one_more edges m k n l h)
       | inr h ↦ or_right (is_reached edges m n) (is_reached edges m edge.0) (is_reached edges edge.1 n) (one_more edges m k edge.0 l h.0) h.1
     ]
 

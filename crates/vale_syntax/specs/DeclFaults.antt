@@ -1,6 +1,6 @@
 -- Which programs are declared: those no node of which breaks a rule of declarations. Each node stands here over its parts,
 -- in post-order.
-use Rattle.std.specs.Prelude.{ℕ, ◌+◌, Bool, List, [], ◌∷◌, ◌++◌, map, length, Option, Some, None}
+use Rattle.std.specs.Prelude.{ℕ, ◌+◌, List, [], ◌++◌, map, length, Option, Some, None}
 use Rattle.vale_base.specs.declared.spot.Spot.{Spot}
 use Rattle.vale_syntax.specs.declared.tree.NameAt.{NameAt}
 use Rattle.vale_syntax.specs.Tree.{TypeExpr, int_type, bool_type, str_type, named_type, array_type, ref_type, imm_ref_type, iso_type, Expr, set, chain, unary, steps, number, quote, truth, name, call, paren, array, iso, form, Exprs, no_exprs, more_exprs, Link, link, Links, no_links, more_links, Step, field, method, index, Steps, no_steps, more_steps, Form, branch, pure, parallel_range, parallel_each, ElseIf, else_if, Elses, no_else, otherwise, more_elses, Block, block, Stmt, declare, destructure, return_nothing, return_value, while, foreach, form_stmt, express, Stmts, no_stmts, last, more_stmts, Param, param, Head, head, Function, function, FieldDecl, field_decl, Item, struct_item, interface_item, impl_item, function_item, Tree, tree}
@@ -29,7 +29,6 @@ abbrev pub ◌▸◌ : Body → Body → Body
 a ▸ b = record { faults = a.faults ++ b.faults; declared = a.declared + b.declared }
 
 module _ (names : List (List ℕ)) (items : List Item) where
-
   abbrev pub type_faults : Position → TypeExpr → List Fault
   type_faults position (int_type at) = []
   type_faults position (bool_type at) = []

@@ -1,13 +1,13 @@
 -- The rules of declarations: a row for each kind of node, its rules in rising order of their codes (docs/LANGUAGE.md,
 -- "Declarations").
-use Rattle.std.specs.Prelude.{ℕ, ◌+◌, Bool, true, false, not, ◌||◌, ◌&&◌, List, [], ◌∷◌, length, nat_le, Option, Some, None, is_some, filter_map, if◌then◌else◌}
+use Rattle.std.specs.Prelude.{ℕ, ◌+◌, Bool, true, false, not, ◌||◌, ◌&&◌, List, [], ◌∷◌, length, nat_le, Option, Some, None, is_some, if◌then◌else◌}
 use Rattle.std.specs.List.{list_any}
 use Rattle.std.specs.Option.{option_map_or}
 use Rattle.vale_base.specs.Limits.{locals_limit}
 use Rattle.vale_syntax.specs.declared.tree.NameAt.{NameAt}
-use Rattle.vale_syntax.specs.Tree.{TypeExpr, FieldDecl, Param, Head, head, Function, Item}
+use Rattle.vale_syntax.specs.Tree.{TypeExpr, FieldDecl, Param, Head, Item}
 use Rattle.vale_syntax.specs.Judged.{Rules, ◌⇒◌}
-use Rattle.vale_syntax.specs.Declarations.{same_name, is_among, is_built_in, field_name, param_name, head_name, head_params, function_head, item_name, is_struct_of, is_interface_of, is_impl_of, is_function_with, is_object, is_frozen, is_isolates, reaches_iso, is_main, is_lawful_main, is_drop, drops, heads_of, is_method, are_methods_of}
+use Rattle.vale_syntax.specs.Declarations.{same_name, is_built_in, field_name, param_name, head_name, head_params, item_name, is_struct_of, is_interface_of, is_impl_of, is_function_with, is_object, is_isolates, reaches_iso, is_main, is_lawful_main, is_drop, drops, heads_of, is_method, are_methods_of}
 
 -- where a type stands
 pub data Position : Type 0 where
@@ -28,7 +28,6 @@ may_hold_isolates of_value = true
 may_hold_isolates of_element = true
 
 module _ (names : List (List ℕ)) (items : List Item) where
-
   -- ---- types
 
   -- a struct's or an interface's name
