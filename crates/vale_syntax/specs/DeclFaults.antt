@@ -4,9 +4,13 @@ use Rattle.std.specs.Prelude.{ℕ, ◌+◌, List, [], ◌++◌, map, length, Opt
 use Rattle.vale_base.specs.declared.spot.Spot.{Spot}
 use Rattle.vale_syntax.specs.declared.tree.NameAt.{NameAt}
 use Rattle.vale_syntax.specs.Tree.{TypeExpr, int_type, bool_type, str_type, named_type, array_type, ref_type, imm_ref_type, iso_type, Expr, set, chain, unary, steps, number, quote, truth, name, call, paren, array, iso, form, Exprs, no_exprs, more_exprs, Link, link, Links, no_links, more_links, Step, field, method, index, Steps, no_steps, more_steps, Form, branch, pure, parallel_range, parallel_each, ElseIf, else_if, Elses, no_else, otherwise, more_elses, Block, block, Stmt, declare, destructure, return_nothing, return_value, while, foreach, form_stmt, express, Stmts, no_stmts, last, more_stmts, Param, param, Head, head, Function, function, FieldDecl, field_decl, Item, struct_item, interface_item, impl_item, function_item, Tree, tree}
-use Rattle.vale_syntax.specs.Judged.{Fault, own, one_by_one, Judged, unless}
-use Rattle.vale_syntax.specs.Declarations.{head_name, function_head, Declarations, declarations}
-use Rattle.vale_syntax.specs.DeclRules.{Position, of_value, of_field, of_element, named_rules, array_rules, ref_rules, imm_ref_rules, iso_rules, field_rules, param_rules, head_rules, method_head_rules, method_rules, kind_rules, interface_name_rules, struct_name_rules, impl_rules, function_rules, program_rules}
+use Rattle.vale_syntax.specs.declared.decls.Decls.{Decls}
+use Rattle.vale_syntax.specs.declared.fault.Fault.{Fault}
+use Rattle.vale_syntax.specs.declared.position.Position.{Position}
+use Rattle.vale_syntax.specs.declared.position.Position.TheVariants.{Value, Field, Element}
+use Rattle.vale_syntax.specs.Judged.{own, one_by_one, Judged, unless}
+use Rattle.vale_syntax.specs.Declarations.{head_name, function_head, declarations}
+use Rattle.vale_syntax.specs.DeclRules.{named_rules, array_rules, ref_rules, imm_ref_rules, iso_rules, field_rules, param_rules, head_rules, method_head_rules, method_rules, kind_rules, interface_name_rules, struct_name_rules, impl_rules, function_rules, program_rules}
 
 -- ---- what a body is asked for: the faults of the types in it, and how many names it declares
 
@@ -28,16 +32,16 @@ infixr 12 ◌▸◌
 abbrev pub ◌▸◌ : Body → Body → Body
 a ▸ b = record { faults = a.faults ++ b.faults; declared = a.declared + b.declared }
 
-module _ (names : List (List ℕ)) (items : List Item) where
+module _ (items : List Item) where
   abbrev pub type_faults : Position → TypeExpr → List Fault
   type_faults position (int_type at) = []
   type_faults position (bool_type at) = []
   type_faults position (str_type at) = []
-  type_faults position (named_type n) = own n.at (named_rules names items n)
-  type_faults position (array_type at x) = type_faults of_element x ++ own at (array_rules names items position x)
-  type_faults position (ref_type at x) = type_faults of_value x ++ own at (ref_rules names items x)
-  type_faults position (imm_ref_type at x) = type_faults of_value x ++ own at (imm_ref_rules names items position x)
-  type_faults position (iso_type at x) = type_faults of_value x ++ own at (iso_rules names items position x)
+  type_faults position (named_type n) = own n.at (named_rules items n)
+  type_faults position (array_type at x) = type_faults Element x ++ own at (array_rules position x)
+  type_faults position (ref_type at x) = type_faults Value x ++ own at (ref_rules x)
+  type_faults position (imm_ref_type at x) = type_faults Value x ++ own at (imm_ref_rules position x)
+  type_faults position (iso_type at x) = type_faults Value x ++ own at (iso_rules items position x)
 
   -- ---- bodies
 
@@ -53,7 +57,7 @@ module _ (names : List (List ℕ)) (items : List Item) where
     in_expr (name n) = nothing
     in_expr (call n es) = in_exprs es
     in_expr (paren at e) = in_expr e
-    in_expr (array at x es) = type_here (type_faults of_element x) ▸ in_exprs es
+    in_expr (array at x es) = type_here (type_faults Element x) ▸ in_exprs es
     in_expr (iso at b) = in_block b
     in_expr (form f) = in_form f
 
@@ -112,14 +116,14 @@ module _ (names : List (List ℕ)) (items : List Item) where
   -- ---- parts of items, each with the earlier ones of its list
 
   abbrev pub field_faults : List FieldDecl → FieldDecl → List Fault
-  field_faults before (field_decl n may_be_set x) = type_faults of_field x ++ own n.at (field_rules names items before (field_decl n may_be_set x))
+  field_faults before (field_decl n may_be_set x) = type_faults Field x ++ own n.at (field_rules before (field_decl n may_be_set x))
 
   abbrev pub param_faults : List Param → Param → List Fault
-  param_faults before (param n x) = type_faults of_value x ++ own n.at (param_rules names items before (param n x))
+  param_faults before (param n x) = type_faults Value x ++ own n.at (param_rules before (param n x))
 
   abbrev pub result_faults : Option TypeExpr → List Fault
   result_faults None = []
-  result_faults (Some x) = type_faults of_value x
+  result_faults (Some x) = type_faults Value x
 
   -- what a head has in it
   abbrev pub inside_head : Head → List Fault
@@ -127,27 +131,28 @@ module _ (names : List (List ℕ)) (items : List Item) where
 
   -- a method of the interface
   abbrev pub head_faults : NameAt → List Head → Head → List Fault
-  head_faults i before h = inside_head h ++ own (head_name h).at (head_rules names items i before h)
+  head_faults i before h = inside_head h ++ own (head_name h).at (head_rules i before h)
 
   -- a method of an implementation: its head, its body, and it
   abbrev pub method_faults : List Function → Function → List Fault
   method_faults before (function h b) =
-      inside_head h ++ own (head_name h).at (method_head_rules names items (map function_head before) h)
+      inside_head h ++ own (head_name h).at (method_head_rules (map function_head before) h)
       ++ (in_block b).faults
-      ++ own (head_name h).at (method_rules names items h (in_block b).declared)
+      ++ own (head_name h).at (method_rules h (in_block b).declared)
 
-  -- ---- items, each with the earlier ones
+-- ---- items, each with the earlier ones
 
+module _ (names : List (List ℕ)) (items : List Item) where
   abbrev pub item_faults : List Item → Item → List Fault
-  item_faults before (struct_item n fs) = one_by_one field_faults [] fs ++ own n.at (kind_rules names items before n)
-  item_faults before (interface_item n hs) = one_by_one (head_faults n) [] hs ++ own n.at (kind_rules names items before n)
+  item_faults before (struct_item n fs) = one_by_one (field_faults items) [] fs ++ own n.at (kind_rules names before n)
+  item_faults before (interface_item n hs) = one_by_one (head_faults items n) [] hs ++ own n.at (kind_rules names before n)
   item_faults before (impl_item at i s fs) =
-      own i.at (interface_name_rules names items i) ++ own s.at (struct_name_rules names items s)
-      ++ one_by_one method_faults [] fs
-      ++ own at (impl_rules names items before i s (map function_head fs))
+      own i.at (interface_name_rules items i) ++ own s.at (struct_name_rules items s)
+      ++ one_by_one (method_faults items) [] fs
+      ++ own at (impl_rules items before i s (map function_head fs))
   item_faults before (function_item (function h b)) =
-      inside_head h ++ (in_block b).faults
-      ++ own (head_name h).at (function_rules names items before h (in_block b).declared)
+      inside_head items h ++ (in_block items b).faults
+      ++ own (head_name h).at (function_rules names items before h (in_block items b).declared)
 
 -- the spot of the program's node
 abbrev pub program_spot : Spot
@@ -158,5 +163,5 @@ abbrev pub declaration_faults : Tree → List Fault
 declaration_faults (tree names items) = one_by_one (item_faults names items) [] items ++ own program_spot (program_rules names items)
 
 -- what the program declares, where no node breaks a rule; else its faults
-abbrev pub declared : Tree → Judged Declarations
+abbrev pub declared : Tree → Judged Decls
 declared (tree names items) = unless (declaration_faults (tree names items)) (declarations items)

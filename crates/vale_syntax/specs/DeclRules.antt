@@ -5,31 +5,39 @@ use Rattle.std.specs.List.{list_any}
 use Rattle.std.specs.Option.{option_map_or}
 use Rattle.vale_base.specs.Limits.{locals_limit}
 use Rattle.vale_syntax.specs.declared.tree.NameAt.{NameAt}
+use Rattle.vale_syntax.specs.declared.position.Position.{Position}
+use Rattle.vale_syntax.specs.declared.position.Position.TheVariants.{Value, Field, Element}
 use Rattle.vale_syntax.specs.Tree.{TypeExpr, FieldDecl, Param, Head, Item}
 use Rattle.vale_syntax.specs.Judged.{Rules, ◌⇒◌}
 use Rattle.vale_syntax.specs.Declarations.{same_name, is_built_in, field_name, param_name, head_name, head_params, item_name, is_struct_of, is_interface_of, is_impl_of, is_function_with, is_object, is_isolates, reaches_iso, is_main, is_lawful_main, is_drop, drops, heads_of, is_method, are_methods_of}
 
--- where a type stands
-pub data Position : Type 0 where
-  of_value : Position
-  of_field : Position
-  of_element : Position
-
 -- a field or an element never holds a frozen reference
 abbrev pub may_hold_frozen : Position → Bool
-may_hold_frozen of_value = true
-may_hold_frozen of_field = false
-may_hold_frozen of_element = false
+may_hold_frozen Value = true
+may_hold_frozen Field = false
+may_hold_frozen Element = false
 
 -- a field never holds isolates
 abbrev pub may_hold_isolates : Position → Bool
-may_hold_isolates of_field = false
-may_hold_isolates of_value = true
-may_hold_isolates of_element = true
+may_hold_isolates Field = false
+may_hold_isolates Value = true
+may_hold_isolates Element = true
 
-module _ (names : List (List ℕ)) (items : List Item) where
-  -- ---- types
+-- ---- types
 
+-- `[]X`
+abbrev pub array_rules : Position → TypeExpr → Rules
+array_rules position x = (16, is_isolates x ⇒ may_hold_isolates position) ∷ []
+
+-- `&X`
+abbrev pub ref_rules : TypeExpr → Rules
+ref_rules x = (16, is_object x) ∷ []
+
+-- `&imm X`
+abbrev pub imm_ref_rules : Position → TypeExpr → Rules
+imm_ref_rules position x = (16, is_object x && may_hold_frozen position) ∷ []
+
+module _ (items : List Item) where
   -- a struct's or an interface's name
   abbrev pub is_kind : NameAt → Bool
   is_kind n = list_any (is_struct_of n) items || list_any (is_interface_of n) items
@@ -37,60 +45,41 @@ module _ (names : List (List ℕ)) (items : List Item) where
   abbrev pub named_rules : NameAt → Rules
   named_rules n = (11, is_kind n) ∷ []
 
-  -- `[]X`
-  abbrev pub array_rules : Position → TypeExpr → Rules
-  array_rules position x = (16, is_isolates x ⇒ may_hold_isolates position) ∷ []
-
-  -- `&X`
-  abbrev pub ref_rules : TypeExpr → Rules
-  ref_rules x = (16, is_object x) ∷ []
-
-  -- `&imm X`
-  abbrev pub imm_ref_rules : Position → TypeExpr → Rules
-  imm_ref_rules position x = (16, is_object x && may_hold_frozen position) ∷ []
-
   -- `iso X`
   abbrev pub iso_rules : Position → TypeExpr → Rules
   iso_rules position x = (14, is_object x ⇒ not (reaches_iso items x)) ∷ (16, is_object x && may_hold_isolates position) ∷ []
 
-  -- ---- parts of items, each with the earlier ones of its list
+-- ---- parts of items, each with the earlier ones of its list
 
-  abbrev pub field_rules : List FieldDecl → FieldDecl → Rules
-  field_rules before f = (10, not (list_any (λ g. same_name (field_name f) (field_name g)) before)) ∷ []
+abbrev pub field_rules : List FieldDecl → FieldDecl → Rules
+field_rules before f = (10, not (list_any (λ g. same_name (field_name f) (field_name g)) before)) ∷ []
 
-  abbrev pub param_rules : List Param → Param → Rules
-  param_rules before p = (10, not (list_any (λ q. same_name (param_name p) (param_name q)) before)) ∷ []
+abbrev pub param_rules : List Param → Param → Rules
+param_rules before p = (10, not (list_any (λ q. same_name (param_name p) (param_name q)) before)) ∷ []
 
-  -- the earlier methods have no such name
-  abbrev pub is_new_method : List Head → Head → Bool
-  is_new_method before h = not (list_any (λ g. same_name (head_name h) (head_name g)) before)
+-- the earlier methods have no such name
+abbrev pub is_new_method : List Head → Head → Bool
+is_new_method before h = not (list_any (λ g. same_name (head_name h) (head_name g)) before)
 
-  -- a method of the interface
-  abbrev pub head_rules : NameAt → List Head → Head → Rules
-  head_rules i before h = (10, is_new_method before h) ∷ (12, is_method i h) ∷ []
+-- a method of the interface
+abbrev pub head_rules : NameAt → List Head → Head → Rules
+head_rules i before h = (10, is_new_method before h) ∷ (12, is_method i h) ∷ []
 
-  -- a method of an implementation, before its body
-  abbrev pub method_head_rules : List Head → Head → Rules
-  method_head_rules before h = (10, is_new_method before h) ∷ []
+-- a method of an implementation, before its body
+abbrev pub method_head_rules : List Head → Head → Rules
+method_head_rules before h = (10, is_new_method before h) ∷ []
 
-  -- the parameters and the names that the body declares
-  abbrev pub has_room : Head → ℕ → Bool
-  has_room h declared = nat_le (length (head_params h) + declared) locals_limit
+-- the parameters and the names that the body declares
+abbrev pub has_room : Head → ℕ → Bool
+has_room h declared = nat_le (length (head_params h) + declared) locals_limit
 
-  -- a method of an implementation, with its body
-  abbrev pub method_rules : Head → ℕ → Rules
-  method_rules h declared = (17, has_room h declared) ∷ []
+-- a method of an implementation, with its body
+abbrev pub method_rules : Head → ℕ → Rules
+method_rules h declared = (17, has_room h declared) ∷ []
 
-  -- ---- items, each with the earlier ones
+-- ---- items, each with the earlier ones
 
-  -- neither an earlier item nor a built-in has the name
-  abbrev pub is_new_item : List Item → NameAt → Bool
-  is_new_item before n = not (is_built_in names n || list_any (λ item. option_map_or (same_name n) (item_name item) false) before)
-
-  -- a struct or an interface
-  abbrev pub kind_rules : List Item → NameAt → Rules
-  kind_rules before n = (10, is_new_item before n) ∷ []
-
+module _ (items : List Item) where
   -- the two names of an implementation
   abbrev pub interface_name_rules : NameAt → Rules
   interface_name_rules i = (11, list_any (is_interface_of i) items) ∷ []
@@ -107,6 +96,16 @@ module _ (names : List (List ℕ)) (items : List Item) where
       (10, not (list_any (is_impl_of i s) before))
       ∷ (12, implements_all i s methods (heads_of i items)) ∷ []
 
+module _ (names : List (List ℕ)) where
+  -- neither an earlier item nor a built-in has the name
+  abbrev pub is_new_item : List Item → NameAt → Bool
+  is_new_item before n = not (is_built_in names n || list_any (λ item. option_map_or (same_name n) (item_name item) false) before)
+
+  -- a struct or an interface
+  abbrev pub kind_rules : List Item → NameAt → Rules
+  kind_rules before n = (10, is_new_item before n) ∷ []
+
+module _ (names : List (List ℕ)) (items : List Item) where
   -- a lawful `drop` of that struct
   abbrev pub drops_same : NameAt → Head → Bool
   drops_same s h = option_map_or (same_name s) (drops names items h) false
@@ -118,7 +117,7 @@ module _ (names : List (List ℕ)) (items : List Item) where
 
   abbrev pub is_new_function : List Item → Head → Bool
   is_new_function before h =
-      if is_drop names h then is_new_drop before (drops names items h) else is_new_item before (head_name h)
+      if is_drop names h then is_new_drop before (drops names items h) else is_new_item names before (head_name h)
 
   -- the first of the functions named `main`
   abbrev pub is_first_main : List Item → Head → Bool

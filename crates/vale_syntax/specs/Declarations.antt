@@ -4,6 +4,9 @@ use Rattle.std.specs.List.{list_any, list_all}
 use Rattle.std.specs.Option.{option_map_or}
 use Rattle.vale_base.specs.declared.name.Name.{Name}
 use Rattle.vale_syntax.specs.declared.tree.NameAt.{NameAt}
+use Rattle.vale_syntax.specs.declared.decls.Declared.{Declared}
+use Rattle.vale_syntax.specs.declared.decls.Implemented.{Implemented}
+use Rattle.vale_syntax.specs.declared.decls.Decls.{Decls}
 use Rattle.vale_syntax.specs.Tree.{TypeExpr, int_type, bool_type, str_type, named_type, array_type, ref_type, imm_ref_type, iso_type, Param, param, Head, head, Function, function, FieldDecl, field_decl, Item, struct_item, interface_item, impl_item, function_item}
 use Rattle.vale_syntax.specs.Reach.{Edge, is_reached}
 
@@ -227,17 +230,7 @@ abbrev pub are_methods_of : NameAt → NameAt → List Head → List Head → Bo
 are_methods_of i s theirs ours =
     list_all (λ h. list_any (implements i s h) ours) theirs && list_all (λ g. list_any (λ h. implements i s h g) theirs) ours
 
--- ---- the declarations of a program in order, each with its place among the items
-
-pub record Declared : Type 0 where
-  pub name : Name
-  pub item : ℕ
-
--- an implementation of the interface by the struct
-pub record Implemented : Type 0 where
-  pub interface : Name
-  pub of : Name
-  pub item : ℕ
+-- ---- what a program declares, in order
 
 -- what the items from the k-th on declare
 abbrev pub structs_from : ℕ → List Item → List Declared
@@ -260,11 +253,5 @@ functions_from k [] = []
 functions_from k (function_item f ∷ items) = record { name = (head_name (function_head f)).name; item = k } ∷ functions_from (k + 1) items
 functions_from k (_ ∷ items) = functions_from (k + 1) items
 
-pub record Declarations : Type 0 where
-  pub structs : List Declared
-  pub interfaces : List Declared
-  pub impls : List Implemented
-  pub functions : List Declared
-
-abbrev pub declarations : List Item → Declarations
+abbrev pub declarations : List Item → Decls
 declarations items = record { structs = structs_from 0 items; interfaces = interfaces_from 0 items; impls = impls_from 0 items; functions = functions_from 0 items }

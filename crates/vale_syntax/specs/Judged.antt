@@ -5,12 +5,9 @@
 -- of a program has all the faults of its nodes in post-order, and a phase refuses at the first of them.
 use Rattle.std.specs.Prelude.{◌≡◌, ℕ, Bool, not, ◌||◌, List, [], ◌∷◌, ◌++◌, Option, Some, None, Result, Ok, Err, if◌then◌else◌}
 use Rattle.vale_base.specs.declared.spot.Spot.{Spot}
+use Rattle.vale_syntax.specs.declared.fault.Fault.{Fault}
 use Rattle.vale_base.specs.declared.fault.Fail.{Fail}
 use Rattle.vale_base.specs.declared.fault.Fail.TheVariants.{Memory, Is}
-
-pub record Fault : Type 0 where
-  pub code : ℕ
-  pub at : Spot
 
 -- ---- rows
 
@@ -42,6 +39,11 @@ fault_of at (Some code) = record { code = code; at = at } ∷ []
 -- the fault of a node by itself, at its spot
 abbrev pub own : Spot → Rules → List Fault
 own at rules = fault_of at (broken rules)
+
+-- this where there are no faults, else the first of them
+abbrev pub stopped : {A : Type 0} → List Fault → A → Result A Fault
+stopped [] a = Ok a
+stopped (f ∷ fs) a = Err f
 
 -- the faults of parts that stand one after another, each judged with those before it, the last of them first
 abbrev pub one_by_one : {X : Type 0} → (List X → X → List Fault) → List X → List X → List Fault
@@ -107,8 +109,8 @@ first_of (f ∷ fs) = Some f
 abbrev pub IsFirstFault : {A : Type 0} → Judged A → Fault → Type 0
 IsFirstFault j f = first_of (faults j) ≡ Some f
 
--- what a call answers, seen by the two views, is this; nothing is said of want of memory
-abbrev pub Gives : {X A F : Type 0} → (X → A) → (F → Fault) → Result X (Fail F) → Result A Fault → Type 0
-Gives view view_fault (Ok x) answer = answer ≡ Ok (view x)
-Gives view view_fault (Err Memory) answer = Unit {0}
-Gives view view_fault (Err (Is f)) answer = answer ≡ Err (view_fault f)
+-- what a call answers, seen by the view, is this; nothing is said of want of memory
+abbrev pub Gives : {X A : Type 0} → (X → A) → Result X (Fail Fault) → Result A Fault → Type 0
+Gives view (Ok x) answer = answer ≡ Ok (view x)
+Gives view (Err Memory) answer = Unit {0}
+Gives view (Err (Is f)) answer = answer ≡ Err f
