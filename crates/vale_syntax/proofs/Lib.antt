@@ -1,1 +1,5 @@
+mod DeclRows
+mod DeclTexts
+pub mod JudgedLaws
+pub mod ReachLaws
 pub mod ViewLaws

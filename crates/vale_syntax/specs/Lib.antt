@@ -1,8 +1,13 @@
 pub mod Bytes
 pub mod Canon
 pub mod Cut
+pub mod Declarations
+pub mod DeclFaults
+pub mod DeclRules
 pub mod Grammar
+pub mod Judged
 pub mod Layout
+pub mod Reach
 pub mod Sums
 pub mod Tree
 pub mod View

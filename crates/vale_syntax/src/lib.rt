@@ -3,10 +3,16 @@
 #![tactic(auto)]
 
 mod build;
+mod decls;
+mod fault;
+mod position;
 mod program;
 mod token;
 mod tree;
 
+pub use decls::{Declared, Decls, Implemented};
+pub use fault::Fault;
+pub use position::Position;
 pub use program::{Added, Println, Program, Sum};
 pub use token::{Sign, Token, TokenKind, TokenList, Tokens, Word};
 pub use tree::{
