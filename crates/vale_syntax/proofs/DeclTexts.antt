@@ -1,12 +1,12 @@
 -- Texts that are declared, and texts that aren't, by computation: for each code both. A text stands here as its tree.
 use Rattle.std.proofs.Common.{◌≡◌, ℕ, List, [], ◌∷◌, Option, Some, None, refl}
-use Rattle.std.specs.Prelude.{Bool, true, false, codes, replicate, pos}
+use Rattle.std.specs.Prelude.{true, false, codes, replicate, pos}
 use Rattle.vale_base.specs.declared.spot.Spot.{Spot}
 use Rattle.vale_syntax.specs.declared.tree.NameAt.{NameAt}
 use Rattle.vale_syntax.specs.declared.fault.Fault.{Fault}
 use Rattle.vale_syntax.specs.Judged.{first_of}
 use Rattle.vale_syntax.specs.DeclFaults.{declaration_faults}
-use Rattle.vale_syntax.specs.Tree.{TypeExpr, int_type, bool_type, str_type, named_type, array_type, ref_type, imm_ref_type, iso_type, Expr, number, array, no_exprs, Block, block, Stmts, Stmt, no_stmts, more_stmts, declare, destructure, express, Param, param, Head, head, Function, function, FieldDecl, field_decl, Item, struct_item, interface_item, impl_item, function_item, Tree, tree}
+use Rattle.vale_syntax.specs.Tree.{int_type, bool_type, str_type, named_type, array_type, ref_type, imm_ref_type, iso_type, number, array, no_exprs, block, Stmts, no_stmts, more_stmts, destructure, express, param, head, function, field_decl, Item, struct_item, interface_item, impl_item, function_item, tree}
 
 -- ---- nodes, with their columns in a text of one line
 

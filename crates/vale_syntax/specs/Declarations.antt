@@ -2,7 +2,6 @@
 use Rattle.std.specs.Prelude.{ℕ, ◌+◌, Bool, true, false, not, ◌||◌, ◌&&◌, ◌==◌, List, [], ◌∷◌, Option, Some, None, codes, bytes_eq, slice_get, if◌then◌else◌, flat_map, filter_map}
 use Rattle.std.specs.List.{list_any, list_all}
 use Rattle.std.specs.Option.{option_map_or}
-use Rattle.vale_base.specs.declared.name.Name.{Name}
 use Rattle.vale_syntax.specs.declared.tree.NameAt.{NameAt}
 use Rattle.vale_syntax.specs.declared.decls.Declared.{Declared}
 use Rattle.vale_syntax.specs.declared.decls.Implemented.{Implemented}
