@@ -1,0 +1,6 @@
+//! From tokens to the tree.
+#![tactic(auto)]
+
+mod stop;
+
+pub use stop::{Stop, Turn};
