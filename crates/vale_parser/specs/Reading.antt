@@ -144,6 +144,28 @@ unfoldable pub after_plain : Expr → Reader (Turn Stmt (Option Expr))
 after_plain e [] = Err (unexpected [])
 after_plain e (t ∷ ts) = plain_end e t ts t.kind
 
+-- ---- operators between operands that the reader reads
+
+abbrev pub link_by : Reader Expr → Token → List Token → Option BinaryOp → Read (Turn Link (Unit {0}))
+link_by tighter t ts (Some op) = do
+  e ← tighter ts
+  Ok (More (link t.at op e.0), e.1)
+link_by tighter t ts None = Ok (End tt, t ∷ ts)
+
+unfoldable pub link_turn : Reader Expr → ℕ → Reader (Turn Link (Unit {0}))
+link_turn tighter r [] = Ok (End tt, [])
+link_turn tighter r (t ∷ ts) = link_by tighter t ts (link_op r t.kind)
+
+abbrev pub no_more : Reader Links
+no_more ts = Ok (no_links, ts)
+
+-- comparisons don't chain
+abbrev pub most_links : ℕ → List Token → ℕ
+most_links r ts = if eqb r comparison then 1 else enough ts
+
+unfoldable pub links_at : Reader Expr → ℕ → Reader Links
+links_at tighter r ts = turns_at (link_turn tighter r) more_links (λ _. no_links) no_more (most_links r ts) ts
+
 module _ (names : List (List ℕ)) where
   -- ---- types
 
@@ -365,28 +387,6 @@ module _ (names : List (List ℕ)) where
   unfoldable pub unary_at : Option Inner → Reader Expr
   unary_at o [] = Err (unexpected [])
   unary_at o (t ∷ ts) = unary_by o t ts (unary_op t.kind)
-
-  -- ---- operators between operands that the reader reads
-
-  abbrev pub link_by : Reader Expr → Token → List Token → Option BinaryOp → Read (Turn Link (Unit {0}))
-  link_by tighter t ts (Some op) = do
-    e ← tighter ts
-    Ok (More (link t.at op e.0), e.1)
-  link_by tighter t ts None = Ok (End tt, t ∷ ts)
-
-  unfoldable pub link_turn : Reader Expr → ℕ → Reader (Turn Link (Unit {0}))
-  link_turn tighter r [] = Ok (End tt, [])
-  link_turn tighter r (t ∷ ts) = link_by tighter t ts (link_op r t.kind)
-
-  abbrev pub no_more : Reader Links
-  no_more ts = Ok (no_links, ts)
-
-  -- comparisons don't chain
-  abbrev pub most_links : ℕ → List Token → ℕ
-  most_links r ts = if eqb r comparison then 1 else enough ts
-
-  unfoldable pub links_at : Reader Expr → ℕ → Reader Links
-  links_at tighter r ts = turns_at (link_turn tighter r) more_links (λ _. no_links) no_more (most_links r ts) ts
 
   -- an expression of at most the rank of a unary operator and so many more
   unfoldable pub level_at : Option Inner → ℕ → Reader Expr
