@@ -1,3 +1,4 @@
 pub mod StepLaws
 pub mod Takes
 pub mod Shorter
+pub mod Firsts
