@@ -2,3 +2,4 @@ pub mod StepLaws
 pub mod Takes
 pub mod Shorter
 pub mod Firsts
+pub mod AgainSteps
