@@ -3,3 +3,4 @@ pub mod Takes
 pub mod Shorter
 pub mod Firsts
 pub mod AgainSteps
+pub mod Again
