@@ -4,3 +4,4 @@ pub mod Shorter
 pub mod Firsts
 pub mod AgainSteps
 pub mod Again
+pub mod AgainStmts
