@@ -5,3 +5,4 @@ pub mod Firsts
 pub mod AgainSteps
 pub mod Again
 pub mod AgainStmts
+pub mod ItemTakes
