@@ -1,19 +1,19 @@
 -- What is read of items is in the grammar.
-use Rattle.std.proofs.Common.{◌≡◌, ◌<◌, ◌≤◌, ◌+◌, ℕ, zero, suc, Bool, true, false, List, [], ◌∷◌, length, Option, Some, None, Result, Ok, Err, refl, sym, ap, subst, ◌∙◌, arith}
+use Rattle.std.proofs.Common.{◌≡◌, ℕ, zero, suc, Bool, true, false, List, [], ◌∷◌, Option, Some, None, Ok, Err, refl, sym, subst}
 use Rattle.vale_base.specs.Limits.{level_limit}
 use Rattle.vale_syntax.specs.declared.token.Token.{Token}
 use Rattle.vale_syntax.specs.declared.token.TokenKind.{TokenKind}
 use Rattle.vale_syntax.specs.declared.token.TokenKind.TheVariants as k
 use Rattle.vale_syntax.specs.declared.token.Sign.TheVariants as s
 use Rattle.vale_syntax.specs.declared.token.Word.TheVariants as w
-use Rattle.vale_syntax.specs.Tree.{TypeExpr, Param, param, Head, head, Function, function, FieldDecl, field_decl, Item, struct_item, interface_item, impl_item, function_item, Tree, tree}
-use Rattle.vale_syntax.specs.Grammar.{Part, token, one, sign, word, nothing, ◌▸◌, when, optional, each, with_commas, deeper, names_in, named, IsType, IsParam, IsHead, IsFunction, IsField, IsItem, spells}
+use Rattle.vale_syntax.specs.Tree.{TypeExpr, param, head, function, field_decl, Item, struct_item, interface_item, impl_item, function_item, Tree, tree}
+use Rattle.vale_syntax.specs.Grammar.{Part, sign, word, ◌▸◌, when, optional, each, with_commas, deeper, names_in, IsType, IsParam, IsHead, IsFunction, IsField, IsItem, spells}
 use Rattle.vale_parser.specs.declared.stop.Turn.{Turn}
 use Rattle.vale_parser.specs.declared.stop.Turn.TheVariants.{More, End}
-use Rattle.vale_parser.specs.Steps.{Fault, unexpected, too_deep, Read, Reader, ◌>>=◌, begins, begins_word, sign_at, word_at, name_at, turns_at, enough, faulty}
-use Rattle.vale_parser.specs.Reading.{commas_at, type_at, block_at, within}
+use Rattle.vale_parser.specs.Steps.{Read, Reader, begins, begins_word, enough, faulty}
+use Rattle.vale_parser.specs.Reading.{within}
 use Rattle.vale_parser.specs.ItemReading.{lower, ended, until_by, until, all_until, braced, flag_word, purity_at, flag_sign, bang_at, param_at, params_at, result_by, result_at, head_at, signature_at, function_at, field_at, struct_at, interface_at, impl_at, function_item_at, item_by, item_at, items_at, tree_of, all_of}
-use Rattle.vale_parser.proofs.StepLaws.{ok_is, given, returned, at_kind, sign_takes, word_takes, name_takes, front, Takes, by_turn, turns_takes, faulty_takes, commas_take}
+use Rattle.vale_parser.proofs.StepLaws.{given, returned, sign_takes, word_takes, name_takes, front, Takes, by_turn, turns_takes, faulty_takes, commas_take}
 use Rattle.vale_parser.proofs.Takes.{type_takes, block_takes, within_sound}
 
 lowered : {A C : Type 0} {f : ℕ → Read A} {y : A × List Token} (here : List Token) (d : ℕ) → lower d here f ≡ Ok y → ((l : ℕ) → d ≡ suc l → f l ≡ Ok y → C) → C

@@ -6,3 +6,4 @@ pub mod AgainSteps
 pub mod Again
 pub mod AgainStmts
 pub mod ItemTakes
+pub mod ItemAgain
