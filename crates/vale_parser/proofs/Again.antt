@@ -16,10 +16,11 @@ use Rattle.vale_syntax.specs.Grammar.{Part, token, one, sign, word, ◌▸◌, d
 use Rattle.vale_syntax.specs.View.{else_end}
 use Rattle.vale_parser.specs.declared.stop.Turn.TheVariants.{More, End}
 use Rattle.vale_parser.specs.Steps.{Read, Reader, begins, begins_word, turns_at, enough, faulty}
-use Rattle.vale_parser.specs.Reading.{binary_op, of_rank, link_op, chained, stepped, Inner, inside, type_at, block_at, else_turn, elses_at, branch_at, parallel_at, pure_at, form_at, arguments_at, called_at, paren_at, array_at, iso_at, primary_at, member_at, index_at, step_by, step_turn, steps_at, postfix_at, unary_at, link_turn, no_more, links_at, level_at, set_at, whole_at, args_at}
+use Rattle.vale_parser.specs.Reading.{binary_op, height, of_height, link_op, chained, stepped, Inner, inside, ref_type_at, array_type_at, iso_type_at, type_at, block_at, else_turn, elses_at, branch_at, parallel_at, pure_at, form_at, arguments_at, called_at, paren_at, array_at, iso_at, primary_at, member_at, index_at, step_by, step_turn, steps_at, postfix_at, unary_at, link_turn, no_more, links_at, level_at, set_at, whole_at, args_at}
 use Rattle.vale_parser.proofs.StepLaws.{sign_again, word_again, name_again}
 use Rattle.vale_parser.proofs.Shorter.{shorter, shorter_link, shorter_step, shorter_else_if}
 use Rattle.vale_parser.proofs.Firsts.{sticks, Above, Stops, NoParen, NoElse, Apart, Before, Any, Apart-stops, Stops-less, Stops-sign, binary_again, sticks_binary, unary_again, starts_no_close, chain_rank, first, type_no_imm, block_stops, block_no_if, block_no_dots}
+use Rattle.vale_parser.proofs.Takes.{rank_is}
 use Rattle.vale_parser.proofs.AgainSteps.{Again, begins_again, begins_word_again, exprs_listed, links_listed, steps_listed, elses_listed, turns_again, commas_again}
 
 -- ---- operators
@@ -27,17 +28,19 @@ use Rattle.vale_parser.proofs.AgainSteps.{Again, begins_again, begins_word_again
 eqb_same : (n : ℕ) → eqb n n ≡ true
 eqb_same n = eq-eqb n n refl
 
-link_op_of : (r : ℕ) (op : BinaryOp) → rank op ≡ r → link_op r (binary_kind op) ≡ Some op
+link_op_of : (n : ℕ) (op : BinaryOp) → rank op ≡ suc (suc n) → link_op n (binary_kind op) ≡ Some op
 unfolding link_op
-link_op_of r op e = rw (binary_again op, e, eqb_same r) refl
+link_op_of n op e =
+    let is : height op ≡ n = omega (arith, e, rank_is op) in
+    rw (binary_again op, is, eqb_same n) refl
 
-of_rank_above : (r : ℕ) (o : Option BinaryOp) → Above r o → of_rank r o ≡ None
-of_rank_above r None h = refl
-of_rank_above r (Some op) h = rw (ne_eqb (rank op) r (λ e. omega (arith, h, e))) refl
+of_height_above : (n : ℕ) (o : Option BinaryOp) → Above (suc (suc n)) o → of_height n o ≡ None
+of_height_above n None h = refl
+of_height_above n (Some op) h = rw (ne_eqb (height op) n (λ e. omega (arith, h, e, rank_is op))) refl
 
-link_op_none : (r : ℕ) (kind : TokenKind) → Above r (binary_op kind) → link_op r kind ≡ None
+link_op_none : (n : ℕ) (kind : TokenKind) → Above (suc (suc n)) (binary_op kind) → link_op n kind ≡ None
 unfolding link_op
-link_op_none r kind h = of_rank_above r (binary_op kind) h
+link_op_none n kind h = of_height_above n (binary_op kind) h
 
 -- what has no rank of its own
 abbrev Primary : Expr → Type 0
@@ -70,20 +73,36 @@ module _ (names : List (List ℕ)) where
   module _ (d : ℕ) (o : Option Inner) (full : Full d o) where
     -- ---- types
 
+    array_type_again : (at : Spot) (x : TypeExpr) (ts rest : List Token) → IsType names d (array_type at x) ts rest → array_type_at names o ts ≡ Ok (array_type at x, rest)
+    unfolding array_type_at
+    array_type_again at x ts rest (m, h, g) = rw (sign_again s.OpenBracket at ts m h) (opening _ _ d o full (λ d. sign s.CloseBracket ▸ IsType names d x) m rest g
+        (λ l i law (m2, (at2, h2), h3). rw (sign_again s.CloseBracket at2 m m2 h2, law.type_expr x m2 rest h3 tt) refl))
+
+    ref_type_again : (at : Spot) (x : TypeExpr) (ts rest : List Token) → IsType names d (ref_type at x) ts rest → ref_type_at names o ts ≡ Ok (ref_type at x, rest)
+    unfolding ref_type_at
+    ref_type_again at x ts rest (m, h, g) = rw (sign_again s.Ampersand at ts m h) (opening _ _ d o full (λ d. IsType names d x) m rest g
+        (λ l i law h2. rw (type_no_imm names l x m rest h2, law.type_expr x m rest h2 tt) refl))
+
+    imm_ref_type_again : (at : Spot) (x : TypeExpr) (ts rest : List Token) → IsType names d (imm_ref_type at x) ts rest → ref_type_at names o ts ≡ Ok (imm_ref_type at x, rest)
+    unfolding ref_type_at
+    imm_ref_type_again at x ts rest (m, h, g) = rw (sign_again s.Ampersand at ts m h) (opening _ _ d o full (λ d. word w.Imm ▸ IsType names d x) m rest g
+        (λ l i law (m2, (at2, h2), h3). rw (begins_word_again w.Imm at2 m m2 h2, word_again w.Imm at2 m m2 h2, law.type_expr x m2 rest h3 tt) refl))
+
+    iso_type_again : (at : Spot) (x : TypeExpr) (ts rest : List Token) → IsType names d (iso_type at x) ts rest → iso_type_at names o ts ≡ Ok (iso_type at x, rest)
+    unfolding iso_type_at
+    iso_type_again at x ts rest (m, h, g) = rw (word_again w.Iso at ts m h) (opening _ _ d o full (λ d. IsType names d x) m rest g
+        (λ l i law h2. rw (law.type_expr x m rest h2 tt) refl))
+
     pub type_again : Again (type_at names o) (IsType names d) Any
     unfolding type_at
     type_again (int_type at) ts rest h q = rw h refl
     type_again (bool_type at) ts rest h q = rw h refl
     type_again (str_type at) ts rest h q = rw h refl
-    type_again (named_type n) ts rest (text, is, h) q = rw (h, is) refl
-    type_again (array_type at x) ts rest (m, h, g) q = rw h (opening _ _ d o full (λ d. sign s.CloseBracket ▸ IsType names d x) m rest g
-        (λ l i law (m2, (at2, h2), h3). rw (sign_again s.CloseBracket at2 m m2 h2, law.type_expr x m2 rest h3 tt) refl))
-    type_again (ref_type at x) ts rest (m, h, g) q = rw h (opening _ _ d o full (λ d. IsType names d x) m rest g
-        (λ l i law h2. rw (type_no_imm names l x m rest h2, law.type_expr x m rest h2 tt) refl))
-    type_again (imm_ref_type at x) ts rest (m, h, g) q = rw h (opening _ _ d o full (λ d. word w.Imm ▸ IsType names d x) m rest g
-        (λ l i law (m2, (at2, h2), h3). rw (begins_word_again w.Imm at2 m m2 h2, word_again w.Imm at2 m m2 h2, law.type_expr x m2 rest h3 tt) refl))
-    type_again (iso_type at x) ts rest (m, h, g) q = rw h (opening _ _ d o full (λ d. IsType names d x) m rest g
-        (λ l i law h2. rw (law.type_expr x m rest h2 tt) refl))
+    type_again (named_type n) ts rest (text, is, h) q = rw (h, name_again names n (token (k.Name text) n.at ∷ rest) rest (text, is, refl)) refl
+    type_again (array_type at x) ts rest (m, h, g) q = rw h (array_type_again at x (token (k.Sign s.OpenBracket) at ∷ m) rest (m, refl, g))
+    type_again (ref_type at x) ts rest (m, h, g) q = rw h (ref_type_again at x (token (k.Sign s.Ampersand) at ∷ m) rest (m, refl, g))
+    type_again (imm_ref_type at x) ts rest (m, h, g) q = rw h (imm_ref_type_again at x (token (k.Sign s.Ampersand) at ∷ m) rest (m, refl, g))
+    type_again (iso_type at x) ts rest (m, h, g) q = rw h (iso_type_again at x (token (k.Word w.Iso) at ∷ m) rest (m, refl, g))
 
     -- ---- blocks and forms
 
@@ -316,54 +335,54 @@ module _ (names : List (List ℕ)) where
     unary_all (iso at b) ts rest h q = let fits : postfix ≤ operand = omega arith in unary_other (iso at b) ts rest h (Stops-less postfix operand rest fits q)
     unary_all (form f) ts rest h q = let fits : postfix ≤ operand = omega arith in unary_other (form f) ts rest h (Stops-less postfix operand rest fits q)
 
-    module _ (r : ℕ) (p : Reader Expr) (law : Again p (IsExpr names r d) (Stops r)) where
-      links_front : (ls : Links) (ts rest : List Token) → AreLinks names r d ls ts rest → Stops (suc r) rest → Stops r ts
-      links_front no_links ts rest h q = let le : r ≤ suc r = omega arith in subst (Stops r) (sym h) (Stops-less r (suc r) rest le q)
+    module _ (n : ℕ) (p : Reader Expr) (law : Again p (IsExpr names (suc (suc n)) d) (Stops (suc (suc n)))) where
+      links_front : (ls : Links) (ts rest : List Token) → AreLinks names (suc (suc n)) d ls ts rest → Stops (suc (suc (suc n))) rest → Stops (suc (suc n)) ts
+      links_front no_links ts rest h q = let le : suc (suc n) ≤ suc (suc (suc n)) = omega arith in subst (Stops (suc (suc n))) (sym h) (Stops-less (suc (suc n)) (suc (suc (suc n))) rest le q)
       links_front (more_links (link at op e) ls) ts rest (m, (is, (m2, h, g)), g2) q = rw h (sticks_binary op, rw (binary_again op) (omega (arith, is)))
 
-      link_adds : (l : Link) (ls : Links) (ts mid rest : List Token) → IsLink names r d l ts mid → AreLinks names r d ls mid rest → Stops (suc r) rest → link_turn p (suc r) ts ≡ Ok (More l, mid)
+      link_adds : (l : Link) (ls : Links) (ts mid rest : List Token) → IsLink names (suc (suc n)) d l ts mid → AreLinks names (suc (suc n)) d ls mid rest → Stops (suc (suc (suc n))) rest → link_turn p (suc n) ts ≡ Ok (More l, mid)
       unfolding link_turn
-      link_adds (link at op e) ls ts mid rest (is, (m, h, g)) g2 q = rw (h, link_op_of (suc r) op is, law e m mid g (links_front ls mid rest g2 q)) refl
+      link_adds (link at op e) ls ts mid rest (is, (m, h, g)) g2 q = rw (h, link_op_of (suc n) op is, law e m mid g (links_front ls mid rest g2 q)) refl
 
-      link_ends_at : (ts : List Token) → Stops (suc r) ts → link_turn p (suc r) ts ≡ Ok (End tt, ts)
+      link_ends_at : (ts : List Token) → Stops (suc (suc (suc n))) ts → link_turn p (suc n) ts ≡ Ok (End tt, ts)
       unfolding link_turn
       link_ends_at [] q = refl
-      link_ends_at (t ∷ ts) q = rw (link_op_none (suc r) t.kind q.1) refl
+      link_ends_at (t ∷ ts) q = rw (link_op_none (suc n) t.kind q.1) refl
 
-      link_ends : (e : Unit {0}) (ts rest : List Token) → ts ≡ rest → Stops (suc r) rest → link_turn p (suc r) ts ≡ Ok (End e, rest)
+      link_ends : (e : Unit {0}) (ts rest : List Token) → ts ≡ rest → Stops (suc (suc (suc n))) rest → link_turn p (suc n) ts ≡ Ok (End e, rest)
       link_ends e ts rest h q = rw h (link_ends_at rest q)
 
-      many_again : (ls : Links) (ts rest : List Token) → AreLinks names r d ls ts rest → Stops (suc r) rest → turns_at (link_turn p (suc r)) more_links (λ _. no_links) no_more (enough ts) ts ≡ Ok (ls, rest)
+      many_again : (ls : Links) (ts rest : List Token) → AreLinks names (suc (suc n)) d ls ts rest → Stops (suc (suc (suc n))) rest → turns_at (link_turn p (suc n)) more_links (λ _. no_links) no_more (enough ts) ts ≡ Ok (ls, rest)
       many_again ls ts rest h q =
           let l = links_listed ls in
           let less : length ts < enough ts = omega arith in
-          rw (l.1) (turns_again (link_turn p (suc r)) more_links (λ _. no_links) no_more (IsLink names r d) (AreLinks names r d) (Stops (suc r))
-              (λ x l ts rest h. h) (λ x ts mid h. shorter_link names r d x ts mid h) link_adds link_ends (enough ts) l.0 tt ts rest less (subst (λ (z : Links). AreLinks names r d z ts rest) l.1 h) q)
+          rw (l.1) (turns_again (link_turn p (suc n)) more_links (λ _. no_links) no_more (IsLink names (suc (suc n)) d) (AreLinks names (suc (suc n)) d) (Stops (suc (suc (suc n))))
+              (λ x l ts rest h. h) (λ x ts mid h. shorter_link names (suc (suc n)) d x ts mid h) link_adds link_ends (enough ts) l.0 tt ts rest less (subst (λ (z : Links). AreLinks names (suc (suc n)) d z ts rest) l.1 h) q)
 
       -- at most one link
       abbrev AtMostOne : Links → Type 0
       AtMostOne no_links = Unit {0}
       AtMostOne (more_links l ls) = ls ≡ no_links
 
-      one_again : (ls : Links) (ts rest : List Token) → AtMostOne ls → AreLinks names r d ls ts rest → Stops (suc r) rest → turns_at (link_turn p (suc r)) more_links (λ _. no_links) no_more 1 ts ≡ Ok (ls, rest)
+      one_again : (ls : Links) (ts rest : List Token) → AtMostOne ls → AreLinks names (suc (suc n)) d ls ts rest → Stops (suc (suc (suc n))) rest → turns_at (link_turn p (suc n)) more_links (λ _. no_links) no_more 1 ts ≡ Ok (ls, rest)
       unfolding turns_at
       one_again no_links ts rest one h q = rw (link_ends tt ts rest h q) refl
       one_again (more_links l ls) ts rest one (m, h, g) q =
-          let same : m ≡ rest = subst (λ (z : Links). AreLinks names r d z m rest) one g in
+          let same : m ≡ rest = subst (λ (z : Links). AreLinks names (suc (suc n)) d z m rest) one g in
           rw (link_adds l ls ts m rest h g q, one, same) refl
 
-      links_again : (ls : Links) (ts rest : List Token) → (suc r ≡ comparison → AtMostOne ls) → AreLinks names r d ls ts rest → Stops (suc r) rest → links_at p (suc r) ts ≡ Ok (ls, rest)
+      links_again : (ls : Links) (ts rest : List Token) → (suc n ≡ 3 → AtMostOne ls) → AreLinks names (suc (suc n)) d ls ts rest → Stops (suc (suc (suc n))) rest → links_at p (suc n) ts ≡ Ok (ls, rest)
       unfolding links_at
-      links_again ls ts rest one h q = elim (eqb_tells (suc r) comparison) [
+      links_again ls ts rest one h q = elim (eqb_tells (suc n) 3) [
         | inl e ↦ rw e.0 (one_again ls ts rest (one e.1) h q)
         | inr e ↦ rw e.0 (many_again ls ts rest h q)
       ]
 
-      has_one : (ls : Links) → HasLinks (suc r) ls → suc r ≡ comparison → AtMostOne ls
+      has_one : (ls : Links) → HasLinks (suc (suc (suc n))) ls → suc n ≡ 3 → AtMostOne ls
       has_one no_links has e = absurd has
-      has_one (more_links l ls) has e = has e
+      has_one (more_links l ls) has e = has (let five : suc (suc (suc n)) ≡ comparison = omega (arith, e) in five)
 
-      chained_is : (e : Expr) (ls : Links) → HasLinks (suc r) ls → chained e ls ≡ chain e ls
+      chained_is : (e : Expr) (ls : Links) → HasLinks (suc (suc (suc n))) ls → chained e ls ≡ chain e ls
       chained_is e no_links has = absurd has
       chained_is e (more_links l ls) has = refl
 
@@ -372,12 +391,12 @@ module _ (names : List (List ℕ)) where
       unfolding level_at
       level_plain e ts rest h q =
           let le : suc (suc n) ≤ suc (suc (suc n)) = omega arith in
-          rw (law e ts rest h (Stops-less (suc (suc n)) (suc (suc (suc n))) rest le q), links_again (suc (suc n)) (level_at names o n) law no_links rest rest (λ _. tt) refl q) refl
+          rw (law e ts rest h (Stops-less (suc (suc n)) (suc (suc (suc n))) rest le q), links_again n (level_at names o n) law no_links rest rest (λ _. tt) refl q) refl
 
       level_chain : (e : Expr) (ls : Links) (ts m rest : List Token) → HasLinks (suc (suc (suc n))) ls → IsExpr names (suc (suc n)) d e ts m → AreLinks names (suc (suc n)) d ls m rest → Stops (suc (suc (suc n))) rest → level_at names o (suc n) ts ≡ Ok (chain e ls, rest)
       unfolding level_at
       level_chain e ls ts m rest has h g q =
-          rw (law e ts m h (links_front (suc (suc n)) (level_at names o n) law ls m rest g q), links_again (suc (suc n)) (level_at names o n) law ls m rest (has_one (suc (suc n)) (level_at names o n) law ls has) g q, chained_is (suc (suc n)) (level_at names o n) law e ls has) refl
+          rw (law e ts m h (links_front n (level_at names o n) law ls m rest g q), links_again n (level_at names o n) law ls m rest (has_one n (level_at names o n) law ls has) g q, chained_is n (level_at names o n) law e ls has) refl
 
       -- below the rank of a whole expression, a tighter one or a chain of this rank
       level_more : suc (suc (suc n)) < whole → Again (level_at names o (suc n)) (IsExpr names (suc (suc (suc n))) d) (Stops (suc (suc (suc n))))

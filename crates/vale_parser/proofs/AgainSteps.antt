@@ -1,5 +1,5 @@
 -- Lists that are in the grammar are read, where their items are.
-use Rattle.std.proofs.Common.{◌≡◌, ◌<◌, ℕ, zero, suc, true, false, List, [], ◌∷◌, length, Option, Some, None, Ok, refl, sym, ap, subst, arith}
+use Rattle.std.proofs.Common.{◌+◌, ◌≡◌, ◌<◌, ℕ, zero, suc, true, false, List, [], ◌∷◌, length, Option, Some, None, Ok, refl, sym, ap, subst, arith}
 use Rattle.vale_base.specs.declared.spot.Spot.{Spot}
 use Rattle.vale_syntax.specs.declared.token.Token.{Token}
 use Rattle.vale_syntax.specs.declared.token.TokenKind.TheVariants as k
@@ -113,4 +113,4 @@ module _ {X L : Type 0} (item : Reader X) (P : X → Part) (S : List Token → T
   commas_again (x ∷ xs) ts rest h b =
       let o = opens x (listed more xs nil) ts rest h in
       let enough : length o.0 < enough o.0 = omega arith in
-      rw (no_close x ts o.0 o.1, item_again x ts o.0 o.1 (follows xs o.0 rest o.2 b), others_again_by (suc (length o.0)) xs o.0 rest enough o.2 b) refl
+      rw (no_close x ts o.0 o.1, item_again x ts o.0 o.1 (follows xs o.0 rest o.2 b), others_again_by (length o.0 + 1) xs o.0 rest enough o.2 b) refl

@@ -1,5 +1,5 @@
 -- What is read is in the grammar.
-use Rattle.std.proofs.Common.{◌≡◌, ◌<◌, ◌≤◌, ℕ, zero, suc, Bool, true, false, cond, eqb, List, [], ◌∷◌, Option, Some, None, Ok, Err, refl, sym, ap, subst, arith}
+use Rattle.std.proofs.Common.{◌∙◌, ◌≡◌, ◌<◌, ◌≤◌, ℕ, zero, suc, Bool, true, false, cond, eqb, List, [], ◌∷◌, Option, Some, None, Ok, Err, refl, sym, ap, subst, arith}
 use Rattle.std.proofs.lemmas.Bool.{eqb-true}
 use Rattle.vale_base.specs.declared.spot.Spot.{Spot}
 use Rattle.vale_syntax.specs.declared.token.Token.{Token}
@@ -13,13 +13,13 @@ use Rattle.vale_syntax.specs.declared.tree.BinaryOp.TheVariants as b
 use Rattle.vale_syntax.specs.declared.tree.UnaryOp.{UnaryOp}
 use Rattle.vale_syntax.specs.declared.tree.UnaryOp.TheVariants as u
 use Rattle.vale_syntax.specs.Tree.{TypeExpr, int_type, bool_type, str_type, named_type, array_type, ref_type, imm_ref_type, iso_type, Expr, set, chain, unary, steps, number, quote, truth, name, call, paren, array, iso, form, Exprs, no_exprs, more_exprs, Link, link, Links, no_links, more_links, Step, field, method, index, Steps, no_steps, more_steps, Form, branch, pure, ElseIf, else_if, more_elses, Block, block, Stmt, declare, destructure, return_nothing, return_value, while, foreach, form_stmt, express, more_stmts}
-use Rattle.vale_syntax.specs.Grammar.{Part, one, sign, word, nothing, ◌▸◌, each, with_commas, deeper, number_of, primary, postfix, operand, comparison, whole, rank, binary_kind, unary_kind, begins_form, alone, ends_stmt, named, IsType, IsExpr, AreArgs, AreMoreArgs, IsLink, AreLinks, IsStep, AreSteps, IsForm, IsElseIf, AreElses, IsBlock, AreStmts, IsStmt}
+use Rattle.vale_syntax.specs.Grammar.{Part, one, sign, word, nothing, ◌▸◌, each, with_commas, deeper, primary, postfix, operand, whole, rank, binary_kind, unary_kind, begins_form, alone, ends_stmt, named, IsType, IsExpr, AreArgs, AreMoreArgs, IsLink, AreLinks, IsStep, AreSteps, IsForm, IsElseIf, AreElses, IsBlock, AreStmts, IsStmt}
 use Rattle.vale_syntax.specs.View.{else_end, last_end}
 use Rattle.vale_parser.specs.declared.stop.Turn.{Turn}
 use Rattle.vale_parser.specs.declared.stop.Turn.TheVariants.{More, End}
 use Rattle.vale_parser.specs.Steps.{Read, Reader, begins, begins_word, name_at, turn_then, turns_at, enough, faulty}
-use Rattle.vale_parser.specs.Reading.{binary_op, of_rank, link_op, unary_op, chained, stepped, Inner, inside, after_bracket, parallel, form_end, after_form, plain_end, after_plain, ref_by, type_by, type_at, block_at, else_by, else_turn_by, else_turn, elses_at, branch_at, to_by, parallel_at, pure_at, form_by, form_at, arguments_at, called_by, called_at, paren_at, array_at, iso_at, primary_by, primary_at, member_by, member_at, index_at, step_by, step_turn, steps_at, postfix_at, unary_by, unary_at, link_by, link_turn, no_more, most_links, links_at, level_at, set_at, whole_by, whole_at, args_at, plain_at, declare_at, names_at, destructure_at, return_by, return_at, while_at, foreach_at, form_stmt_at, named_by, bracket_by, stmt_by, stmt_turn, stmts_at, within}
-use Rattle.vale_parser.proofs.StepLaws.{given, returned, at_kind, sign_takes, word_takes, numbered_takes, name_takes, front, Takes, by_turn, turns_takes, faulty_takes, commas_take}
+use Rattle.vale_parser.specs.Reading.{binary_op, height, of_height, link_op, unary_op, chained, stepped, Inner, inside, after_bracket, parallel, form_end, after_form, plain_end, after_plain, ref_by, ref_type_at, array_type_at, iso_type_at, type_by, type_at, block_at, else_by, else_turn_by, else_turn, elses_at, branch_at, to_by, parallel_at, pure_at, form_by, form_at, arguments_at, called_by, called_at, paren_at, array_at, iso_at, primary_by, primary_at, member_by, member_at, index_at, step_by, step_turn, steps_at, postfix_at, unary_by, unary_at, link_by, link_turn, no_more, most_links, links_at, level_at, set_at, whole_by, whole_at, args_at, plain_at, declare_at, names_at, destructure_at, return_by, return_at, while_at, foreach_at, form_stmt_at, named_by, bracket_by, stmt_by, stmt_turn, stmts_at, within}
+use Rattle.vale_parser.proofs.StepLaws.{given, returned, at_kind, sign_takes, word_takes, name_takes, front, Takes, by_turn, turns_takes, faulty_takes, commas_take}
 
 -- ---- operators
 
@@ -56,15 +56,30 @@ if_rank : (b : Bool) (x op : BinaryOp) → cond b (Some x) None ≡ Some op → 
 if_rank true x op e = (refl, some_is x op e)
 if_rank false x op e = absurd cc
 
-of_rank_is : (r : ℕ) (o : Option BinaryOp) (op : BinaryOp) → of_rank r o ≡ Some op → (o ≡ Some op) × (rank op ≡ r)
-of_rank_is r None op e = absurd cc
-of_rank_is r (Some x) op e =
-    let h = if_rank (eqb (rank x) r) x op e in
-    (ap some h.1, subst (λ (z : BinaryOp). rank z ≡ r) h.1 (eqb-true (rank x) r h.0))
+of_height_is : (n : ℕ) (o : Option BinaryOp) (op : BinaryOp) → of_height n o ≡ Some op → (o ≡ Some op) × (height op ≡ n)
+of_height_is n None op e = absurd cc
+of_height_is n (Some x) op e =
+    let h = if_rank (eqb (height x) n) x op e in
+    (ap some h.1, subst (λ (z : BinaryOp). height z ≡ n) h.1 (eqb-true (height x) n h.0))
 
-link_op_is : (r : ℕ) (kind : TokenKind) (op : BinaryOp) → link_op r kind ≡ Some op → (kind ≡ binary_kind op) × (rank op ≡ r)
+pub rank_is : (op : BinaryOp) → rank op ≡ suc (suc (height op))
+rank_is b.Or = refl
+rank_is b.And = refl
+rank_is b.Equal = refl
+rank_is b.NotEqual = refl
+rank_is b.Less = refl
+rank_is b.LessEqual = refl
+rank_is b.Greater = refl
+rank_is b.GreaterEqual = refl
+rank_is b.Add = refl
+rank_is b.Sub = refl
+rank_is b.Mul = refl
+rank_is b.Div = refl
+rank_is b.Rem = refl
+
+link_op_is : (n : ℕ) (kind : TokenKind) (op : BinaryOp) → link_op n kind ≡ Some op → (kind ≡ binary_kind op) × (rank op ≡ suc (suc n))
 unfolding link_op
-link_op_is r kind op e = let h = of_rank_is r (binary_op kind) op e in (binary_of kind op h.0, h.1)
+link_op_is n kind op e = let h = of_height_is n (binary_op kind) op e in (binary_of kind op h.0, rank_is op ∙ ap (λ (z : ℕ). suc (suc z)) h.1)
 
 -- comparisons: at most one link
 abbrev AtMostOne : Links → Type 0
@@ -105,22 +120,34 @@ module _ (names : List (List ℕ)) where
   module _ (d : ℕ) (o : Option Inner) (law : Sound d o) where
     -- ---- types
 
-    ref_takes : (l : ℕ) (i : Inner) → d ≡ suc l → InnerTakes l i → (t : Token) (ts : List Token) (b : Bool) (y : TypeExpr × List Token) → t.kind ≡ k.Sign s.Ampersand → ref_by names i t ts b ≡ Ok y → IsType names d y.0 (t ∷ ts) y.1
-    ref_takes l i dl law t ts true y is e = given e (λ m em e. given e (λ x ex e. returned (front (IsType names d) (t ∷ ts)) (imm_ref_type t.at x.0, x.1) e
-        (ts, at_kind t ts _ is, in_deeper d l (λ d. word w.Imm ▸ IsType names d x.0) ts x.1 dl (m.1, (m.0, word_takes w.Imm ts m em), law.type_expr m.1 x ex))))
-    ref_takes l i dl law t ts false y is e = given e (λ x ex e. returned (front (IsType names d) (t ∷ ts)) (ref_type t.at x.0, x.1) e
-        (ts, at_kind t ts _ is, in_deeper d l (λ d. IsType names d x.0) ts x.1 dl (law.type_expr ts x ex)))
+    ref_by_takes : (l : ℕ) (i : Inner) → d ≡ suc l → InnerTakes l i → (at : Spot) (start ts : List Token) → one (k.Sign s.Ampersand) at start ts → (b : Bool) (y : TypeExpr × List Token) → ref_by names i at ts b ≡ Ok y → IsType names d y.0 start y.1
+    ref_by_takes l i dl law at start ts h true y e = given e (λ m em e. given e (λ x ex e. returned (front (IsType names d) start) (imm_ref_type at x.0, x.1) e
+        (ts, h, in_deeper d l (λ d. word w.Imm ▸ IsType names d x.0) ts x.1 dl (m.1, (m.0, word_takes w.Imm ts m em), law.type_expr m.1 x ex))))
+    ref_by_takes l i dl law at start ts h false y e = given e (λ x ex e. returned (front (IsType names d) start) (ref_type at x.0, x.1) e
+        (ts, h, in_deeper d l (λ d. IsType names d x.0) ts x.1 dl (law.type_expr ts x ex)))
+
+    ref_takes : Takes (ref_type_at names o) (IsType names d)
+    unfolding ref_type_at
+    ref_takes ts y e = given e (λ a ea e. opened _ d o law e (λ l i dl law e. ref_by_takes l i dl law a.0 ts a.1 (sign_takes s.Ampersand ts a ea) (begins_word w.Imm a.1) y e))
+
+    array_type_takes : Takes (array_type_at names o) (IsType names d)
+    unfolding array_type_at
+    array_type_takes ts y e = given e (λ a ea e. opened _ d o law e (λ l i dl law e. given e (λ c ec e. given e (λ x ex e. returned (front (IsType names d) ts) (array_type a.0 x.0, x.1) e
+        (a.1, sign_takes s.OpenBracket ts a ea, in_deeper d l (λ d. sign s.CloseBracket ▸ IsType names d x.0) a.1 x.1 dl (c.1, (c.0, sign_takes s.CloseBracket a.1 c ec), law.type_expr c.1 x ex))))))
+
+    iso_type_takes : Takes (iso_type_at names o) (IsType names d)
+    unfolding iso_type_at
+    iso_type_takes ts y e = given e (λ a ea e. opened _ d o law e (λ l i dl law e. given e (λ x ex e. returned (front (IsType names d) ts) (iso_type a.0 x.0, x.1) e
+        (a.1, word_takes w.Iso ts a ea, in_deeper d l (λ d. IsType names d x.0) a.1 x.1 dl (law.type_expr a.1 x ex)))))
 
     type_by_takes : (t : Token) (ts : List Token) (kind : TokenKind) (y : TypeExpr × List Token) → t.kind ≡ kind → type_by names o t ts kind ≡ Ok y → IsType names d y.0 (t ∷ ts) y.1
     type_by_takes t ts (k.Word w.Int) y is e = returned (front (IsType names d) (t ∷ ts)) (int_type t.at, ts) e (at_kind t ts _ is)
     type_by_takes t ts (k.Word w.Bool) y is e = returned (front (IsType names d) (t ∷ ts)) (bool_type t.at, ts) e (at_kind t ts _ is)
     type_by_takes t ts (k.Word w.Str) y is e = returned (front (IsType names d) (t ∷ ts)) (str_type t.at, ts) e (at_kind t ts _ is)
-    type_by_takes t ts (k.Name text) y is e = given e (λ n en e. returned (front (IsType names d) (t ∷ ts)) (named_type n.0, n.1) e (numbered_takes names t ts text (number_of names text) n is refl en))
-    type_by_takes t ts (k.Sign s.OpenBracket) y is e = opened _ d o law e (λ l i dl law e. given e (λ c ec e. given e (λ x ex e. returned (front (IsType names d) (t ∷ ts)) (array_type t.at x.0, x.1) e
-        (ts, at_kind t ts _ is, in_deeper d l (λ d. sign s.CloseBracket ▸ IsType names d x.0) ts x.1 dl (c.1, (c.0, sign_takes s.CloseBracket ts c ec), law.type_expr c.1 x ex)))))
-    type_by_takes t ts (k.Sign s.Ampersand) y is e = opened _ d o law e (λ l i dl law e. ref_takes l i dl law t ts (begins_word w.Imm ts) y is e)
-    type_by_takes t ts (k.Word w.Iso) y is e = opened _ d o law e (λ l i dl law e. given e (λ x ex e. returned (front (IsType names d) (t ∷ ts)) (iso_type t.at x.0, x.1) e
-        (ts, at_kind t ts _ is, in_deeper d l (λ d. IsType names d x.0) ts x.1 dl (law.type_expr ts x ex))))
+    type_by_takes t ts (k.Name text) y is e = given e (λ n en e. returned (front (IsType names d) (t ∷ ts)) (named_type n.0, n.1) e (name_takes names (t ∷ ts) n en))
+    type_by_takes t ts (k.Sign s.OpenBracket) y is e = array_type_takes (t ∷ ts) y e
+    type_by_takes t ts (k.Sign s.Ampersand) y is e = ref_takes (t ∷ ts) y e
+    type_by_takes t ts (k.Word w.Iso) y is e = iso_type_takes (t ∷ ts) y e
     type_by_takes t ts _ y is e = absurd cc
 
     pub type_takes : Takes (type_at names o) (IsType names d)
@@ -314,41 +341,41 @@ module _ (names : List (List ℕ)) where
     unary_takes [] y e = absurd cc
     unary_takes (t ∷ ts) y e = unary_by_takes t ts (unary_op t.kind) y refl e
 
-    module _ (r : ℕ) (p : Reader Expr) (takes : Takes p (IsExpr names r d)) where
+    module _ (n : ℕ) (p : Reader Expr) (takes : Takes p (IsExpr names (suc (suc n)) d)) where
       abbrev IsLinkTurn : Turn Link (Unit {0}) → Part
-      IsLinkTurn = by_turn (IsLink names r d) (λ _. nothing)
+      IsLinkTurn = by_turn (IsLink names (suc (suc n)) d) (λ _. nothing)
 
-      link_by_takes : (t : Token) (ts : List Token) (q : Option BinaryOp) (y : Turn Link (Unit {0}) × List Token) → link_op (suc r) t.kind ≡ q → link_by p t ts q ≡ Ok y → IsLinkTurn y.0 (t ∷ ts) y.1
+      link_by_takes : (t : Token) (ts : List Token) (q : Option BinaryOp) (y : Turn Link (Unit {0}) × List Token) → link_op (suc n) t.kind ≡ q → link_by p t ts q ≡ Ok y → IsLinkTurn y.0 (t ∷ ts) y.1
       link_by_takes t ts None y is e = returned (front IsLinkTurn (t ∷ ts)) (End tt, t ∷ ts) e refl
       link_by_takes t ts (Some op) y is e = given e (λ x ex e. returned (front IsLinkTurn (t ∷ ts)) (More (link t.at op x.0), x.1) e
-          (let h = link_op_is (suc r) t.kind op is in (h.1, (ts, at_kind t ts _ h.0, takes ts x ex))))
+          (let h = link_op_is (suc n) t.kind op is in (h.1, (ts, at_kind t ts _ h.0, takes ts x ex))))
 
-      link_takes : Takes (link_turn p (suc r)) IsLinkTurn
+      link_takes : Takes (link_turn p (suc n)) IsLinkTurn
       unfolding link_turn
       link_takes [] y e = returned (front IsLinkTurn []) (End tt, []) e refl
-      link_takes (t ∷ ts) y e = link_by_takes t ts (link_op (suc r) t.kind) y refl e
+      link_takes (t ∷ ts) y e = link_by_takes t ts (link_op (suc n) t.kind) y refl e
 
-      no_more_takes : Takes (no_more) (AreLinks names r d)
-      no_more_takes ts y e = returned (front (AreLinks names r d) ts) (no_links, ts) e refl
+      no_more_takes : Takes no_more (AreLinks names (suc (suc n)) d)
+      no_more_takes ts y e = returned (front (AreLinks names (suc (suc n)) d) ts) (no_links, ts) e refl
 
-      links_take : (n : ℕ) → Takes (turns_at (link_turn p (suc r)) more_links (λ _. no_links) (no_more) n) (AreLinks names r d)
-      links_take n ts y e = turns_takes (link_turn p (suc r)) more_links (λ _. no_links) (no_more) (IsLink names r d) (λ _. nothing) (AreLinks names r d)
-          link_takes (λ x l ts mid rest h g. (mid, h, g)) (λ _ ts rest h. h) no_more_takes n ts y e
+      links_take : (most : ℕ) → Takes (turns_at (link_turn p (suc n)) more_links (λ _. no_links) no_more most) (AreLinks names (suc (suc n)) d)
+      links_take most ts y e = turns_takes (link_turn p (suc n)) more_links (λ _. no_links) no_more (IsLink names (suc (suc n)) d) (λ _. nothing) (AreLinks names (suc (suc n)) d)
+          link_takes (λ x l ts mid rest h g. (mid, h, g)) (λ _ ts rest h. h) no_more_takes most ts y e
 
-      chained_takes : (x : Expr) (ls : Links) (ts mid rest : List Token) → IsExpr names r d x ts mid → AreLinks names r d ls mid rest → (suc r ≡ comparison → AtMostOne ls) → IsExpr names (suc r) d (chained x ls) ts rest
-      chained_takes x no_links ts mid rest h g one = let le : r ≤ suc r = omega arith in subst (λ (z : List Token). IsExpr names (suc r) d x ts z) g (looser r (suc r) x ts mid le h)
-      chained_takes x (more_links l ls) ts mid rest h g one = let lt : r < suc r = omega arith in (r, lt, one, (mid, h, g))
+      chained_takes : (x : Expr) (ls : Links) (ts mid rest : List Token) → IsExpr names (suc (suc n)) d x ts mid → AreLinks names (suc (suc n)) d ls mid rest → (suc n ≡ 3 → AtMostOne ls) → IsExpr names (suc (suc (suc n))) d (chained x ls) ts rest
+      chained_takes x no_links ts mid rest h g one = let le : suc (suc n) ≤ suc (suc (suc n)) = omega arith in subst (λ (z : List Token). IsExpr names (suc (suc (suc n))) d x ts z) g (looser (suc (suc n)) (suc (suc (suc n))) x ts mid le h)
+      chained_takes x (more_links l ls) ts mid rest h g one = let lt : suc (suc n) < suc (suc (suc n)) = omega arith in (suc (suc n), lt, (λ e. one (let three : suc n ≡ 3 = omega (arith, e) in three)), (mid, h, g))
 
-      chain_takes : (x : Expr) (ts mid : List Token) → IsExpr names r d x ts mid → (ls : Links × List Token) → links_at p (suc r) mid ≡ Ok ls → IsExpr names (suc r) d (chained x ls.0) ts ls.1
+      chain_takes : (x : Expr) (ts mid : List Token) → IsExpr names (suc (suc n)) d x ts mid → (ls : Links × List Token) → links_at p (suc n) mid ≡ Ok ls → IsExpr names (suc (suc (suc n))) d (chained x ls.0) ts ls.1
       unfolding links_at
-      chain_takes x ts mid h ls e = chained_takes x ls.0 ts mid ls.1 h (links_take (most_links (suc r) mid) mid ls e)
-          (λ five. one_link p (suc r) mid ls (subst (λ (n : ℕ). turns_at (link_turn p (suc r)) more_links (λ _. no_links) (no_more) (most_links n mid) mid ≡ Ok ls) five e))
+      chain_takes x ts mid h ls e = chained_takes x ls.0 ts mid ls.1 h (links_take (most_links (suc n) mid) mid ls e)
+          (λ three. one_link p (suc n) mid ls (subst (λ (z : ℕ). turns_at (link_turn p (suc n)) more_links (λ _. no_links) no_more (most_links z mid) mid ≡ Ok ls) three e))
 
     level_takes : (n : ℕ) → Takes (level_at names o n) (IsExpr names (suc (suc n)) d)
     unfolding level_at
     level_takes zero ts y e = unary_takes ts y e
     level_takes (suc n) ts y e = given e (λ x ex e. given e (λ ls els e. returned (front (IsExpr names (suc (suc (suc n))) d) ts) (chained x.0 ls.0, ls.1) e
-        (chain_takes (suc (suc n)) (level_at names o n) (level_takes n) x.0 ts x.1 (level_takes n ts x ex) ls els)))
+        (chain_takes n (level_at names o n) (level_takes n) x.0 ts x.1 (level_takes n ts x ex) ls els)))
 
     set_takes : Takes (set_at names o) (IsExpr names whole d)
     unfolding set_at

@@ -14,12 +14,10 @@ use Rattle.vale_syntax.specs.declared.tree.BinaryOp.TheVariants as b
 use Rattle.vale_syntax.specs.declared.tree.UnaryOp.{UnaryOp}
 use Rattle.vale_syntax.specs.declared.tree.UnaryOp.TheVariants as u
 use Rattle.vale_syntax.specs.Tree.{TypeExpr, int_type, bool_type, str_type, named_type, array_type, ref_type, imm_ref_type, iso_type, Expr, set, chain, unary, steps, number, quote, truth, name, call, paren, array, iso, form, Exprs, no_exprs, more_exprs, Link, link, Links, no_links, more_links, Step, field, method, index, Steps, no_steps, more_steps, Form, branch, pure, parallel_range, parallel_each, ElseIf, else_if, Elses, more_elses, Block, block, Stmt, declare, destructure, return_nothing, return_value, while, foreach, form_stmt, express, Stmts, more_stmts}
-use Rattle.vale_syntax.specs.Grammar.{rank, comparison}
 use Rattle.vale_syntax.specs.View.{else_end, last_end}
 use Rattle.vale_parser.specs.declared.stop.Turn.{Turn}
 use Rattle.vale_parser.specs.declared.stop.Turn.TheVariants.{More, End}
-use Rattle.vale_parser.specs.Steps.{unexpected, too_deep, Read, Reader, ◌>>=◌, is_sign, begins, begins_word, sign_at, word_at, numbered, name_at, turns_at, enough, faulty}
-use Rattle.vale_syntax.specs.Grammar.{number_of}
+use Rattle.vale_parser.specs.Steps.{unexpected, too_deep, Read, Reader, ◌>>=◌, is_sign, begins, begins_word, sign_at, word_at, name_at, turns_at, enough, faulty}
 
 -- ---- lists with commas
 
@@ -62,13 +60,29 @@ binary_op (k.Sign s.Slash) = Some b.Div
 binary_op (k.Sign s.Percent) = Some b.Rem
 binary_op _ = None
 
-abbrev pub of_rank : ℕ → Option BinaryOp → Option BinaryOp
-of_rank r None = None
-of_rank r (Some op) = if eqb (rank op) r then Some op else None
+-- how many ranks above that of a unary operator
+abbrev pub height : BinaryOp → ℕ
+height b.Mul = 1
+height b.Div = 1
+height b.Rem = 1
+height b.Add = 2
+height b.Sub = 2
+height b.Equal = 3
+height b.NotEqual = 3
+height b.Less = 3
+height b.LessEqual = 3
+height b.Greater = 3
+height b.GreaterEqual = 3
+height b.And = 4
+height b.Or = 5
 
--- the operator of this rank that the token is
+abbrev pub of_height : ℕ → Option BinaryOp → Option BinaryOp
+of_height n None = None
+of_height n (Some op) = if eqb (height op) n then Some op else None
+
+-- the operator of this height that the token is
 unfoldable pub link_op : ℕ → TokenKind → Option BinaryOp
-link_op r kind = of_rank r (binary_op kind)
+link_op n kind = of_height n (binary_op kind)
 
 abbrev pub unary_op : TokenKind → Option UnaryOp
 unary_op (k.Sign s.Minus) = Some u.Minus
@@ -153,46 +167,61 @@ link_by tighter t ts (Some op) = do
 link_by tighter t ts None = Ok (End tt, t ∷ ts)
 
 unfoldable pub link_turn : Reader Expr → ℕ → Reader (Turn Link (Unit {0}))
-link_turn tighter r [] = Ok (End tt, [])
-link_turn tighter r (t ∷ ts) = link_by tighter t ts (link_op r t.kind)
+link_turn tighter n [] = Ok (End tt, [])
+link_turn tighter n (t ∷ ts) = link_by tighter t ts (link_op n t.kind)
 
 abbrev pub no_more : Reader Links
 no_more ts = Ok (no_links, ts)
 
 -- comparisons don't chain
 abbrev pub most_links : ℕ → List Token → ℕ
-most_links r ts = if eqb r comparison then 1 else enough ts
+most_links n ts = if eqb n 3 then 1 else enough ts
 
 unfoldable pub links_at : Reader Expr → ℕ → Reader Links
-links_at tighter r ts = turns_at (link_turn tighter r) more_links (λ _. no_links) no_more (most_links r ts) ts
+links_at tighter n ts = turns_at (link_turn tighter n) more_links (λ _. no_links) no_more (most_links n ts) ts
 
 module _ (names : List (List ℕ)) where
   -- ---- types
 
-  abbrev pub ref_by : Inner → Token → List Token → Bool → Read TypeExpr
-  ref_by i t ts true = do
+  abbrev pub ref_by : Inner → Spot → List Token → Bool → Read TypeExpr
+  ref_by i at ts true = do
     imm ← word_at w.Imm ts
     x ← i.type_expr imm.1
-    Ok (imm_ref_type t.at x.0, x.1)
-  ref_by i t ts false = do
+    Ok (imm_ref_type at x.0, x.1)
+  ref_by i at ts false = do
     x ← i.type_expr ts
-    Ok (ref_type t.at x.0, x.1)
+    Ok (ref_type at x.0, x.1)
+
+  unfoldable pub ref_type_at : Option Inner → Reader TypeExpr
+  ref_type_at o ts = do
+    p ← sign_at s.Ampersand ts
+    inside o ts (λ i. ref_by i p.0 p.1 (begins_word w.Imm p.1))
+
+  unfoldable pub array_type_at : Option Inner → Reader TypeExpr
+  array_type_at o ts = do
+    opening ← sign_at s.OpenBracket ts
+    inside o ts (λ i. do
+      close ← sign_at s.CloseBracket opening.1
+      x ← i.type_expr close.1
+      Ok (array_type opening.0 x.0, x.1))
+
+  unfoldable pub iso_type_at : Option Inner → Reader TypeExpr
+  iso_type_at o ts = do
+    p ← word_at w.Iso ts
+    inside o ts (λ i. do
+      x ← i.type_expr p.1
+      Ok (iso_type p.0 x.0, x.1))
 
   abbrev pub type_by : Option Inner → Token → List Token → TokenKind → Read TypeExpr
   type_by o t ts (k.Word w.Int) = Ok (int_type t.at, ts)
   type_by o t ts (k.Word w.Bool) = Ok (bool_type t.at, ts)
   type_by o t ts (k.Word w.Str) = Ok (str_type t.at, ts)
   type_by o t ts (k.Name text) = do
-    n ← numbered names t ts (number_of names text)
+    n ← name_at names (t ∷ ts)
     Ok (named_type n.0, n.1)
-  type_by o t ts (k.Sign s.OpenBracket) = inside o (t ∷ ts) (λ i. do
-    close ← sign_at s.CloseBracket ts
-    x ← i.type_expr close.1
-    Ok (array_type t.at x.0, x.1))
-  type_by o t ts (k.Sign s.Ampersand) = inside o (t ∷ ts) (λ i. ref_by i t ts (begins_word w.Imm ts))
-  type_by o t ts (k.Word w.Iso) = inside o (t ∷ ts) (λ i. do
-    x ← i.type_expr ts
-    Ok (iso_type t.at x.0, x.1))
+  type_by o t ts (k.Sign s.OpenBracket) = array_type_at o (t ∷ ts)
+  type_by o t ts (k.Sign s.Ampersand) = ref_type_at o (t ∷ ts)
+  type_by o t ts (k.Word w.Iso) = iso_type_at o (t ∷ ts)
   type_by o t ts _ = Err (unexpected (t ∷ ts))
 
   unfoldable pub type_at : Option Inner → Reader TypeExpr
@@ -393,7 +422,7 @@ module _ (names : List (List ℕ)) where
   level_at o zero ts = unary_at o ts
   level_at o (suc n) ts = do
     e ← level_at o n ts
-    ls ← links_at (level_at o n) (suc (suc (suc n))) e.1
+    ls ← links_at (level_at o n) (suc n) e.1
     Ok (chained e.0 ls.0, ls.1)
 
   unfoldable pub set_at : Option Inner → Reader Expr

@@ -1,6 +1,6 @@
 -- Reading from left to right, with one token in hand: what every reader is made of. A reader gives what it read and the
 -- tokens after it, or its first fault.
-use Rattle.std.specs.Prelude.{ℕ, zero, suc, Bool, false, List, [], ◌∷◌, length, Option, Some, None, Result, Ok, Err, if◌then◌else◌}
+use Rattle.std.specs.Prelude.{ℕ, zero, suc, Bool, false, List, [], ◌∷◌, length, Option, Some, None, Result, Ok, Err, if◌then◌else◌, ◌+◌}
 use denote.Enum.Bare.{sameb}
 use Rattle.vale_base.specs.declared.spot.Spot.{Spot}
 use Rattle.vale_syntax.specs.declared.token.Token.{Token}
@@ -92,7 +92,7 @@ module _ {X E L : Type 0} (turn : Reader (Turn X E)) (more : X → L → L) (end
 
 -- each turn takes a token, so these are enough
 abbrev pub enough : List Token → ℕ
-enough ts = suc (length ts)
+enough ts = length ts + 1
 
 abbrev pub faulty : {A : Type 0} → Reader A
 faulty ts = Err (unexpected ts)
