@@ -16,7 +16,7 @@ use Rattle.vale_syntax.specs.Grammar.{Part, token, one, sign, word, ◌▸◌, d
 use Rattle.vale_syntax.specs.View.{else_end}
 use Rattle.vale_parser.specs.declared.stop.Turn.TheVariants.{More, End}
 use Rattle.vale_parser.specs.Steps.{Read, Reader, begins, begins_word, turns_at, enough, faulty}
-use Rattle.vale_parser.specs.Reading.{binary_op, height, of_height, link_op, chained, stepped, Inner, inside, ref_type_at, array_type_at, iso_type_at, type_at, block_at, else_turn, elses_at, branch_at, parallel_at, pure_at, form_at, arguments_at, called_at, paren_at, array_at, iso_at, primary_at, member_at, index_at, step_by, step_turn, steps_at, postfix_at, unary_at, link_turn, no_more, links_at, level_at, set_at, whole_at, args_at}
+use Rattle.vale_parser.specs.Reading.{binary_op, height, of_height, link_op, chained, stepped, Inner, inside, ref_type_at, array_type_at, iso_type_at, type_at, block_at, else_turn, elses_at, branch_at, bound_at, parallel_at, pure_at, form_at, arguments_at, called_at, paren_at, array_at, iso_at, primary_at, member_at, index_at, step_by, step_turn, steps_at, postfix_at, unary_at, link_turn, no_more, links_at, level_at, set_at, whole_at, args_at}
 use Rattle.vale_parser.proofs.StepLaws.{sign_again, word_again, name_again}
 use Rattle.vale_parser.proofs.Shorter.{shorter, shorter_link, shorter_step, shorter_else_if}
 use Rattle.vale_parser.proofs.Firsts.{sticks, Above, Stops, NoParen, NoElse, Apart, Before, Any, Apart-stops, Stops-less, Stops-sign, binary_again, sticks_binary, unary_again, starts_no_close, chain_rank, first, type_no_imm, block_stops, block_no_if, block_no_dots}
@@ -139,12 +139,14 @@ module _ (names : List (List ℕ)) where
     pure_again at b ts rest (m, h, g) = rw (word_again w.Pure at ts m h, block_again b m rest g tt) refl
 
     range_again : (at : Spot) (n : NameAt) (a e : Expr) (b : Block) (ts rest : List Token) → IsForm names d (parallel_range at n a e b) ts rest → parallel_at names o ts ≡ Ok (parallel_range at n a e b, rest)
+    unfolding parallel_at bound_at
     range_again at n a e b ts rest (m, h, (m2, g, h2)) =
         rw (word_again w.Parallel at ts m h) (opening _ _ d o full (λ d. word w.Foreach ▸ named names n ▸ word w.In ▸ IsExpr names whole d a ▸ sign s.DotDot ▸ IsExpr names whole d e) m m2 g
         (λ l i law (i0, (at0, j0), (i1, j1, (i2, (at2, j2), (i3, j3, (i4, (at4, j4), j5))))).
             rw (word_again w.Foreach at0 m i0 j0, name_again names n i0 i1 j1, word_again w.In at2 i1 i2 j2, law.whole a i2 i3 j3 (Stops-sign whole s.DotDot i3 i4 refl refl (at4, j4)), begins_again s.DotDot at4 i3 i4 j4, sign_again s.DotDot at4 i3 i4 j4, law.whole e i4 m2 j5 (block_stops names whole d b m2 rest h2), block_again b m2 rest h2 tt) refl))
 
     each_again : (at : Spot) (n : NameAt) (e : Expr) (b : Block) (ts rest : List Token) → IsForm names d (parallel_each at n e b) ts rest → parallel_at names o ts ≡ Ok (parallel_each at n e b, rest)
+    unfolding parallel_at bound_at
     each_again at n e b ts rest (m, h, (m2, g, h2)) =
         rw (word_again w.Parallel at ts m h) (opening _ _ d o full (λ d. word w.Foreach ▸ named names n ▸ word w.In ▸ IsExpr names whole d e) m m2 g
         (λ l i law (i0, (at0, j0), (i1, j1, (i2, (at2, j2), j3))).

@@ -7,3 +7,6 @@ pub mod Again
 pub mod AgainStmts
 pub mod ItemTakes
 pub mod ItemAgain
+pub mod Levels
+pub mod Built
+pub mod Loops

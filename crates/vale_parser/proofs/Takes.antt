@@ -18,7 +18,7 @@ use Rattle.vale_syntax.specs.View.{else_end, last_end}
 use Rattle.vale_parser.specs.declared.stop.Turn.{Turn}
 use Rattle.vale_parser.specs.declared.stop.Turn.TheVariants.{More, End}
 use Rattle.vale_parser.specs.Steps.{Read, Reader, begins, begins_word, name_at, turn_then, turns_at, enough, faulty}
-use Rattle.vale_parser.specs.Reading.{binary_op, height, of_height, link_op, unary_op, chained, stepped, Inner, inside, after_bracket, parallel, form_end, after_form, plain_end, after_plain, ref_by, ref_type_at, array_type_at, iso_type_at, type_by, type_at, block_at, else_by, else_turn_by, else_turn, elses_at, branch_at, to_by, parallel_at, pure_at, form_by, form_at, arguments_at, called_by, called_at, paren_at, array_at, iso_at, primary_by, primary_at, member_by, member_at, index_at, step_by, step_turn, steps_at, postfix_at, unary_by, unary_at, link_by, link_turn, no_more, most_links, links_at, level_at, set_at, whole_by, whole_at, args_at, plain_at, declare_at, names_at, destructure_at, return_by, return_at, while_at, foreach_at, form_stmt_at, named_by, bracket_by, stmt_by, stmt_turn, stmts_at, within}
+use Rattle.vale_parser.specs.Reading.{binary_op, height, of_height, link_op, unary_op, chained, stepped, Inner, inside, after_bracket, parallel, form_end, after_form, plain_end, after_plain, ref_by, ref_type_at, array_type_at, iso_type_at, type_by, type_at, block_at, else_by, else_turn_by, else_turn, elses_at, branch_at, bound_by, bound_at, parallel_at, pure_at, form_by, form_at, arguments_at, called_by, called_at, paren_at, array_at, iso_at, primary_by, primary_at, member_by, member_at, index_at, step_by, step_turn, steps_at, postfix_at, unary_by, unary_at, link_by, link_turn, no_more, most_links, links_at, level_at, set_at, whole_by, whole_at, args_at, plain_at, declare_at, names_at, destructure_at, return_by, return_at, while_at, foreach_at, form_stmt_at, named_by, bracket_by, stmt_by, stmt_turn, stmts_at, within}
 use Rattle.vale_parser.proofs.StepLaws.{given, returned, at_kind, sign_takes, word_takes, name_takes, front, Takes, by_turn, turns_takes, faulty_takes, commas_take}
 
 -- ---- operators
@@ -196,9 +196,13 @@ module _ (names : List (List ℕ)) where
     IsTo l None = nothing
     IsTo l (Some e) = sign s.DotDot ▸ IsExpr names whole l e
 
-    to_takes : (l : ℕ) (i : Inner) → InnerTakes l i → (ts : List Token) (b : Bool) (y : Option Expr × List Token) → to_by names i ts b ≡ Ok y → IsTo l y.0 ts y.1
-    to_takes l i law ts true y e = given e (λ a ea e. given e (λ x ex e. returned (front (IsTo l) ts) (Some x.0, x.1) e (a.1, (a.0, sign_takes s.DotDot ts a ea), law.whole a.1 x ex)))
-    to_takes l i law ts false y e = returned (front (IsTo l) ts) (None, ts) e refl
+    bound_by_takes : (l : ℕ) (i : Inner) → InnerTakes l i → (ts : List Token) (b : Bool) (y : Option Expr × List Token) → bound_by i ts b ≡ Ok y → IsTo l y.0 ts y.1
+    bound_by_takes l i law ts true y e = given e (λ a ea e. given e (λ x ex e. returned (front (IsTo l) ts) (Some x.0, x.1) e (a.1, (a.0, sign_takes s.DotDot ts a ea), law.whole a.1 x ex)))
+    bound_by_takes l i law ts false y e = returned (front (IsTo l) ts) (None, ts) e refl
+
+    bound_takes : (l : ℕ) (i : Inner) → InnerTakes l i → Takes (bound_at i) (IsTo l)
+    unfolding bound_at
+    bound_takes l i law ts y e = bound_by_takes l i law ts (begins s.DotDot ts) y e
 
     bounds_take : (l : ℕ) → d ≡ suc l → (at : Spot) (n : NameAt) (e : Expr) (to : Option Expr) (b : Block) (ts m1 m2 m3 m4 m5 m6 rest : List Token) → one (k.Word w.Parallel) at ts m1 → word w.Foreach m1 m2 → named names n m2 m3 → word w.In m3 m4 → IsExpr names whole l e m4 m5 → IsTo l to m5 m6 → IsBlock names d b m6 rest → IsForm names d (parallel at n e to b) ts rest
     bounds_take l dl at n e None b ts m1 m2 m3 m4 m5 m6 rest h1 h2 h3 h4 h5 h6 h7 =
@@ -207,9 +211,10 @@ module _ (names : List (List ℕ)) where
         (m1, h1, (m6, in_deeper d l (λ d. word w.Foreach ▸ named names n ▸ word w.In ▸ IsExpr names whole d e ▸ sign s.DotDot ▸ IsExpr names whole d f) m1 m6 dl (m2, h2, (m3, h3, (m4, h4, (m5, h5, (m, h6, h8))))), h7))
 
     parallel_takes : Takes (parallel_at names o) (IsForm names d)
+    unfolding parallel_at
     parallel_takes ts y e = given e (λ a ea e. opened _ d o law e (λ l i dl law e. given e (λ f ef e. given e (λ n en e. given e (λ a2 ea2 e. given e (λ x ex e. given e (λ to eto e. given e (λ b eb e. returned (front (IsForm names d) ts) (parallel a.0 n.0 x.0 to.0 b.0, b.1) e
         (bounds_take l dl a.0 n.0 x.0 to.0 b.0 ts a.1 f.1 n.1 a2.1 x.1 to.1 b.1 (word_takes w.Parallel ts a ea) (f.0, word_takes w.Foreach a.1 f ef) (name_takes names f.1 n en) (a2.0, word_takes w.In n.1 a2 ea2)
-            (law.whole a2.1 x ex) (to_takes l i law x.1 (begins s.DotDot x.1) to eto) (block_takes to.1 b eb))))))))))
+            (law.whole a2.1 x ex) (bound_takes l i law x.1 to eto) (block_takes to.1 b eb))))))))))
 
     form_by_takes : (t : Token) (ts : List Token) (kind : TokenKind) (y : Form × List Token) → form_by names o t ts kind ≡ Ok y → IsForm names d y.0 (t ∷ ts) y.1
     form_by_takes t ts (k.Word w.If) y e = branch_takes (t ∷ ts) y e

@@ -138,6 +138,17 @@ abbrev pub parallel : Spot → NameAt → Expr → Option Expr → Block → For
 parallel at n e None b = parallel_each at n e b
 parallel at n e (Some f) b = parallel_range at n e f b
 
+-- the second bound of a loop, where there is one
+abbrev pub bound_by : Inner → List Token → Bool → Read (Option Expr)
+bound_by i ts true = do
+  d ← sign_at s.DotDot ts
+  e ← i.whole d.1
+  Ok (Some e.0, e.1)
+bound_by i ts false = Ok (None, ts)
+
+unfoldable pub bound_at : Inner → Reader (Option Expr)
+bound_at i ts = bound_by i ts (begins s.DotDot ts)
+
 -- a form that begins a statement, by what follows it
 abbrev pub form_end : Form → Token → List Token → TokenKind → Read (Turn Stmt (Option Expr))
 form_end f t ts (k.Sign s.Semicolon) = Ok (More (express (form f)), ts)
@@ -271,14 +282,7 @@ module _ (names : List (List ℕ)) where
       es ← elses_at o b.1
       Ok (branch if_.0 c.0 b.0 es.0, es.1))
 
-  abbrev pub to_by : Inner → List Token → Bool → Read (Option Expr)
-  to_by i ts true = do
-    d ← sign_at s.DotDot ts
-    e ← i.whole d.1
-    Ok (Some e.0, e.1)
-  to_by i ts false = Ok (None, ts)
-
-  abbrev pub parallel_at : Option Inner → Reader Form
+  unfoldable pub parallel_at : Option Inner → Reader Form
   parallel_at o ts = do
     p ← word_at w.Parallel ts
     inside o ts (λ i. do
@@ -286,7 +290,7 @@ module _ (names : List (List ℕ)) where
       n ← name_at names f.1
       in_ ← word_at w.In n.1
       e ← i.whole in_.1
-      to ← to_by i e.1 (begins s.DotDot e.1)
+      to ← bound_at i e.1
       b ← block_at o to.1
       Ok (parallel p.0 n.0 e.0 to.0 b.0, b.1))
 

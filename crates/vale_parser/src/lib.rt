@@ -2,6 +2,11 @@
 #![tactic(auto)]
 
 mod basic;
+mod build;
+mod lists;
+mod names;
+mod parser;
 mod stop;
+mod types;
 
 pub use stop::{Stop, Turn};
