@@ -13,10 +13,18 @@ use Rattle.vale_parser.specs.declared.stop.Turn.TheVariants.{More, End}
 use Rattle.vale_parser.specs.Steps.{Fault, unexpected, too_deep, Read, Reader, ◌>>=◌, begins, begins_word, sign_at, word_at, name_at, turns_at, enough, faulty}
 use Rattle.vale_parser.specs.Reading.{commas_at, type_at, block_at, within}
 
--- reads with one level fewer, where one is left; the tokens begin with the one that opens it
+-- one level fewer, where one is left
+abbrev pub one_fewer : ℕ → Option ℕ
+one_fewer zero = None
+one_fewer (suc d) = Some d
+
+abbrev pub lower_by : {A : Type 0} → Option ℕ → List Token → (ℕ → Read A) → Read A
+lower_by None here f = Err (too_deep here)
+lower_by (Some d) here f = f d
+
+-- reads with one level fewer; the tokens begin with the one that opens it
 abbrev pub lower : {A : Type 0} → ℕ → List Token → (ℕ → Read A) → Read A
-lower zero here f = Err (too_deep here)
-lower (suc d) here f = f d
+lower d here f = lower_by (one_fewer d) here f
 
 -- ---- items of a list up to where it stops
 

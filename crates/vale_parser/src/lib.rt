@@ -3,6 +3,7 @@
 
 mod basic;
 mod build;
+mod items;
 mod lists;
 mod names;
 mod parser;

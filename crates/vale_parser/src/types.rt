@@ -1,9 +1,10 @@
 //! The parser's state, and types.
 
-ghost use Rattle.std.specs.Prelude.{◌≡◌, ◌<◌, suc, Some, None, IfOk, IfErr, OnErr};
+ghost use Rattle.std.specs.Prelude.{◌≡◌, ◌<◌, Some, None, IfOk, IfErr, OnErr};
 ghost use Rattle.vale_syntax.specs.View.{view_type};
 ghost use Rattle.vale_parser.specs.Steps as s;
 ghost use Rattle.vale_parser.specs.Reading as r;
+ghost use Rattle.vale_parser.specs.ItemReading as i;
 ghost use Rattle.vale_parser.specs.Gives.{Gives, IsTooDeep};
 
 use crate::basic::{begins_word, sign, word};
@@ -17,17 +18,17 @@ use vale_syntax::{NameAt, Sign, Token, TokenKind, TypeExpr, Word};
 #[derive(Clone, Copy)]
 pub struct Parser<'n> {
     pub alloc: Global,
-    pub names: &'n Names,
+    pub names: &'n Names<'n>,
 }
 
 impl Parser<'_> {
     /// The levels that are left behind the token that opens one.
-    #[tactic(auto, using(crate::proofs::Levels::within_more, crate::proofs::Levels::within_none, crate::proofs::Levels::one_more))]
+    #[tactic(auto, using(crate::proofs::Levels::within_more, crate::proofs::Levels::within_none, crate::proofs::Levels::one_more, crate::proofs::Levels::one_none))]
     pub fn below<'t>(&self, depth: usize, here: &'t [Token]) -> Result<usize, Stop<'t>>
         ensures less { IfOk result (λ d. d < depth) }
-        ensures one { IfOk result (λ d. depth ≡ suc d) }
+        ensures one { IfOk result (λ d. i.one_fewer depth ≡ Some d) }
         ensures ok { IfOk result (λ d. r.within self.now.names.now depth ≡ Some (r.inner_of self.now.names.now (r.within self.now.names.now d))) }
-        ensures zero { OnErr result (depth ≡ 0) }
+        ensures zero { OnErr result (i.one_fewer depth ≡ None) }
         ensures none { OnErr result (r.within self.now.names.now depth ≡ None) }
         ensures err { IfErr result (λ e. IsTooDeep e here.now) }
     {
