@@ -10,3 +10,4 @@ pub mod ItemAgain
 pub mod Levels
 pub mod Built
 pub mod Loops
+pub mod Numbered

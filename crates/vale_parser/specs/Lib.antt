@@ -2,3 +2,4 @@ pub mod Steps
 pub mod Reading
 pub mod ItemReading
 pub mod Gives
+pub mod Seen

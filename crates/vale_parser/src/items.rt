@@ -58,7 +58,7 @@ impl Parser<'_> {
     }
 
     /// Parameters up to a `)`, which is not taken.
-    #[tactic(auto, unfolding(crate::specs::ItemReading::params_at))]
+    #[tactic(auto, using(crate::proofs::AgainSteps::list_listed), unfolding(crate::specs::ItemReading::params_at))]
     fn params<'t>(&self, depth: usize, tokens: &'t [Token]) -> Result<(Items<Param>, &'t [Token]), Stop<'t>>
         ensures { Gives (λ x. (map view_param x.0, x.1.now)) result (i.params_at self.now.names.now depth tokens.now) }
     {
