@@ -1,11 +1,11 @@
 -- Numbers of names, by the set of their texts.
-use Rattle.std.proofs.Common.{◌≡◌, ◌+◌, ◌<◌, ◌≤◌, drop, get_or, arith, ℕ, zero, suc, Bool, true, false, not, cond, nat_lt, List, [], ◌∷◌, ◌++◌, length, Option, Some, None, refl, sym, ap, subst, ◌∙◌, append_assoc}
+use Rattle.std.proofs.Common.{◌≡◌, ◌+◌, ◌<◌, ◌≤◌, drop, take, get_or, arith, ℕ, zero, suc, Bool, true, false, not, cond, nat_lt, List, [], ◌∷◌, ◌++◌, length, Option, Some, None, refl, sym, ap, subst, ◌∙◌, append_assoc}
 use Rattle.std.specs.Prelude.{◌&&◌, ◌||◌, map, filter, position, option_map}
 use Rattle.std.specs.List.{list_any, prefix_len}
 use Rattle.std.specs.Str.{bytes_eq}
 use Rattle.std.specs.Borrow.{Bor}
 use Rattle.std.proofs.lemmas.Slice.Eq.{bytes_eq-Decides}
-use Rattle.std.proofs.lemmas.List.{drop_all}
+use Rattle.std.proofs.lemmas.List.{drop_all, take_all}
 use Rattle.std.proofs.Math.Seq.{drop-cons}
 use Rattle.std.proofs.lemmas.List.Folds.{list_any-append}
 use Rattle.vale_base.specs.declared.name.Name.{Name}
@@ -146,3 +146,19 @@ seen_next ks new ts i t names lt is e so_far =
 
 pub seen_done : (ks : List (List ℕ)) (ts : List Token) (i : ℕ) (names : List (List ℕ)) → length ts ≤ i → seen_in ks (drop i ts) ≡ names → ks ≡ names
 seen_done ks ts i names le so_far = ap (λ (z : List Token). seen_in ks z) (sym (drop_all i ts le)) ∙ so_far
+
+-- ---- a copy of the texts
+
+take_next : (ks : List (Bor (List ℕ))) (i : ℕ) (d : Bor (List ℕ)) → i < length ks → take (suc i) ks ≡ take i ks ++ get_or ks i d ∷ []
+take_next [] i d lt = absurd (omega (arith, lt))
+take_next (x ∷ ks) zero d lt = refl
+take_next (x ∷ ks) (suc i) d lt = let less : i < length ks = omega (arith, lt) in ap (λ (z : List (Bor (List ℕ))). x ∷ z) (take_next ks i d less)
+
+pub took_next : (texts : List (List ℕ)) (ks : List (Bor (List ℕ))) (i : ℕ) (k : Bor (List ℕ)) (text : List ℕ) → i < length ks → k ≡ get_or ks i k → text ≡ k.now → texts ≡ nows (take i ks) → texts ++ text ∷ [] ≡ nows (take (i + 1) ks)
+took_next texts ks i k text lt is same so_far =
+    let next : i + 1 ≡ suc i = omega arith in
+    let one : take (i + 1) ks ≡ take i ks ++ k ∷ [] = ap (λ (n : ℕ). take n ks) next ∙ (take_next ks i k lt ∙ ap (λ (x : Bor (List ℕ)). take i ks ++ x ∷ []) (sym is)) in
+    ap (λ (z : List (List ℕ)). z ++ text ∷ []) so_far ∙ (ap (λ (z : List ℕ). nows (take i ks) ++ z ∷ []) same ∙ (sym (map_more (take i ks) k) ∙ ap nows (sym one)))
+
+pub took_all : (texts names : List (List ℕ)) (ks : List (Bor (List ℕ))) (i : ℕ) → length ks ≤ i → texts ≡ nows (take i ks) → nows ks ≡ names → texts ≡ names
+took_all texts names ks i le so_far view = so_far ∙ (ap nows (take_all i ks le) ∙ view)

@@ -62,11 +62,13 @@ impl<'t> Names<'t> {
     }
 
     /// A copy of the texts.
+    #[tactic(auto, using(crate::proofs::Numbered::took_next, crate::proofs::Numbered::took_all))]
     pub fn to_items(&self, alloc: Global) -> Result<Items<Text>, Memory>
         ensures { IfOk result (λ texts. texts ≡ self.now) }
     {
+        let slices = self.texts.as_slice();
         let mut texts = Items::new(alloc);
-        for text in self.texts.as_slice() {
+        for text in slices {
             texts.push(Text::from_slice(alloc, text)?)?;
         }
         Ok(texts)
