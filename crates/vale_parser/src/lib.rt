@@ -1,4 +1,4 @@
-//! From tokens to the tree.
+//! From the tokens of a program to its tree, by descent with one token in hand.
 #![tactic(auto)]
 
 mod basic;
@@ -9,5 +9,6 @@ mod names;
 mod parser;
 mod stop;
 mod types;
+mod whole;
 
-pub use stop::{Stop, Turn};
+pub use whole::{ParseFault, parse};
