@@ -14,7 +14,7 @@ use Rattle.vale_syntax.specs.Grammar.{Part, token, sign, word, ◌▸◌, when, 
 use Rattle.vale_parser.specs.declared.stop.Turn.TheVariants.{More, End}
 use Rattle.vale_parser.specs.Steps.{Fault, Read, Reader, is_sign, begins, begins_word, enough, faulty}
 use Rattle.vale_parser.specs.Reading.{type_at, block_at, within}
-use Rattle.vale_parser.specs.ItemReading.{lower, ended, until, all_until, braced, purity_at, bang_at, param_at, params_at, result_at, head_at, signature_at, function_at, field_at, struct_at, interface_at, impl_at, function_item_at, item_at, items_at, tree_of, all_of}
+use Rattle.vale_parser.specs.ItemReading.{lower, ended, until, all_until, braced, purity_at, bang_at, param_at, params_at, result_at, head_at, signature_at, function_at, field_at, struct_at, interface_at, impl_at, function_item_at, item_at, items_at, read_items, tree_of, all_of}
 use Rattle.vale_parser.proofs.StepLaws.{ok_is, sign_again, word_again, name_again}
 use Rattle.vale_parser.proofs.Shorter.{at_level, shorter_name, shorter_type, shorter_block, shorter_each}
 use Rattle.vale_parser.proofs.Firsts.{Before, starts_type, first_type}
@@ -242,7 +242,7 @@ pub all_again : (ts : List Token) (x : Tree) → spells x ts → all_of ts ≡ O
 unfolding all_of
 all_again ts (tree names items) (same, h) =
     let read : items_at (names_in ts) level_limit ts ≡ Ok (items, []) = items_again (names_in ts) level_limit items ts (subst (λ (z : List (List ℕ)). each (IsItem z level_limit) items ts []) same h) in
-    ap (tree_of (names_in ts)) read ∙ ap (λ (z : List (List ℕ)). Ok (tree z items)) (sym same)
+    ap (λ (z : Read (List Item)). tree_of (names_in ts) (read_items z)) read ∙ ap (λ (z : List (List ℕ)). Ok (tree z items)) (sym same)
 
 -- A list of tokens has at most one tree, and it is refused where it has none.
 pub one_tree : (ts : List Token) (x y : Tree) → spells x ts → spells y ts → x ≡ y

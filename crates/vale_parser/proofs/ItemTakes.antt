@@ -12,7 +12,7 @@ use Rattle.vale_parser.specs.declared.stop.Turn.{Turn}
 use Rattle.vale_parser.specs.declared.stop.Turn.TheVariants.{More, End}
 use Rattle.vale_parser.specs.Steps.{Read, Reader, begins, begins_word, enough, faulty}
 use Rattle.vale_parser.specs.Reading.{within}
-use Rattle.vale_parser.specs.ItemReading.{lower, ended, until_by, until, all_until, braced, flag_word, purity_at, flag_sign, bang_at, param_at, params_at, result_by, result_at, head_at, signature_at, function_at, field_at, struct_at, interface_at, impl_at, function_item_at, item_by, item_at, items_at, tree_of, all_of}
+use Rattle.vale_parser.specs.ItemReading.{lower, ended, until_by, until, all_until, braced, flag_word, purity_at, flag_sign, bang_at, param_at, params_at, result_by, result_at, head_at, signature_at, function_at, field_at, struct_at, interface_at, impl_at, function_item_at, item_by, item_at, items_at, read_items, tree_of, all_of}
 use Rattle.vale_parser.proofs.StepLaws.{given, returned, sign_takes, word_takes, name_takes, front, Takes, by_turn, turns_takes, faulty_takes, commas_take}
 use Rattle.vale_parser.proofs.Takes.{type_takes, block_takes, within_sound}
 
@@ -143,7 +143,7 @@ ended_is : (ts : List Token) → ended ts ≡ true → ts ≡ []
 ended_is [] e = refl
 ended_is (t ∷ ts) e = absurd cc
 
-tree_takes : (ts : List Token) (r : Read (List Item)) (x : Tree) → items_at (names_in ts) level_limit ts ≡ r → tree_of (names_in ts) r ≡ Ok x → spells x ts
+tree_takes : (ts : List Token) (r : Read (List Item)) (x : Tree) → items_at (names_in ts) level_limit ts ≡ r → tree_of (names_in ts) (read_items r) ≡ Ok x → spells x ts
 tree_takes ts (Ok (is, rest)) x h e =
     let g = items_take (names_in ts) level_limit ts (is, rest) h in
     returned (λ (z : Tree). spells z ts) (tree (names_in ts) is) e (refl, subst (λ (r : List Token). each (IsItem (names_in ts) level_limit) is ts r) (ended_is rest g.1) g.0)

@@ -11,3 +11,4 @@ pub mod Levels
 pub mod Built
 pub mod Loops
 pub mod Numbered
+pub mod Answered

@@ -165,10 +165,18 @@ module _ (names : List (List ℕ)) where
   unfoldable pub items_at : ℕ → Reader (List Item)
   items_at d ts = all_until ended (item_at d) ts
 
-abbrev pub tree_of : List (List ℕ) → Read (List Item) → Result Tree Fault
-tree_of names (Ok x) = Ok (tree names x.0)
+abbrev pub read_items : Read (List Item) → Result (List Item) Fault
+read_items (Ok x) = Ok x.0
+read_items (Err f) = Err f
+
+-- the items of a whole program
+abbrev pub items_of : List (List ℕ) → List Token → Result (List Item) Fault
+items_of names ts = read_items (items_at names level_limit ts)
+
+abbrev pub tree_of : List (List ℕ) → Result (List Item) Fault → Result Tree Fault
+tree_of names (Ok items) = Ok (tree names items)
 tree_of names (Err f) = Err f
 
 -- a whole program
 unfoldable pub all_of : List Token → Result Tree Fault
-all_of ts = tree_of (names_in ts) (items_at (names_in ts) level_limit ts)
+all_of ts = tree_of (names_in ts) (items_of (names_in ts) ts)

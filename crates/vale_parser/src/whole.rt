@@ -12,9 +12,10 @@ ghost use Rattle.vale_parser.specs.Refusal.{spot_at, IsRefusal};
 use crate::names::Names;
 use crate::stop::Stop;
 use crate::types::Parser;
+use sqlite_items::Items;
 use std::alloc::Global;
 use vale_base::{Fail, LEVEL_LIMIT, Spot};
-use vale_syntax::{Token, Tokens, Tree};
+use vale_syntax::{Item, Token, Tokens, Tree};
 
 /// Why the tokens spell no tree, and where: 5 where no program of any nesting begins through the token, 6 where it opens
 /// level 65. Where the tokens end too early it is 5 at their end.
@@ -34,21 +35,32 @@ fn spot_at(tokens: &[Token], end: Spot) -> Spot
     }
 }
 
+/// The items, by the names' numbers.
+#[tactic(auto, unfolding(crate::specs::ItemReading::items_at))]
+fn items<'t>(
+    alloc: Global,
+    names: &Names<'_>,
+    tokens: &'t [Token],
+) -> Result<Items<Item>, Stop<'t>>
+    ensures { Gives (map view_item) result (i.items_of names.now tokens.now) }
+{
+    let parser = Parser { alloc, names };
+    let (items, _) = parser.items(LEVEL_LIMIT, tokens)?;
+    Ok(items)
+}
+
 #[tactic(auto, unfolding(crate::specs::ItemReading::all_of))]
 fn read<'t>(alloc: Global, tokens: &'t [Token]) -> Result<Tree, Stop<'t>>
     ensures { Gives view_tree result (i.all_of tokens.now) }
 {
     let names = Names::of(alloc, tokens)?;
-    let parser = Parser {
-        alloc,
-        names: &names,
-    };
-    let (items, _) = parser.items(LEVEL_LIMIT, tokens)?;
+    let items = items(alloc, &names, tokens)?;
     let names = names.to_items(alloc)?;
     Ok(Tree { names, items })
 }
 
 /// The tree that the tokens spell.
+#[tactic(auto, using(crate::proofs::Answered::is_found, crate::proofs::Answered::is_complete, crate::proofs::Answered::is_none))]
 pub fn parse(alloc: Global, tokens: &Tokens) -> Result<Tree, Fail<ParseFault>>
     // What is answered is spelled by the tokens.
     ensures found { IfOk result (λ tree. spells (view_tree tree) tokens.now.list) }
