@@ -128,7 +128,7 @@ module _ (names : List (List ℕ)) where
         let l = elses_listed es in
         let less : length ts < enough ts = omega arith in
         rw (l.2) (turns_again (else_turn names o) more_elses else_end faulty (IsElseIf names d) (AreElses names d) NoElse
-            (λ x l ts rest h. h) (λ x ts mid h. shorter_else_if names d x ts mid h) else_adds else_ends (enough ts) l.0 l.1 ts rest less (subst (λ (z : Elses). AreElses names d z ts rest) l.2 h) q)
+        (λ x l ts rest h. h) (λ x ts mid h. shorter_else_if names d x ts mid h) else_adds else_ends (enough ts) l.0 l.1 ts rest less (subst (λ (z : Elses). AreElses names d z ts rest) l.2 h) q)
 
     branch_again : (at : Spot) (c : Expr) (b : Block) (es : Elses) (ts rest : List Token) → IsForm names d (branch at c b es) ts rest → NoElse rest → branch_at names o ts ≡ Ok (branch at c b es, rest)
     unfolding branch_at
@@ -143,14 +143,14 @@ module _ (names : List (List ℕ)) where
     range_again at n a e b ts rest (m, h, (m2, g, h2)) =
         rw (word_again w.Parallel at ts m h) (opening _ _ d o full (λ d. word w.Foreach ▸ named names n ▸ word w.In ▸ IsExpr names whole d a ▸ sign s.DotDot ▸ IsExpr names whole d e) m m2 g
         (λ l i law (i0, (at0, j0), (i1, j1, (i2, (at2, j2), (i3, j3, (i4, (at4, j4), j5))))).
-            rw (word_again w.Foreach at0 m i0 j0, name_again names n i0 i1 j1, word_again w.In at2 i1 i2 j2, law.whole a i2 i3 j3 (Stops-sign whole s.DotDot i3 i4 refl refl (at4, j4)), begins_again s.DotDot at4 i3 i4 j4, sign_again s.DotDot at4 i3 i4 j4, law.whole e i4 m2 j5 (block_stops names whole d b m2 rest h2), block_again b m2 rest h2 tt) refl))
+        rw (word_again w.Foreach at0 m i0 j0, name_again names n i0 i1 j1, word_again w.In at2 i1 i2 j2, law.whole a i2 i3 j3 (Stops-sign whole s.DotDot i3 i4 refl refl (at4, j4)), begins_again s.DotDot at4 i3 i4 j4, sign_again s.DotDot at4 i3 i4 j4, law.whole e i4 m2 j5 (block_stops names whole d b m2 rest h2), block_again b m2 rest h2 tt) refl))
 
     each_again : (at : Spot) (n : NameAt) (e : Expr) (b : Block) (ts rest : List Token) → IsForm names d (parallel_each at n e b) ts rest → parallel_at names o ts ≡ Ok (parallel_each at n e b, rest)
     unfolding parallel_at bound_at
     each_again at n e b ts rest (m, h, (m2, g, h2)) =
         rw (word_again w.Parallel at ts m h) (opening _ _ d o full (λ d. word w.Foreach ▸ named names n ▸ word w.In ▸ IsExpr names whole d e) m m2 g
         (λ l i law (i0, (at0, j0), (i1, j1, (i2, (at2, j2), j3))).
-            rw (word_again w.Foreach at0 m i0 j0, name_again names n i0 i1 j1, word_again w.In at2 i1 i2 j2, law.whole e i2 m2 j3 (block_stops names whole d b m2 rest h2), block_no_dots names d b m2 rest h2, block_again b m2 rest h2 tt) refl))
+        rw (word_again w.Foreach at0 m i0 j0, name_again names n i0 i1 j1, word_again w.In at2 i1 i2 j2, law.whole e i2 m2 j3 (block_stops names whole d b m2 rest h2), block_no_dots names d b m2 rest h2, block_again b m2 rest h2 tt) refl))
 
     pub form_again : Again (form_at names o) (IsForm names d) NoElse
     unfolding form_at
@@ -261,7 +261,7 @@ module _ (names : List (List ℕ)) where
         let l = steps_listed ps in
         let less : length ts < enough ts = omega arith in
         rw (l.1) (turns_again (step_turn names o) more_steps (λ _. no_steps) faulty (IsStep names d) (AreSteps names d) (Stops postfix)
-            (λ x l ts rest h. h) (λ x ts mid h. shorter_step names d x ts mid h) step_adds step_ends (enough ts) l.0 tt ts rest less (subst (λ (z : Steps). AreSteps names d z ts rest) l.1 h) q)
+        (λ x l ts rest h. h) (λ x ts mid h. shorter_step names d x ts mid h) step_adds step_ends (enough ts) l.0 tt ts rest less (subst (λ (z : Steps). AreSteps names d z ts rest) l.1 h) q)
 
     bare_again : (r : ℕ) (e : Expr) (ts rest : List Token) → Primary e → IsExpr names r d e ts rest → Stops postfix rest → postfix_at names o ts ≡ Ok (e, rest)
     unfolding postfix_at
@@ -359,7 +359,7 @@ module _ (names : List (List ℕ)) where
           let l = links_listed ls in
           let less : length ts < enough ts = omega arith in
           rw (l.1) (turns_again (link_turn p (suc n)) more_links (λ _. no_links) no_more (IsLink names (suc (suc n)) d) (AreLinks names (suc (suc n)) d) (Stops (suc (suc (suc n))))
-              (λ x l ts rest h. h) (λ x ts mid h. shorter_link names (suc (suc n)) d x ts mid h) link_adds link_ends (enough ts) l.0 tt ts rest less (subst (λ (z : Links). AreLinks names (suc (suc n)) d z ts rest) l.1 h) q)
+          (λ x l ts rest h. h) (λ x ts mid h. shorter_link names (suc (suc n)) d x ts mid h) link_adds link_ends (enough ts) l.0 tt ts rest less (subst (λ (z : Links). AreLinks names (suc (suc n)) d z ts rest) l.1 h) q)
 
       -- at most one link
       abbrev AtMostOne : Links → Type 0
@@ -466,5 +466,5 @@ module _ (names : List (List ℕ)) where
     args_again es ts rest h q =
         let l = exprs_listed es in
         rw (l.1) (commas_again (whole_at names o) (IsExpr names whole d) (Stops whole) s.CloseParen more_exprs no_exprs (AreArgs names d) (AreMoreArgs names d)
-            whole_again (λ x ts mid h. shorter names whole d x ts mid h) expr_no_close (λ ts rest h. Stops-sign whole s.Comma ts rest refl refl h) (λ ts rest h. Stops-sign whole s.CloseParen ts rest refl refl h) refl
-            (λ ts rest h. h) (λ x l ts rest h. h) (λ ts rest h. h) (λ x l ts rest (m, h, (m2, h2, g)). (m2, (m, h, h2), g)) l.0 ts rest (subst (λ (z : Exprs). AreArgs names d z ts rest) l.1 h) q)
+        whole_again (λ x ts mid h. shorter names whole d x ts mid h) expr_no_close (λ ts rest h. Stops-sign whole s.Comma ts rest refl refl h) (λ ts rest h. Stops-sign whole s.CloseParen ts rest refl refl h) refl
+        (λ ts rest h. h) (λ x l ts rest h. h) (λ ts rest h. h) (λ x l ts rest (m, h, (m2, h2, g)). (m2, (m, h, h2), g)) l.0 ts rest (subst (λ (z : Exprs). AreArgs names d z ts rest) l.1 h) q)

@@ -46,8 +46,8 @@ module _ (names : List (List ℕ)) where
   names_again ns ts rest h q =
       let same = list_listed ns in
       let all = commas_again (name_at names) (named names) AnyTokens s.CloseBracket (λ x xs. x ∷ xs) [] (with_commas (named names)) (each (λ n. sign s.Comma ▸ named names n))
-          (λ n ts rest h q. name_again names n ts rest h) (shorter_name names) name_no_close (λ ts rest h. tt) (λ ts rest h. tt) refl
-          (λ ts rest h. h) (λ x l ts rest h. h) (λ ts rest h. h) (λ x l ts rest h. h) ns ts rest (subst (λ (z : List NameAt). with_commas (named names) z ts rest) (sym same) h) q in
+      (λ n ts rest h q. name_again names n ts rest h) (shorter_name names) name_no_close (λ ts rest h. tt) (λ ts rest h. tt) refl
+      (λ ts rest h. h) (λ x l ts rest h. h) (λ ts rest h. h) (λ x l ts rest h. h) ns ts rest (subst (λ (z : List NameAt). with_commas (named names) z ts rest) (sym same) h) q in
       all ∙ ap (λ (z : List NameAt). Ok (z, rest)) same
 
   after_again : (ns : List NameAt) (at3 at4 : Spot) (m m2 m3 m4 : List Token) → with_commas (named names) ns m m2 → one (k.Sign s.CloseBracket) at3 m2 m3 → one (k.Sign s.Assign) at4 m3 m4 → after_bracket m ≡ true
@@ -203,7 +203,7 @@ module _ (names : List (List ℕ)) where
         let l = stmts_listed xs in
         let less : length ts < enough ts = omega arith in
         rw (l.2) (turns_again (stmt_turn names o) more_stmts last_end faulty (IsStmt names d) (AreStmts names d) (Before s.CloseBrace)
-            (λ x l ts rest h. h) (λ x ts mid h. shorter_stmt names d x ts mid h) stmt_adds stmt_ends (enough ts) l.0 l.1 ts rest less (subst (λ (z : Stmts). AreStmts names d z ts rest) l.2 h) q)
+        (λ x l ts rest h. h) (λ x ts mid h. shorter_stmt names d x ts mid h) stmt_adds stmt_ends (enough ts) l.0 l.1 ts rest less (subst (λ (z : Stmts). AreStmts names d z ts rest) l.2 h) q)
 
   pub within_full : (d : ℕ) → Full names d (within names d)
   unfolding within

@@ -49,7 +49,7 @@ module _ {X : Type 0} (stop : List Token → Bool) (item : Reader X) (P : X → 
       let same = list_listed xs in
       let less : length ts < enough ts = omega arith in
       turns_again (until stop item) (λ x xs. x ∷ xs) (λ _. []) faulty P (each P) Stopped (λ x l ts rest h. h) shrinks until_adds until_ends (enough ts) xs tt ts rest less
-          (subst (λ (z : List X). each P z ts rest) (sym same) h) q ∙ ap (λ (z : List X). Ok (z, rest)) same
+      (subst (λ (z : List X). each P z ts rest) (sym same) h) q ∙ ap (λ (z : List X). Ok (z, rest)) same
 
 braced_again : {X : Type 0} (item : ℕ → Reader X) (P : ℕ → X → Part) → ((d : ℕ) (x : X) (ts mid : List Token) → P d x ts mid → item d ts ≡ Ok (x, mid)) → ((d : ℕ) (x : X) (ts mid : List Token) → P d x ts mid → begins s.CloseBrace ts ≡ false)
     → ((d : ℕ) (x : X) (ts mid : List Token) → P d x ts mid → length mid < length ts) → (d : ℕ) (xs : List X) (ts rest : List Token) → (sign s.OpenBrace ▸ deeper d (λ d. each (P d) xs) ▸ sign s.CloseBrace) ts rest → braced d item ts ≡ Ok (xs, rest)
@@ -122,14 +122,17 @@ module _ (names : List (List ℕ)) where
   params_again d ps ts rest h q =
       let same = list_listed ps in
       let all = commas_again (param_at names d) (IsParam names d) Every s.CloseParen (λ x xs. x ∷ xs) [] (with_commas (IsParam names d)) (each (λ p. sign s.Comma ▸ IsParam names d p))
-          (λ x ts rest h q. param_again d x ts rest h) (shorter_param d) (param_no_close d) (λ ts rest h. tt) (λ ts rest h. tt) refl
-          (λ ts rest h. h) (λ x l ts rest h. h) (λ ts rest h. h) (λ x l ts rest h. h) ps ts rest (subst (λ (z : List Param). with_commas (IsParam names d) z ts rest) (sym same) h) q in
+      (λ x ts rest h q. param_again d x ts rest h) (shorter_param d) (param_no_close d) (λ ts rest h. tt) (λ ts rest h. tt) refl
+      (λ ts rest h. h) (λ x l ts rest h. h) (λ ts rest h. h) (λ x l ts rest h. h) ps ts rest (subst (λ (z : List Param). with_commas (IsParam names d) z ts rest) (sym same) h) q in
       all ∙ ap (λ (z : List Param). Ok (z, rest)) same
 
   shorter_params : (d : ℕ) (ps : List Param) (ts rest : List Token) → with_commas (IsParam names d) ps ts rest → length rest ≤ length ts
   shorter_params d [] ts rest h = omega (arith, ap length h)
-  shorter_params d (p ∷ ps) ts rest (m, h, g) = omega (arith, shorter_param d p ts m h,
-      shorter_each (λ p. sign s.Comma ▸ IsParam names d p) (λ p ts rest h. let less : length rest < length h.0 = shorter_param d p h.0 rest h.2 in omega (arith, ap length h.1.1, less)) ps m rest g)
+  shorter_params d (p ∷ ps) ts rest (m, h, g) = omega (
+    arith,
+    shorter_param d p ts m h,
+    shorter_each (λ p. sign s.Comma ▸ IsParam names d p) (λ p ts rest h. let less : length rest < length h.0 = shorter_param d p h.0 rest h.2 in omega (arith, ap length h.1.1, less)) ps m rest g,
+  )
 
   result_again : (d : ℕ) (x : Option TypeExpr) (ts rest : List Token) → optional (IsType names d) x ts rest → HeadEnds rest → result_at names d ts ≡ Ok (x, rest)
   unfolding result_at

@@ -89,9 +89,23 @@ module _ (names : List (List ℕ)) where
 
   head_takes : (d : ℕ) → Takes (head_at names d) (IsHead names d)
   unfolding head_at
-  head_takes d ts y e = given e (λ p ep e. given e (λ f ef e. given e (λ n en e. given e (λ a ea e. given e (λ ps eps e. given e (λ c ec e. given e (λ x ex e. returned (front (IsHead names d) ts) (head p.0 n.0 ps.0 x.0, x.1) e
-      (p.1, purity_takes ts p ep, (f.1, (f.0, word_takes w.Func p.1 f ef), (n.1, name_takes names f.1 n en, (a.1, (a.0, sign_takes s.OpenParen n.1 a ea),
-          (ps.1, lowered n.1 d eps (λ l dl e. in_deeper d l (λ d. with_commas (IsParam names d) ps.0) a.1 ps.1 dl (params_take l a.1 ps e)), (c.1, (c.0, sign_takes s.CloseParen ps.1 c ec), result_takes d c.1 x ex)))))))))))))
+  head_takes d ts y e = given e (λ p ep e. given e (λ f ef e. given e (λ n en e. given e (λ a ea e. given e (λ ps eps e. given e (λ c ec e. given e (λ x ex e. returned (front (IsHead names d) ts) (head p.0 n.0 ps.0 x.0, x.1) e (
+    p.1,
+    purity_takes ts p ep,
+    (
+      f.1,
+      (f.0, word_takes w.Func p.1 f ef),
+      (
+        n.1,
+        name_takes names f.1 n en,
+        (
+          a.1,
+          (a.0, sign_takes s.OpenParen n.1 a ea),
+          (ps.1, lowered n.1 d eps (λ l dl e. in_deeper d l (λ d. with_commas (IsParam names d) ps.0) a.1 ps.1 dl (params_take l a.1 ps e)), (c.1, (c.0, sign_takes s.CloseParen ps.1 c ec), result_takes d c.1 x ex)),
+        ),
+      ),
+    ),
+  ))))))))
 
   signature_takes : (d : ℕ) → Takes (signature_at names d) (λ h. IsHead names d h ▸ sign s.Semicolon)
   unfolding signature_at

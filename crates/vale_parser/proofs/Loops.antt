@@ -52,7 +52,7 @@ module _ {Y E L : Type 0} (turn : Reader (Turn Y E)) (more : Y → L → L) (end
     turn_more x rest lt h =
         let k : count - i ≡ suc (count - (i + 1)) = omega arith in
         let before : with_front (listed more (map v xs)) (with_front (more (v x)) (turns_at turn more end out (count - (i + 1)) rest)) ≡ total =
-            ap (λ (r : Read L). with_front (listed more (map v xs)) r) (sym (one_more (count - (i + 1)) ts rest (v x) h)) ∙ (ap (λ (n : ℕ). with_front (listed more (map v xs)) (turns_at turn more end out n ts)) (sym k) ∙ so_far) in
+        ap (λ (r : Read L). with_front (listed more (map v xs)) r) (sym (one_more (count - (i + 1)) ts rest (v x) h)) ∙ (ap (λ (n : ℕ). with_front (listed more (map v xs)) (turns_at turn more end out n ts)) (sym k) ∙ so_far) in
         rw (map_push v xs x) (front_more more (map v xs) (v x) (turns_at turn more end out (count - (i + 1)) rest) ∙ before)
 
     pub turn_end : (e : E) (rest : List Token) → i < count → turn ts ≡ Ok (End e, rest) → total ≡ Ok (listed more (map v xs) (end e), rest)

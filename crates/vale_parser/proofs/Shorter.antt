@@ -37,8 +37,11 @@ module _ (names : List (List ℕ)) where
 
   pub shorter_names : (ns : List NameAt) (ts rest : List Token) → with_commas (named names) ns ts rest → length rest ≤ length ts
   shorter_names [] ts rest h = omega (arith, ap length h)
-  shorter_names (n ∷ ns) ts rest (m, h, g) = omega (arith, shorter_name n ts m h,
-      shorter_each (λ n. sign s.Comma ▸ named names n) (λ n ts rest h. let less : length rest < length h.0 = shorter_name n h.0 rest h.2 in omega (arith, ap length h.1.1, less)) ns m rest g)
+  shorter_names (n ∷ ns) ts rest (m, h, g) = omega (
+    arith,
+    shorter_name n ts m h,
+    shorter_each (λ n. sign s.Comma ▸ named names n) (λ n ts rest h. let less : length rest < length h.0 = shorter_name n h.0 rest h.2 in omega (arith, ap length h.1.1, less)) ns m rest g,
+  )
 
   pub shorter_type : (d : ℕ) (x : TypeExpr) (ts rest : List Token) → IsType names d x ts rest → length rest < length ts
   shorter_type d (int_type at) ts rest h = omega (arith, ap length h)
@@ -101,10 +104,10 @@ module _ (names : List (List ℕ)) where
     shorter_form d (pure at b) ts rest (m, h, g) = omega (arith, ap length h, shorter_block d b m rest g)
     shorter_form d (parallel_range at n a e b) ts rest (m, h, (m2, g, h2)) = at_level d (λ d. word w.Foreach ▸ named names n ▸ word w.In ▸ IsExpr names whole d a ▸ sign s.DotDot ▸ IsExpr names whole d e) m m2 g
         (λ l (i0, (at0, j0), (i1, j1, (i2, (at2, j2), (i3, j3, (i4, (at4, j4), j5))))).
-            omega (arith, ap length h, ap length j0, shorter_name n i0 i1 j1, ap length j2, shorter whole l a i2 i3 j3, ap length j4, shorter whole l e i4 m2 j5, shorter_block d b m2 rest h2))
+        omega (arith, ap length h, ap length j0, shorter_name n i0 i1 j1, ap length j2, shorter whole l a i2 i3 j3, ap length j4, shorter whole l e i4 m2 j5, shorter_block d b m2 rest h2))
     shorter_form d (parallel_each at n e b) ts rest (m, h, (m2, g, h2)) = at_level d (λ d. word w.Foreach ▸ named names n ▸ word w.In ▸ IsExpr names whole d e) m m2 g
         (λ l (i0, (at0, j0), (i1, j1, (i2, (at2, j2), j3))).
-            omega (arith, ap length h, ap length j0, shorter_name n i0 i1 j1, ap length j2, shorter whole l e i2 m2 j3, shorter_block d b m2 rest h2))
+        omega (arith, ap length h, ap length j0, shorter_name n i0 i1 j1, ap length j2, shorter whole l e i2 m2 j3, shorter_block d b m2 rest h2))
 
     pub shorter_else_if : (d : ℕ) (x : ElseIf) (ts rest : List Token) → IsElseIf names d x ts rest → length rest < length ts
     shorter_else_if d (else_if at c b) ts rest (m, (at0, h0), (m2, h, (m3, g, h2))) = at_level d (λ d. IsExpr names whole d c) m2 m3 g

@@ -214,7 +214,7 @@ module _ (names : List (List ℕ)) where
     unfolding parallel_at
     parallel_takes ts y e = given e (λ a ea e. opened _ d o law e (λ l i dl law e. given e (λ f ef e. given e (λ n en e. given e (λ a2 ea2 e. given e (λ x ex e. given e (λ to eto e. given e (λ b eb e. returned (front (IsForm names d) ts) (parallel a.0 n.0 x.0 to.0 b.0, b.1) e
         (bounds_take l dl a.0 n.0 x.0 to.0 b.0 ts a.1 f.1 n.1 a2.1 x.1 to.1 b.1 (word_takes w.Parallel ts a ea) (f.0, word_takes w.Foreach a.1 f ef) (name_takes names f.1 n en) (a2.0, word_takes w.In n.1 a2 ea2)
-            (law.whole a2.1 x ex) (bound_takes l i law x.1 to eto) (block_takes to.1 b eb))))))))))
+        (law.whole a2.1 x ex) (bound_takes l i law x.1 to eto) (block_takes to.1 b eb))))))))))
 
     form_by_takes : (t : Token) (ts : List Token) (kind : TokenKind) (y : Form × List Token) → form_by names o t ts kind ≡ Ok y → IsForm names d y.0 (t ∷ ts) y.1
     form_by_takes t ts (k.Word w.If) y e = branch_takes (t ∷ ts) y e
@@ -385,8 +385,15 @@ module _ (names : List (List ℕ)) where
     set_takes : Takes (set_at names o) (IsExpr names whole d)
     unfolding set_at
     set_takes ts y e = given e (λ a ea e. opened _ d o law e (λ l i dl law e. given e (λ p ep e. given e (λ c ec e. given e (λ x ex e. returned (front (IsExpr names whole d) ts) (set a.0 p.0 x.0, x.1) e
-        (let le : whole ≤ whole = omega arith in (le, (a.1, word_takes w.Set ts a ea, in_deeper d l (λ d. IsExpr names postfix d p.0 ▸ sign s.Assign ▸ IsExpr names whole d x.0) a.1 x.1 dl
-            (p.1, law.place a.1 p ep, (c.1, (c.0, sign_takes s.Assign p.1 c ec), law.whole c.1 x ex))))))))))
+        (let le : whole ≤ whole = omega arith in (
+          le,
+          (
+            a.1,
+            word_takes w.Set ts a ea,
+            in_deeper d l (λ d. IsExpr names postfix d p.0 ▸ sign s.Assign ▸ IsExpr names whole d x.0) a.1 x.1 dl
+                (p.1, law.place a.1 p ep, (c.1, (c.0, sign_takes s.Assign p.1 c ec), law.whole c.1 x ex)),
+          ),
+        )))))))
 
     whole_by_takes : (ts : List Token) (b : Bool) (y : Expr × List Token) → whole_by names o ts b ≡ Ok y → IsExpr names whole d y.0 ts y.1
     whole_by_takes ts true y e = set_takes ts y e

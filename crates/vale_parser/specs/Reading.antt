@@ -24,11 +24,11 @@ use Rattle.vale_parser.specs.Steps.{unexpected, too_deep, Read, Reader, ◌>>=�
 -- after an item
 unfoldable pub comma_turn : {X : Type 0} → Reader X → Reader (Turn X (Unit {0}))
 comma_turn item ts = if begins s.Comma ts
-  then (do
-    c ← sign_at s.Comma ts
-    x ← item c.1
-    Ok (More x.0, x.1))
-  else Ok (End tt, ts)
+    then (do
+      c ← sign_at s.Comma ts
+      x ← item c.1
+      Ok (More x.0, x.1))
+    else Ok (End tt, ts)
 
 abbrev pub others_at : {X L : Type 0} → Reader X → (X → L → L) → L → Reader L
 others_at item more nil ts = turns_at (comma_turn item) more (λ _. nil) faulty (enough ts) ts
@@ -36,11 +36,11 @@ others_at item more nil ts = turns_at (comma_turn item) more (λ _. nil) faulty 
 -- items up to a sign, which is not taken
 abbrev pub commas_at : {X L : Type 0} → Sign → Reader X → (X → L → L) → L → Reader L
 commas_at close item more nil ts = if begins close ts
-  then Ok (nil, ts)
-  else (do
-    x ← item ts
-    xs ← others_at item more nil x.1
-    Ok (more x.0 xs.0, xs.1))
+    then Ok (nil, ts)
+    else (do
+      x ← item ts
+      xs ← others_at item more nil x.1
+      Ok (more x.0 xs.0, xs.1))
 
 -- ---- operators
 

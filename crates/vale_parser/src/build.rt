@@ -34,13 +34,7 @@ pub fn stepped(alloc: Global, base: Expr, steps: Items<Step>) -> Result<Expr, Me
 }
 
 /// A parallel loop over a range, or over an array where there is no second bound.
-pub fn parallel(
-    at: Spot,
-    name: NameAt,
-    over: Expr,
-    to: Option<Boxed<Expr>>,
-    block: Block,
-) -> Form
+pub fn parallel(at: Spot, name: NameAt, over: Expr, to: Option<Boxed<Expr>>, block: Block) -> Form
     ensures { view_form result ≡ r.parallel at name (view_expr over) (option_map view_expr to) (view_block block) }
 {
     match to {

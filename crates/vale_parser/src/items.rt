@@ -12,9 +12,7 @@ use crate::basic::{bang, begins, purity, sign, word};
 use crate::stop::{Stop, Turn};
 use crate::types::Parser;
 use sqlite_items::Items;
-use vale_syntax::{
-    FieldDecl, Function, Head, Item, Param, Sign, Token, TokenKind, TypeExpr, Word,
-};
+use vale_syntax::{FieldDecl, Function, Head, Item, Param, Sign, Token, TokenKind, TypeExpr, Word};
 
 impl Parser<'_> {
     #[tactic(auto, unfolding(crate::specs::ItemReading::param_at))]
@@ -27,7 +25,11 @@ impl Parser<'_> {
     }
 
     #[tactic(auto, unfolding(crate::specs::Reading::comma_turn))]
-    fn another_param<'t>(&self, depth: usize, tokens: &'t [Token]) -> Result<(Turn<Param, ()>, &'t [Token]), Stop<'t>>
+    fn another_param<'t>(
+        &self,
+        depth: usize,
+        tokens: &'t [Token],
+    ) -> Result<(Turn<Param, ()>, &'t [Token]), Stop<'t>>
         ensures { Gives (λ x. (turned view_param (λ e. e) x.0, x.1.now)) result (r.comma_turn (i.param_at self.now.names.now depth) tokens.now) }
     {
         if !begins(Sign::Comma, tokens) {
@@ -39,7 +41,12 @@ impl Parser<'_> {
     }
 
     /// The parameters after these.
-    fn more_params<'t>(&self, depth: usize, params: Items<Param>, tokens: &'t [Token]) -> Result<(Items<Param>, &'t [Token]), Stop<'t>>
+    fn more_params<'t>(
+        &self,
+        depth: usize,
+        params: Items<Param>,
+        tokens: &'t [Token],
+    ) -> Result<(Items<Param>, &'t [Token]), Stop<'t>>
         ensures { Gives (λ x. (listed (λ p ps. p ∷ ps) (map view_param x.0) [], x.1.now)) result (with_front (listed (λ p ps. p ∷ ps) (map view_param params)) (r.others_at (i.param_at self.now.names.now depth) (λ p ps. p ∷ ps) [] tokens.now)) }
     {
         let mut items = params;
@@ -59,7 +66,11 @@ impl Parser<'_> {
 
     /// Parameters up to a `)`, which is not taken.
     #[tactic(auto, using(crate::proofs::AgainSteps::list_listed), unfolding(crate::specs::ItemReading::params_at))]
-    fn params<'t>(&self, depth: usize, tokens: &'t [Token]) -> Result<(Items<Param>, &'t [Token]), Stop<'t>>
+    fn params<'t>(
+        &self,
+        depth: usize,
+        tokens: &'t [Token],
+    ) -> Result<(Items<Param>, &'t [Token]), Stop<'t>>
         ensures { Gives (λ x. (map view_param x.0, x.1.now)) result (i.params_at self.now.names.now depth tokens.now) }
     {
         let mut params = Items::new(self.alloc);
@@ -73,7 +84,11 @@ impl Parser<'_> {
 
     /// The result before the `{` or `;` that ends a head.
     #[tactic(auto, unfolding(crate::specs::ItemReading::result_at))]
-    fn result<'t>(&self, depth: usize, tokens: &'t [Token]) -> Result<(Option<TypeExpr>, &'t [Token]), Stop<'t>>
+    fn result<'t>(
+        &self,
+        depth: usize,
+        tokens: &'t [Token],
+    ) -> Result<(Option<TypeExpr>, &'t [Token]), Stop<'t>>
         ensures { Gives (λ x. (option_map view_type x.0, x.1.now)) result (i.result_at self.now.names.now depth tokens.now) }
     {
         if begins(Sign::OpenBrace, tokens) || begins(Sign::Semicolon, tokens) {
@@ -105,7 +120,11 @@ impl Parser<'_> {
     }
 
     #[tactic(auto, unfolding(crate::specs::ItemReading::signature_at))]
-    fn signature<'t>(&self, depth: usize, tokens: &'t [Token]) -> Result<(Head, &'t [Token]), Stop<'t>>
+    fn signature<'t>(
+        &self,
+        depth: usize,
+        tokens: &'t [Token],
+    ) -> Result<(Head, &'t [Token]), Stop<'t>>
         ensures { Gives (λ x. (view_head x.0, x.1.now)) result (i.signature_at self.now.names.now depth tokens.now) }
     {
         let (head, rest) = self.head(depth, tokens)?;
@@ -114,7 +133,11 @@ impl Parser<'_> {
     }
 
     #[tactic(auto, unfolding(crate::specs::ItemReading::function_at))]
-    fn function<'t>(&self, depth: usize, tokens: &'t [Token]) -> Result<(Function, &'t [Token]), Stop<'t>>
+    fn function<'t>(
+        &self,
+        depth: usize,
+        tokens: &'t [Token],
+    ) -> Result<(Function, &'t [Token]), Stop<'t>>
         ensures { Gives (λ x. (view_function x.0, x.1.now)) result (i.function_at self.now.names.now depth tokens.now) }
     {
         let (head, rest) = self.head(depth, tokens)?;
@@ -123,7 +146,11 @@ impl Parser<'_> {
     }
 
     #[tactic(auto, unfolding(crate::specs::ItemReading::field_at))]
-    fn field<'t>(&self, depth: usize, tokens: &'t [Token]) -> Result<(FieldDecl, &'t [Token]), Stop<'t>>
+    fn field<'t>(
+        &self,
+        depth: usize,
+        tokens: &'t [Token],
+    ) -> Result<(FieldDecl, &'t [Token]), Stop<'t>>
         ensures { Gives (λ x. (view_field x.0, x.1.now)) result (i.field_at self.now.names.now depth tokens.now) }
     {
         let (name, rest) = self.name(tokens)?;
@@ -139,7 +166,11 @@ impl Parser<'_> {
     }
 
     #[tactic(auto, unfolding(crate::specs::ItemReading::until))]
-    fn field_turn<'t>(&self, depth: usize, tokens: &'t [Token]) -> Result<(Turn<FieldDecl, ()>, &'t [Token]), Stop<'t>>
+    fn field_turn<'t>(
+        &self,
+        depth: usize,
+        tokens: &'t [Token],
+    ) -> Result<(Turn<FieldDecl, ()>, &'t [Token]), Stop<'t>>
         ensures { Gives (λ x. (turned view_field (λ e. e) x.0, x.1.now)) result (i.until (begins s.CloseBrace) (i.field_at self.now.names.now depth) tokens.now) }
     {
         if begins(Sign::CloseBrace, tokens) {
@@ -149,7 +180,11 @@ impl Parser<'_> {
         Ok((Turn::More(item), rest))
     }
 
-    fn fields<'t>(&self, depth: usize, tokens: &'t [Token]) -> Result<(Items<FieldDecl>, &'t [Token]), Stop<'t>>
+    fn fields<'t>(
+        &self,
+        depth: usize,
+        tokens: &'t [Token],
+    ) -> Result<(Items<FieldDecl>, &'t [Token]), Stop<'t>>
         ensures { Gives (λ x. (map view_field x.0, x.1.now)) result (i.all_until (begins s.CloseBrace) (i.field_at self.now.names.now depth) tokens.now) }
     {
         let mut items = Items::new(self.alloc);
@@ -168,7 +203,11 @@ impl Parser<'_> {
     }
 
     #[tactic(auto, unfolding(crate::specs::ItemReading::until))]
-    fn signature_turn<'t>(&self, depth: usize, tokens: &'t [Token]) -> Result<(Turn<Head, ()>, &'t [Token]), Stop<'t>>
+    fn signature_turn<'t>(
+        &self,
+        depth: usize,
+        tokens: &'t [Token],
+    ) -> Result<(Turn<Head, ()>, &'t [Token]), Stop<'t>>
         ensures { Gives (λ x. (turned view_head (λ e. e) x.0, x.1.now)) result (i.until (begins s.CloseBrace) (i.signature_at self.now.names.now depth) tokens.now) }
     {
         if begins(Sign::CloseBrace, tokens) {
@@ -178,7 +217,11 @@ impl Parser<'_> {
         Ok((Turn::More(item), rest))
     }
 
-    fn signatures<'t>(&self, depth: usize, tokens: &'t [Token]) -> Result<(Items<Head>, &'t [Token]), Stop<'t>>
+    fn signatures<'t>(
+        &self,
+        depth: usize,
+        tokens: &'t [Token],
+    ) -> Result<(Items<Head>, &'t [Token]), Stop<'t>>
         ensures { Gives (λ x. (map view_head x.0, x.1.now)) result (i.all_until (begins s.CloseBrace) (i.signature_at self.now.names.now depth) tokens.now) }
     {
         let mut items = Items::new(self.alloc);
@@ -197,7 +240,11 @@ impl Parser<'_> {
     }
 
     #[tactic(auto, unfolding(crate::specs::ItemReading::until))]
-    fn function_turn<'t>(&self, depth: usize, tokens: &'t [Token]) -> Result<(Turn<Function, ()>, &'t [Token]), Stop<'t>>
+    fn function_turn<'t>(
+        &self,
+        depth: usize,
+        tokens: &'t [Token],
+    ) -> Result<(Turn<Function, ()>, &'t [Token]), Stop<'t>>
         ensures { Gives (λ x. (turned view_function (λ e. e) x.0, x.1.now)) result (i.until (begins s.CloseBrace) (i.function_at self.now.names.now depth) tokens.now) }
     {
         if begins(Sign::CloseBrace, tokens) {
@@ -207,7 +254,11 @@ impl Parser<'_> {
         Ok((Turn::More(item), rest))
     }
 
-    fn functions<'t>(&self, depth: usize, tokens: &'t [Token]) -> Result<(Items<Function>, &'t [Token]), Stop<'t>>
+    fn functions<'t>(
+        &self,
+        depth: usize,
+        tokens: &'t [Token],
+    ) -> Result<(Items<Function>, &'t [Token]), Stop<'t>>
         ensures { Gives (λ x. (map view_function x.0, x.1.now)) result (i.all_until (begins s.CloseBrace) (i.function_at self.now.names.now depth) tokens.now) }
     {
         let mut items = Items::new(self.alloc);
@@ -226,7 +277,11 @@ impl Parser<'_> {
     }
 
     #[tactic(auto, unfolding(crate::specs::ItemReading::struct_at))]
-    fn struct_item<'t>(&self, depth: usize, tokens: &'t [Token]) -> Result<(Item, &'t [Token]), Stop<'t>>
+    fn struct_item<'t>(
+        &self,
+        depth: usize,
+        tokens: &'t [Token],
+    ) -> Result<(Item, &'t [Token]), Stop<'t>>
         ensures { Gives (λ x. (view_item x.0, x.1.now)) result (i.struct_at self.now.names.now depth tokens.now) }
     {
         let (_, rest) = word(Word::Struct, tokens)?;
@@ -239,7 +294,11 @@ impl Parser<'_> {
     }
 
     #[tactic(auto, unfolding(crate::specs::ItemReading::interface_at))]
-    fn interface_item<'t>(&self, depth: usize, tokens: &'t [Token]) -> Result<(Item, &'t [Token]), Stop<'t>>
+    fn interface_item<'t>(
+        &self,
+        depth: usize,
+        tokens: &'t [Token],
+    ) -> Result<(Item, &'t [Token]), Stop<'t>>
         ensures { Gives (λ x. (view_item x.0, x.1.now)) result (i.interface_at self.now.names.now depth tokens.now) }
     {
         let (_, rest) = word(Word::Interface, tokens)?;
@@ -252,7 +311,11 @@ impl Parser<'_> {
     }
 
     #[tactic(auto, unfolding(crate::specs::ItemReading::impl_at))]
-    fn impl_item<'t>(&self, depth: usize, tokens: &'t [Token]) -> Result<(Item, &'t [Token]), Stop<'t>>
+    fn impl_item<'t>(
+        &self,
+        depth: usize,
+        tokens: &'t [Token],
+    ) -> Result<(Item, &'t [Token]), Stop<'t>>
         ensures { Gives (λ x. (view_item x.0, x.1.now)) result (i.impl_at self.now.names.now depth tokens.now) }
     {
         let (at, rest) = word(Word::Impl, tokens)?;
@@ -285,7 +348,11 @@ impl Parser<'_> {
     }
 
     #[tactic(auto, unfolding(crate::specs::ItemReading::until))]
-    fn item_turn<'t>(&self, depth: usize, tokens: &'t [Token]) -> Result<(Turn<Item, ()>, &'t [Token]), Stop<'t>>
+    fn item_turn<'t>(
+        &self,
+        depth: usize,
+        tokens: &'t [Token],
+    ) -> Result<(Turn<Item, ()>, &'t [Token]), Stop<'t>>
         ensures { Gives (λ x. (turned view_item (λ e. e) x.0, x.1.now)) result (i.until i.ended (i.item_at self.now.names.now depth) tokens.now) }
     {
         if tokens.is_empty() {
@@ -295,7 +362,11 @@ impl Parser<'_> {
         Ok((Turn::More(item), rest))
     }
 
-    pub fn items<'t>(&self, depth: usize, tokens: &'t [Token]) -> Result<(Items<Item>, &'t [Token]), Stop<'t>>
+    pub fn items<'t>(
+        &self,
+        depth: usize,
+        tokens: &'t [Token],
+    ) -> Result<(Items<Item>, &'t [Token]), Stop<'t>>
         ensures { Gives (λ x. (map view_item x.0, x.1.now)) result (i.all_until i.ended (i.item_at self.now.names.now depth) tokens.now) }
     {
         let mut items = Items::new(self.alloc);

@@ -16,15 +16,17 @@ use crate::stop::{Stop, Turn};
 use crate::types::Parser;
 use sqlite_items::{Boxed, Items};
 use vale_base::Text;
-use vale_syntax::{
-    Block, ElseIf, Expr, Form, Link, Sign, Step, Stmt, Token, TokenKind, Word,
-};
+use vale_syntax::{Block, ElseIf, Expr, Form, Link, Sign, Step, Stmt, Token, TokenKind, Word};
 
 impl Parser<'_> {
     /// A block.
     #[cycle(parser)]
     #[tactic(auto, unfolding(crate::specs::Reading::block_at))]
-    pub fn block<'t>(&self, depth: usize, tokens: &'t [Token]) -> Result<(Block, &'t [Token]), Stop<'t>>
+    pub fn block<'t>(
+        &self,
+        depth: usize,
+        tokens: &'t [Token],
+    ) -> Result<(Block, &'t [Token]), Stop<'t>>
         ensures { Gives (λ x. (view_block x.0, x.1.now)) result (r.block_at self.now.names.now (r.within self.now.names.now depth) tokens.now) }
     {
         let (at, rest) = sign(Sign::OpenBrace, tokens)?;
@@ -36,7 +38,11 @@ impl Parser<'_> {
 
     #[cycle(parser)]
     #[tactic(auto, unfolding(crate::specs::Reading::else_turn))]
-    fn else_if<'t>(&self, depth: usize, tokens: &'t [Token]) -> Result<(Turn<ElseIf, Option<Block>>, &'t [Token]), Stop<'t>>
+    fn else_if<'t>(
+        &self,
+        depth: usize,
+        tokens: &'t [Token],
+    ) -> Result<(Turn<ElseIf, Option<Block>>, &'t [Token]), Stop<'t>>
         ensures { Gives (λ x. (turned view_else_if (option_map view_block) x.0, x.1.now)) result (r.else_turn self.now.names.now (r.within self.now.names.now depth) tokens.now) }
     {
         if !begins_word(Word::Else, tokens) {
@@ -55,7 +61,11 @@ impl Parser<'_> {
     }
 
     #[cycle(parser)]
-    fn elses<'t>(&self, depth: usize, tokens: &'t [Token]) -> Result<((Items<ElseIf>, Option<Block>), &'t [Token]), Stop<'t>>
+    fn elses<'t>(
+        &self,
+        depth: usize,
+        tokens: &'t [Token],
+    ) -> Result<((Items<ElseIf>, Option<Block>), &'t [Token]), Stop<'t>>
         ensures { Gives (λ x. (elses_of (map view_else_if x.0.0) (option_map view_block x.0.1), x.1.now)) result (r.elses_at self.now.names.now (r.within self.now.names.now depth) tokens.now) }
     {
         let mut items = Items::new(self.alloc);
@@ -88,7 +98,11 @@ impl Parser<'_> {
 
     #[cycle(parser)]
     #[tactic(auto, unfolding(crate::specs::Reading::bound_at))]
-    fn bound<'t>(&self, depth: usize, tokens: &'t [Token]) -> Result<(Option<Boxed<Expr>>, &'t [Token]), Stop<'t>>
+    fn bound<'t>(
+        &self,
+        depth: usize,
+        tokens: &'t [Token],
+    ) -> Result<(Option<Boxed<Expr>>, &'t [Token]), Stop<'t>>
         ensures { Gives (λ x. (option_map view_expr x.0, x.1.now)) result (r.bound_at (r.inner_of self.now.names.now (r.within self.now.names.now depth)) tokens.now) }
     {
         if !begins(Sign::DotDot, tokens) {
@@ -101,7 +115,11 @@ impl Parser<'_> {
 
     #[cycle(parser)]
     #[tactic(auto, unfolding(crate::specs::Reading::parallel_at))]
-    fn parallel<'t>(&self, depth: usize, tokens: &'t [Token]) -> Result<(Form, &'t [Token]), Stop<'t>>
+    fn parallel<'t>(
+        &self,
+        depth: usize,
+        tokens: &'t [Token],
+    ) -> Result<(Form, &'t [Token]), Stop<'t>>
         ensures { Gives (λ x. (view_form x.0, x.1.now)) result (r.parallel_at self.now.names.now (r.within self.now.names.now depth) tokens.now) }
     {
         let (at, rest) = word(Word::Parallel, tokens)?;
@@ -139,7 +157,11 @@ impl Parser<'_> {
     /// Arguments with their parentheses.
     #[cycle(parser)]
     #[tactic(auto, unfolding(crate::specs::Reading::arguments_at))]
-    fn arguments<'t>(&self, depth: usize, tokens: &'t [Token]) -> Result<(Items<Expr>, &'t [Token]), Stop<'t>>
+    fn arguments<'t>(
+        &self,
+        depth: usize,
+        tokens: &'t [Token],
+    ) -> Result<(Items<Expr>, &'t [Token]), Stop<'t>>
         ensures { Gives (λ x. (exprs_of (map view_expr x.0), x.1.now)) result (r.arguments_at self.now.names.now (r.within self.now.names.now depth) tokens.now) }
     {
         let (_, rest) = sign(Sign::OpenParen, tokens)?;
@@ -199,7 +221,11 @@ impl Parser<'_> {
 
     #[cycle(parser)]
     #[tactic(auto, unfolding(crate::specs::Reading::primary_at))]
-    fn primary<'t>(&self, depth: usize, tokens: &'t [Token]) -> Result<(Expr, &'t [Token]), Stop<'t>>
+    fn primary<'t>(
+        &self,
+        depth: usize,
+        tokens: &'t [Token],
+    ) -> Result<(Expr, &'t [Token]), Stop<'t>>
         ensures { Gives (λ x. (view_expr x.0, x.1.now)) result (r.primary_at self.now.names.now (r.within self.now.names.now depth) tokens.now) }
     {
         let [first, rest @ ..] = tokens else {
@@ -227,7 +253,11 @@ impl Parser<'_> {
 
     #[cycle(parser)]
     #[tactic(auto, unfolding(crate::specs::Reading::member_at))]
-    fn member<'t>(&self, depth: usize, tokens: &'t [Token]) -> Result<(Turn<Step, ()>, &'t [Token]), Stop<'t>>
+    fn member<'t>(
+        &self,
+        depth: usize,
+        tokens: &'t [Token],
+    ) -> Result<(Turn<Step, ()>, &'t [Token]), Stop<'t>>
         ensures { Gives (λ x. (turned view_step (λ e. e) x.0, x.1.now)) result (r.member_at self.now.names.now (r.within self.now.names.now depth) tokens.now) }
     {
         let (at, rest) = sign(Sign::Dot, tokens)?;
@@ -241,7 +271,11 @@ impl Parser<'_> {
 
     #[cycle(parser)]
     #[tactic(auto, unfolding(crate::specs::Reading::index_at))]
-    fn index<'t>(&self, depth: usize, tokens: &'t [Token]) -> Result<(Turn<Step, ()>, &'t [Token]), Stop<'t>>
+    fn index<'t>(
+        &self,
+        depth: usize,
+        tokens: &'t [Token],
+    ) -> Result<(Turn<Step, ()>, &'t [Token]), Stop<'t>>
         ensures { Gives (λ x. (turned view_step (λ e. e) x.0, x.1.now)) result (r.index_at self.now.names.now (r.within self.now.names.now depth) tokens.now) }
     {
         let (at, rest) = sign(Sign::OpenBracket, tokens)?;
@@ -253,7 +287,11 @@ impl Parser<'_> {
 
     #[cycle(parser)]
     #[tactic(auto, unfolding(crate::specs::Reading::step_turn))]
-    fn step<'t>(&self, depth: usize, tokens: &'t [Token]) -> Result<(Turn<Step, ()>, &'t [Token]), Stop<'t>>
+    fn step<'t>(
+        &self,
+        depth: usize,
+        tokens: &'t [Token],
+    ) -> Result<(Turn<Step, ()>, &'t [Token]), Stop<'t>>
         ensures { Gives (λ x. (turned view_step (λ e. e) x.0, x.1.now)) result (r.step_turn self.now.names.now (r.within self.now.names.now depth) tokens.now) }
     {
         let [first, ..] = tokens else {
@@ -267,7 +305,11 @@ impl Parser<'_> {
     }
 
     #[cycle(parser)]
-    fn steps<'t>(&self, depth: usize, tokens: &'t [Token]) -> Result<(Items<Step>, &'t [Token]), Stop<'t>>
+    fn steps<'t>(
+        &self,
+        depth: usize,
+        tokens: &'t [Token],
+    ) -> Result<(Items<Step>, &'t [Token]), Stop<'t>>
         ensures { Gives (λ x. (steps_of (map view_step x.0), x.1.now)) result (r.steps_at self.now.names.now (r.within self.now.names.now depth) tokens.now) }
     {
         let mut items = Items::new(self.alloc);
@@ -287,7 +329,11 @@ impl Parser<'_> {
 
     #[cycle(parser)]
     #[tactic(auto, unfolding(crate::specs::Reading::postfix_at))]
-    fn postfix<'t>(&self, depth: usize, tokens: &'t [Token]) -> Result<(Expr, &'t [Token]), Stop<'t>>
+    fn postfix<'t>(
+        &self,
+        depth: usize,
+        tokens: &'t [Token],
+    ) -> Result<(Expr, &'t [Token]), Stop<'t>>
         ensures { Gives (λ x. (view_expr x.0, x.1.now)) result (r.postfix_at self.now.names.now (r.within self.now.names.now depth) tokens.now) }
     {
         let (base, rest) = self.primary(depth, tokens)?;
@@ -314,7 +360,12 @@ impl Parser<'_> {
 
     #[cycle(parser)]
     #[tactic(auto, unfolding(crate::specs::Reading::link_turn))]
-    fn link<'t>(&self, depth: usize, height: usize, tokens: &'t [Token]) -> Result<(Turn<Link, ()>, &'t [Token]), Stop<'t>>
+    fn link<'t>(
+        &self,
+        depth: usize,
+        height: usize,
+        tokens: &'t [Token],
+    ) -> Result<(Turn<Link, ()>, &'t [Token]), Stop<'t>>
         requires { 0 < height }
         ensures { Gives (λ x. (turned view_link (λ e. e) x.0, x.1.now)) result (r.link_turn (r.level_at self.now.names.now (r.within self.now.names.now depth) (height - 1)) height tokens.now) }
     {
@@ -331,7 +382,13 @@ impl Parser<'_> {
 
     /// At most so many operators.
     #[cycle(parser)]
-    fn links<'t>(&self, depth: usize, height: usize, most: usize, tokens: &'t [Token]) -> Result<(Items<Link>, &'t [Token]), Stop<'t>>
+    fn links<'t>(
+        &self,
+        depth: usize,
+        height: usize,
+        most: usize,
+        tokens: &'t [Token],
+    ) -> Result<(Items<Link>, &'t [Token]), Stop<'t>>
         requires { 0 < height }
         ensures { Gives (λ x. (links_of (map view_link x.0), x.1.now)) result (turns_at (r.link_turn (r.level_at self.now.names.now (r.within self.now.names.now depth) (height - 1)) height) t.more_links (λ _. t.no_links) r.no_more most tokens.now) }
     {
@@ -353,7 +410,12 @@ impl Parser<'_> {
     /// An expression without `set` of operators of at most this height.
     #[cycle(parser)]
     #[tactic(auto, unfolding(crate::specs::Reading::level_at, crate::specs::Reading::links_at))]
-    fn level<'t>(&self, depth: usize, height: usize, tokens: &'t [Token]) -> Result<(Expr, &'t [Token]), Stop<'t>>
+    fn level<'t>(
+        &self,
+        depth: usize,
+        height: usize,
+        tokens: &'t [Token],
+    ) -> Result<(Expr, &'t [Token]), Stop<'t>>
         ensures { Gives (λ x. (view_expr x.0, x.1.now)) result (r.level_at self.now.names.now (r.within self.now.names.now depth) height tokens.now) }
     {
         if height == 0 {
@@ -392,7 +454,11 @@ impl Parser<'_> {
 
     #[cycle(parser)]
     #[tactic(auto, unfolding(crate::specs::Reading::comma_turn))]
-    fn another<'t>(&self, depth: usize, tokens: &'t [Token]) -> Result<(Turn<Expr, ()>, &'t [Token]), Stop<'t>>
+    fn another<'t>(
+        &self,
+        depth: usize,
+        tokens: &'t [Token],
+    ) -> Result<(Turn<Expr, ()>, &'t [Token]), Stop<'t>>
         ensures { Gives (λ x. (turned view_expr (λ e. e) x.0, x.1.now)) result (r.comma_turn (r.whole_at self.now.names.now (r.within self.now.names.now depth)) tokens.now) }
     {
         if !begins(Sign::Comma, tokens) {
@@ -405,7 +471,12 @@ impl Parser<'_> {
 
     /// The arguments after these.
     #[cycle(parser)]
-    fn more_args<'t>(&self, depth: usize, args: Items<Expr>, tokens: &'t [Token]) -> Result<(Items<Expr>, &'t [Token]), Stop<'t>>
+    fn more_args<'t>(
+        &self,
+        depth: usize,
+        args: Items<Expr>,
+        tokens: &'t [Token],
+    ) -> Result<(Items<Expr>, &'t [Token]), Stop<'t>>
         ensures { Gives (λ x. (exprs_of (map view_expr x.0), x.1.now)) result (with_front (listed t.more_exprs (map view_expr args)) (r.others_at (r.whole_at self.now.names.now (r.within self.now.names.now depth)) t.more_exprs t.no_exprs tokens.now)) }
     {
         let mut items = args;
@@ -425,7 +496,11 @@ impl Parser<'_> {
 
     #[cycle(parser)]
     #[tactic(auto, unfolding(crate::specs::Reading::args_at))]
-    fn args<'t>(&self, depth: usize, tokens: &'t [Token]) -> Result<(Items<Expr>, &'t [Token]), Stop<'t>>
+    fn args<'t>(
+        &self,
+        depth: usize,
+        tokens: &'t [Token],
+    ) -> Result<(Items<Expr>, &'t [Token]), Stop<'t>>
         ensures { Gives (λ x. (exprs_of (map view_expr x.0), x.1.now)) result (r.args_at self.now.names.now (r.within self.now.names.now depth) tokens.now) }
     {
         let mut args = Items::new(self.alloc);
@@ -439,7 +514,11 @@ impl Parser<'_> {
 
     #[cycle(parser)]
     #[tactic(auto, unfolding(crate::specs::Reading::plain_at))]
-    fn plain<'t>(&self, depth: usize, tokens: &'t [Token]) -> Result<(Turn<Stmt, Option<Boxed<Expr>>>, &'t [Token]), Stop<'t>>
+    fn plain<'t>(
+        &self,
+        depth: usize,
+        tokens: &'t [Token],
+    ) -> Result<(Turn<Stmt, Option<Boxed<Expr>>>, &'t [Token]), Stop<'t>>
         ensures { Gives (λ x. (turned view_stmt (option_map view_expr) x.0, x.1.now)) result (r.plain_at self.now.names.now (r.within self.now.names.now depth) tokens.now) }
     {
         let (value, rest) = self.whole(depth, tokens)?;
@@ -448,7 +527,11 @@ impl Parser<'_> {
 
     #[cycle(parser)]
     #[tactic(auto, unfolding(crate::specs::Reading::declare_at))]
-    fn declare<'t>(&self, depth: usize, tokens: &'t [Token]) -> Result<(Turn<Stmt, Option<Boxed<Expr>>>, &'t [Token]), Stop<'t>>
+    fn declare<'t>(
+        &self,
+        depth: usize,
+        tokens: &'t [Token],
+    ) -> Result<(Turn<Stmt, Option<Boxed<Expr>>>, &'t [Token]), Stop<'t>>
         ensures { Gives (λ x. (turned view_stmt (option_map view_expr) x.0, x.1.now)) result (r.declare_at self.now.names.now (r.within self.now.names.now depth) tokens.now) }
     {
         let (name, rest) = self.name(tokens)?;
@@ -460,7 +543,11 @@ impl Parser<'_> {
 
     #[cycle(parser)]
     #[tactic(auto, unfolding(crate::specs::Reading::destructure_at))]
-    fn destructure<'t>(&self, depth: usize, tokens: &'t [Token]) -> Result<(Turn<Stmt, Option<Boxed<Expr>>>, &'t [Token]), Stop<'t>>
+    fn destructure<'t>(
+        &self,
+        depth: usize,
+        tokens: &'t [Token],
+    ) -> Result<(Turn<Stmt, Option<Boxed<Expr>>>, &'t [Token]), Stop<'t>>
         ensures { Gives (λ x. (turned view_stmt (option_map view_expr) x.0, x.1.now)) result (r.destructure_at self.now.names.now (r.within self.now.names.now depth) tokens.now) }
     {
         let (at, rest) = sign(Sign::OpenBracket, tokens)?;
@@ -475,7 +562,11 @@ impl Parser<'_> {
 
     #[cycle(parser)]
     #[tactic(auto, unfolding(crate::specs::Reading::return_at))]
-    fn return_stmt<'t>(&self, depth: usize, tokens: &'t [Token]) -> Result<(Turn<Stmt, Option<Boxed<Expr>>>, &'t [Token]), Stop<'t>>
+    fn return_stmt<'t>(
+        &self,
+        depth: usize,
+        tokens: &'t [Token],
+    ) -> Result<(Turn<Stmt, Option<Boxed<Expr>>>, &'t [Token]), Stop<'t>>
         ensures { Gives (λ x. (turned view_stmt (option_map view_expr) x.0, x.1.now)) result (r.return_at self.now.names.now (r.within self.now.names.now depth) tokens.now) }
     {
         let (at, rest) = word(Word::Return, tokens)?;
@@ -490,7 +581,11 @@ impl Parser<'_> {
 
     #[cycle(parser)]
     #[tactic(auto, unfolding(crate::specs::Reading::while_at))]
-    fn while_stmt<'t>(&self, depth: usize, tokens: &'t [Token]) -> Result<(Turn<Stmt, Option<Boxed<Expr>>>, &'t [Token]), Stop<'t>>
+    fn while_stmt<'t>(
+        &self,
+        depth: usize,
+        tokens: &'t [Token],
+    ) -> Result<(Turn<Stmt, Option<Boxed<Expr>>>, &'t [Token]), Stop<'t>>
         ensures { Gives (λ x. (turned view_stmt (option_map view_expr) x.0, x.1.now)) result (r.while_at self.now.names.now (r.within self.now.names.now depth) tokens.now) }
     {
         let (at, rest) = word(Word::While, tokens)?;
@@ -501,7 +596,11 @@ impl Parser<'_> {
 
     #[cycle(parser)]
     #[tactic(auto, unfolding(crate::specs::Reading::foreach_at))]
-    fn foreach_stmt<'t>(&self, depth: usize, tokens: &'t [Token]) -> Result<(Turn<Stmt, Option<Boxed<Expr>>>, &'t [Token]), Stop<'t>>
+    fn foreach_stmt<'t>(
+        &self,
+        depth: usize,
+        tokens: &'t [Token],
+    ) -> Result<(Turn<Stmt, Option<Boxed<Expr>>>, &'t [Token]), Stop<'t>>
         ensures { Gives (λ x. (turned view_stmt (option_map view_expr) x.0, x.1.now)) result (r.foreach_at self.now.names.now (r.within self.now.names.now depth) tokens.now) }
     {
         let (at, rest) = word(Word::Foreach, tokens)?;
@@ -516,7 +615,11 @@ impl Parser<'_> {
 
     #[cycle(parser)]
     #[tactic(auto, unfolding(crate::specs::Reading::form_stmt_at))]
-    fn form_stmt<'t>(&self, depth: usize, tokens: &'t [Token]) -> Result<(Turn<Stmt, Option<Boxed<Expr>>>, &'t [Token]), Stop<'t>>
+    fn form_stmt<'t>(
+        &self,
+        depth: usize,
+        tokens: &'t [Token],
+    ) -> Result<(Turn<Stmt, Option<Boxed<Expr>>>, &'t [Token]), Stop<'t>>
         ensures { Gives (λ x. (turned view_stmt (option_map view_expr) x.0, x.1.now)) result (r.form_stmt_at self.now.names.now (r.within self.now.names.now depth) tokens.now) }
     {
         let (form, rest) = self.form(depth, tokens)?;
@@ -525,7 +628,11 @@ impl Parser<'_> {
 
     #[cycle(parser)]
     #[tactic(auto, unfolding(crate::specs::Reading::stmt_turn))]
-    fn stmt<'t>(&self, depth: usize, tokens: &'t [Token]) -> Result<(Turn<Stmt, Option<Boxed<Expr>>>, &'t [Token]), Stop<'t>>
+    fn stmt<'t>(
+        &self,
+        depth: usize,
+        tokens: &'t [Token],
+    ) -> Result<(Turn<Stmt, Option<Boxed<Expr>>>, &'t [Token]), Stop<'t>>
         ensures { Gives (λ x. (turned view_stmt (option_map view_expr) x.0, x.1.now)) result (r.stmt_turn self.now.names.now (r.within self.now.names.now depth) tokens.now) }
     {
         let [first, ..] = tokens else {
@@ -540,14 +647,20 @@ impl Parser<'_> {
             TokenKind::Word(Word::Return) => self.return_stmt(depth, tokens),
             TokenKind::Word(Word::While) => self.while_stmt(depth, tokens),
             TokenKind::Word(Word::Foreach) => self.foreach_stmt(depth, tokens),
-            TokenKind::Word(Word::If | Word::Pure | Word::Parallel) => self.form_stmt(depth, tokens),
+            TokenKind::Word(Word::If | Word::Pure | Word::Parallel) => self.form_stmt(
+                depth, tokens,
+            ),
             _ => self.plain(depth, tokens),
         }
     }
 
     /// Statements, and the last expression where there is one.
     #[cycle(parser)]
-    fn stmts<'t>(&self, depth: usize, tokens: &'t [Token]) -> Result<((Items<Stmt>, Option<Boxed<Expr>>), &'t [Token]), Stop<'t>>
+    fn stmts<'t>(
+        &self,
+        depth: usize,
+        tokens: &'t [Token],
+    ) -> Result<((Items<Stmt>, Option<Boxed<Expr>>), &'t [Token]), Stop<'t>>
         ensures { Gives (λ x. (stmts_of (map view_stmt x.0.0) (option_map view_expr x.0.1), x.1.now)) result (r.stmts_at self.now.names.now (r.within self.now.names.now depth) tokens.now) }
     {
         let mut items = Items::new(self.alloc);

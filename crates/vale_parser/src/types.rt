@@ -58,7 +58,11 @@ impl Parser<'_> {
     /// A type.
     #[cycle(types)]
     #[tactic(auto, unfolding(crate::specs::Reading::type_at))]
-    pub fn type_expr<'t>(&self, depth: usize, tokens: &'t [Token]) -> Result<(TypeExpr, &'t [Token]), Stop<'t>>
+    pub fn type_expr<'t>(
+        &self,
+        depth: usize,
+        tokens: &'t [Token],
+    ) -> Result<(TypeExpr, &'t [Token]), Stop<'t>>
         ensures { Gives (λ x. (view_type x.0, x.1.now)) result (r.type_at self.now.names.now (r.within self.now.names.now depth) tokens.now) }
     {
         let [first, rest @ ..] = tokens else {
@@ -81,7 +85,11 @@ impl Parser<'_> {
 
     #[cycle(types)]
     #[tactic(auto, unfolding(crate::specs::Reading::array_type_at))]
-    fn array_type<'t>(&self, depth: usize, tokens: &'t [Token]) -> Result<(TypeExpr, &'t [Token]), Stop<'t>>
+    fn array_type<'t>(
+        &self,
+        depth: usize,
+        tokens: &'t [Token],
+    ) -> Result<(TypeExpr, &'t [Token]), Stop<'t>>
         ensures { Gives (λ x. (view_type x.0, x.1.now)) result (r.array_type_at self.now.names.now (r.within self.now.names.now depth) tokens.now) }
     {
         let (at, rest) = sign(Sign::OpenBracket, tokens)?;
@@ -93,7 +101,11 @@ impl Parser<'_> {
 
     #[cycle(types)]
     #[tactic(auto, unfolding(crate::specs::Reading::ref_type_at))]
-    fn ref_type<'t>(&self, depth: usize, tokens: &'t [Token]) -> Result<(TypeExpr, &'t [Token]), Stop<'t>>
+    fn ref_type<'t>(
+        &self,
+        depth: usize,
+        tokens: &'t [Token],
+    ) -> Result<(TypeExpr, &'t [Token]), Stop<'t>>
         ensures { Gives (λ x. (view_type x.0, x.1.now)) result (r.ref_type_at self.now.names.now (r.within self.now.names.now depth) tokens.now) }
     {
         let (at, rest) = sign(Sign::Ampersand, tokens)?;
@@ -109,7 +121,11 @@ impl Parser<'_> {
 
     #[cycle(types)]
     #[tactic(auto, unfolding(crate::specs::Reading::iso_type_at))]
-    fn iso_type<'t>(&self, depth: usize, tokens: &'t [Token]) -> Result<(TypeExpr, &'t [Token]), Stop<'t>>
+    fn iso_type<'t>(
+        &self,
+        depth: usize,
+        tokens: &'t [Token],
+    ) -> Result<(TypeExpr, &'t [Token]), Stop<'t>>
         ensures { Gives (λ x. (view_type x.0, x.1.now)) result (r.iso_type_at self.now.names.now (r.within self.now.names.now depth) tokens.now) }
     {
         let (at, rest) = word(Word::Iso, tokens)?;

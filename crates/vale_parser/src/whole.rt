@@ -37,11 +37,7 @@ fn spot_at(tokens: &[Token], end: Spot) -> Spot
 
 /// The items, by the names' numbers.
 #[tactic(auto, unfolding(crate::specs::ItemReading::items_at))]
-fn items<'t>(
-    alloc: Global,
-    names: &Names<'_>,
-    tokens: &'t [Token],
-) -> Result<Items<Item>, Stop<'t>>
+fn items<'t>(alloc: Global, names: &Names<'_>, tokens: &'t [Token]) -> Result<Items<Item>, Stop<'t>>
     ensures { Gives (map view_item) result (i.items_of names.now tokens.now) }
 {
     let parser = Parser { alloc, names };

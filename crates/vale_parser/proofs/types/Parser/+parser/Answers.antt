@@ -86,4 +86,3 @@ stmts-returns-in-End m c = turn_end (stmt_turn c.args.self.now.names.now (within
 pub stmts-returns : goal.stmts-returns
 unfolding stmts_at
 stmts-returns m c = turns_out (stmt_turn c.args.self.now.names.now (within c.args.self.now.names.now c.args.depth)) (λ x xs. more_stmts x xs) (last_end) (faulty) (view_stmt) c.loop.items (length c.args.tokens.now + 1) c.loop.counter c.loop.rest.now (turns_at (stmt_turn c.args.self.now.names.now (within c.args.self.now.names.now c.args.depth)) (λ x xs. more_stmts x xs) (last_end) (faulty) (length c.args.tokens.now + 1) c.args.tokens.now) c.loop.invariant (unexpected c.loop.rest.now) c.loop-test.false refl
-

@@ -135,4 +135,3 @@ invariant-more_args-loop l =
 abbrev pub invariant-stmts-loop : goal.invariant-stmts-loop
 invariant-stmts-loop l =
     with_front (listed (λ x xs. more_stmts x xs) (map (view_stmt) l.items)) (turns_at (stmt_turn l.self.names.now (within l.self.names.now l.depth)) (λ x xs. more_stmts x xs) (last_end) (faulty) (length l.tokens + 1 - l.counter) l.rest) ≡ turns_at (stmt_turn l.self.names.now (within l.self.names.now l.depth)) (λ x xs. more_stmts x xs) (last_end) (faulty) (length l.tokens + 1) l.tokens
-
