@@ -1,0 +1,14 @@
+pub mod StepLaws
+pub mod Takes
+pub mod Shorter
+pub mod Firsts
+pub mod AgainSteps
+pub mod Again
+pub mod AgainStmts
+pub mod ItemTakes
+pub mod ItemAgain
+pub mod Levels
+pub mod Built
+pub mod Loops
+pub mod Numbered
+pub mod Answered

@@ -1,0 +1,6 @@
+pub mod Steps
+pub mod Reading
+pub mod ItemReading
+pub mod Gives
+pub mod Seen
+pub mod Refusal

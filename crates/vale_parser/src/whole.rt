@@ -1,0 +1,81 @@
+//! A whole program.
+
+ghost use Rattle.std.specs.Prelude.{◌≡◌, List, Ok, map, IfOk};
+ghost use Rattle.vale_base.specs.Faults.{IfFault, IsValueUnlessMemory};
+ghost use Rattle.vale_syntax.specs.Tree as t;
+ghost use Rattle.vale_syntax.specs.Grammar.{spells};
+ghost use Rattle.vale_syntax.specs.View.{view_item, view_tree};
+ghost use Rattle.vale_parser.specs.ItemReading as i;
+ghost use Rattle.vale_parser.specs.Gives.{Gives};
+ghost use Rattle.vale_parser.specs.Refusal.{spot_at, IsRefusal};
+
+use crate::names::Names;
+use crate::stop::Stop;
+use crate::types::Parser;
+use sqlite_items::Items;
+use std::alloc::Global;
+use vale_base::{Fail, LEVEL_LIMIT, Spot};
+use vale_syntax::{Item, Token, Tokens, Tree};
+
+/// Why the tokens spell no tree, and where: 5 where no program of any nesting begins through the token, 6 where it opens
+/// level 65. Where the tokens end too early it is 5 at their end.
+#[derive(Clone, Copy, Debug, PartialEq, Eq)]
+pub struct ParseFault {
+    pub code: u8,
+    pub at: Spot,
+}
+
+/// The spot of the first token, or of the end.
+fn spot_at(tokens: &[Token], end: Spot) -> Spot
+    ensures { result ≡ spot_at end tokens.now }
+{
+    match tokens {
+        [first, ..] => first.at,
+        [] => end,
+    }
+}
+
+/// The items, by the names' numbers.
+#[tactic(auto, unfolding(crate::specs::ItemReading::items_at))]
+fn items<'t>(alloc: Global, names: &Names<'_>, tokens: &'t [Token]) -> Result<Items<Item>, Stop<'t>>
+    ensures { Gives (map view_item) result (i.items_of names.now tokens.now) }
+{
+    let parser = Parser { alloc, names };
+    let (items, _) = parser.items(LEVEL_LIMIT, tokens)?;
+    Ok(items)
+}
+
+#[tactic(auto, unfolding(crate::specs::ItemReading::all_of))]
+fn read<'t>(alloc: Global, tokens: &'t [Token]) -> Result<Tree, Stop<'t>>
+    ensures { Gives view_tree result (i.all_of tokens.now) }
+{
+    let names = Names::of(alloc, tokens)?;
+    let items = items(alloc, &names, tokens)?;
+    let names = names.to_items(alloc)?;
+    Ok(Tree { names, items })
+}
+
+/// The tree that the tokens spell.
+#[tactic(auto, using(crate::proofs::Answered::is_found, crate::proofs::Answered::is_complete, crate::proofs::Answered::is_none))]
+pub fn parse(alloc: Global, tokens: &Tokens) -> Result<Tree, Fail<ParseFault>>
+    // What is answered is spelled by the tokens.
+    ensures found { IfOk result (λ tree. spells (view_tree tree) tokens.now.list) }
+    // What is spelled is answered: the tokens have at most one tree, and a fault comes only where they have none.
+    ensures complete { (tree : t.Tree) → spells tree tokens.now.list → IsValueUnlessMemory result (λ x. view_tree x ≡ tree) }
+    // Which fault it is, by the reader that looks at one token at a time.
+    ensures fault { IfFault result (λ f. IsRefusal tokens.now.end (i.all_of tokens.now.list) f) }
+{
+    let list = tokens.list.as_slice();
+    match read(alloc, list) {
+        Ok(tree) => Ok(tree),
+        Err(Stop::Memory) => Err(Fail::Memory),
+        Err(Stop::Unexpected(rest)) => Err(Fail::Is(ParseFault {
+            code: 5,
+            at: spot_at(rest, tokens.end),
+        })),
+        Err(Stop::TooDeep(rest)) => Err(Fail::Is(ParseFault {
+            code: 6,
+            at: spot_at(rest, tokens.end),
+        })),
+    }
+}
