@@ -1,1 +1,2 @@
+pub mod LentHeap
 pub mod Teams

@@ -2,6 +2,9 @@
 #![tactic(auto)]
 
 #[cfg(test)]
+mod heap_tests;
+mod lent_heap;
+#[cfg(test)]
 mod lexer_tests;
 #[cfg(test)]
 mod parser_tests;
