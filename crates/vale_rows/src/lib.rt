@@ -7,8 +7,6 @@ mod lent_heap;
 #[cfg(test)]
 mod lexer_tests;
 #[cfg(test)]
-mod parser_tests;
-#[cfg(test)]
 mod ports_tests;
 #[cfg(test)]
 mod run_tests;
