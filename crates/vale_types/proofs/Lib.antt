@@ -1,0 +1,5 @@
+pub mod PartLaws
+pub mod RowLaws
+pub mod Rules
+pub mod TypeLaws
+pub mod WalkLaws

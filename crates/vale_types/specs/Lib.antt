@@ -1,0 +1,5 @@
+pub mod Before
+pub mod Known
+pub mod Names
+pub mod Plain
+pub mod Walk
