@@ -1,5 +1,6 @@
 mod DeclRows
 mod DeclTexts
+mod TypeTexts
 pub mod JudgedLaws
 pub mod ReachLaws
 pub mod ViewLaws

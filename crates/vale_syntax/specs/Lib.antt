@@ -8,6 +8,13 @@ pub mod Grammar
 pub mod Judged
 pub mod Layout
 pub mod Reach
+pub mod Returns
+pub mod Sites
 pub mod Sums
+pub mod Takes
 pub mod Tree
+pub mod Typed
+pub mod TypeRules
+pub mod Types
+pub mod Typing
 pub mod View

@@ -3,6 +3,7 @@
 #![tactic(auto)]
 
 mod build;
+mod built_in;
 mod decls;
 mod fault;
 mod position;
@@ -10,6 +11,7 @@ mod program;
 mod token;
 mod tree;
 
+pub use built_in::BuiltIn;
 pub use decls::{Declared, Decls, Implemented};
 pub use fault::Fault;
 pub use position::Position;
