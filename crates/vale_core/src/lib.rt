@@ -1,0 +1,13 @@
+//! The typed tree of a program, with builders of its nodes: what the phases behind typing read (docs/LANGUAGE.md, "Types").
+#![tactic(auto)]
+
+mod build;
+mod seen;
+mod tree;
+mod ty;
+
+pub use seen::{Seen, View};
+pub use tree::{
+    Block, Callee, Core, ElseIf, Expr, Form, Function, Item, Link, Node, Step, Stmt,
+};
+pub use ty::Ty;
