@@ -130,8 +130,8 @@ and_true false b e = cc
 all_past : (test : t.Item → Bool) (items : List Item) (k : ℕ) (x : Item) → k < length items → x ≡ get_or items k x → test (view_item x) ≡ true → list_all test (map view_item (drop (k + 1) items)) ≡ list_all test (map view_item (drop k items))
 all_past test items k x l is e =
     sym (ap (λ (xs : List Item). list_all test (map view_item xs)) (drop_more items k x l)
-      ∙ ap (λ (y : Item). test (view_item y) && list_all test (map view_item (drop (k + 1) items))) (sym is)
-      ∙ and_true (test (view_item x)) (list_all test (map view_item (drop (k + 1) items))) e)
+    ∙ ap (λ (y : Item). test (view_item y) && list_all test (map view_item (drop (k + 1) items))) (sym is)
+    ∙ and_true (test (view_item x)) (list_all test (map view_item (drop (k + 1) items))) e)
 
 -- ---- the set, as it grows over the items
 
@@ -168,9 +168,9 @@ new_is_in now new n ins = ins n ∙ same_or n (now n)
 
 old_or_new : (now new more : ℕ → Bool) (n : ℕ) → ((m : ℕ) → new m ≡ (m == n || now m)) → more n ≡ true → Within now more → Within new more
 old_or_new now new more n ins here w m e = elim (or_cases (m == n) (now m) (sym (ins m) ∙ e)) [
-      | inl h ↦ ap more (eqb-true m n h) ∙ here
-      | inr h ↦ w m h
-    ]
+  | inl h ↦ ap more (eqb-true m n h) ∙ here
+  | inr h ↦ w m h
+]
 
 -- the name of this item is added
 pub goes_on : (items : List Item) (start now new : ℕ → Bool) (k : ℕ) (has_grown : Bool) (x : Item) (n : ℕ) → k < length items → x ≡ get_or items k x → to_add now (leads_into now (view_item x)) (source_of (view_item x)) ≡ Some n
@@ -186,8 +186,8 @@ goes_on items start now new k has_grown x n l is some ins so_far =
       falls = λ e. omega arith;
       more = λ m e. within_new now new n ins m (so_far.more m e);
       least = λ more c w. old_or_new now new more n ins
-        (closed_has now more (view_item x) n (so_far.least more c w) (subst (λ (y : Item). is_closed more (view_item y) ≡ true) (sym is) (one_of_all (is_closed more) items k x l c)) a)
-        (so_far.least more c w);
+          (closed_has now more (view_item x) n (so_far.least more c w) (subst (λ (y : Item). is_closed more (view_item y) ≡ true) (sym is) (one_of_all (is_closed more) items k x l c)) a)
+          (so_far.least more c w);
     }
 
 -- ---- rounds

@@ -1,9 +1,9 @@
 -- The least closed set of names has those that reach a struct with `iso` in a field's type.
-use Rattle.std.proofs.Common.{◌≡◌, ℕ, List, [], ◌∷◌, ◌++◌, ◌⊎◌, inl, inr, refl, sym, subst, ap, Option, Some, None}
-use Rattle.std.specs.Prelude.{Bool, true, false, not, ◌||◌, ◌&&◌, flat_map, if◌then◌else◌, Result, Ok, Err, IfOk}
+use Rattle.std.proofs.Common.{◌≡◌, ℕ, List, [], ◌∷◌, ◌++◌, ◌⊎◌, inl, inr, refl, sym, ap, Option, Some, None}
+use Rattle.std.specs.Prelude.{Bool, true, false, not, ◌||◌, flat_map, if◌then◌else◌, Result, Ok, Err, IfOk}
 use Rattle.std.specs.List.{list_any, list_all, cons_option}
 use Rattle.std.specs.Option.{option_map_or}
-use Rattle.std.proofs.lemmas.Bool.{and_parts, and_from, or_cases, cases_Bool}
+use Rattle.std.proofs.lemmas.Bool.{and_parts, and_from, or_cases}
 use Rattle.vale_syntax.specs.Tree.{FieldDecl, Item, struct_item, interface_item, impl_item, function_item}
 use Rattle.vale_syntax.specs.Reach.{Edge, Leads, IsReached, here, along, is_reached}
 use Rattle.vale_syntax.specs.Declarations.{field_type, has_iso, base_of, edge_to, leads_of, leads, iso_holder, iso_holders}
@@ -11,7 +11,7 @@ use Rattle.vale_syntax.proofs.ReachLaws.{itself_along, one_more, is_sound}
 use Rattle.vale_base.specs.declared.fault.Memory.{Memory}
 use Rattle.vale_types.specs.declared.names.Names.{Names}
 use Rattle.vale_types.specs.Names.{has}
-use Rattle.vale_types.specs.Isos.{field_leads, leads_into, is_closed, Within, IsLeast}
+use Rattle.vale_types.specs.Isos.{field_leads, is_closed, IsLeast}
 
 or_here : (a b : Bool) → a ≡ true → (a || b) ≡ true
 or_here true b e = refl
@@ -53,9 +53,9 @@ leads_cases : (es fs : List Edge) (m n : ℕ) → Leads (es ++ fs) m n → Leads
 leads_cases [] fs m n l = inr l
 leads_cases (e ∷ es) fs m n (inl l) = inl (inl l)
 leads_cases (e ∷ es) fs m n (inr l) = elim (leads_cases es fs m n l) [
-      | inl h ↦ inl (inr h)
-      | inr h ↦ inr h
-    ]
+  | inl h ↦ inl (inr h)
+  | inr h ↦ inr h
+]
 
 holder_cases : (b : Bool) (m : ℕ) (ms : List ℕ) (n : ℕ) → IsIn n (cons_option (if b then Some m else None) ms) → ((b ≡ true) × (m ≡ n)) ⊎ IsIn n ms
 holder_cases true m ms n (inl e) = inl (refl, e)
@@ -91,10 +91,10 @@ edges_of m fs = flat_map (λ f. edge_to m (base_of (field_type f))) fs
 fields_lead : (has : ℕ → Bool) (m k n : ℕ) (fs : List FieldDecl) → Leads (edges_of m fs) k n → has n ≡ true → (m ≡ k) × (list_any (field_leads has) fs ≡ true)
 fields_lead has m k n [] l e = elim l [ ]
 fields_lead has m k n (f ∷ fs) l e = elim (leads_cases (edge_to m (base_of (field_type f))) (edges_of m fs) k n l) [
-      | inl h ↦ let edge = edge_cases m k n (base_of (field_type f)) h in
-          (edge.0, or_here (field_leads has f) (list_any (field_leads has) fs) (or_there (has_iso (field_type f)) (option_map_or has (base_of (field_type f)) false) (base_in has (base_of (field_type f)) n edge.1 e)))
-      | inr h ↦ let rest = fields_lead has m k n fs h e in (rest.0, or_there (field_leads has f) (list_any (field_leads has) fs) rest.1)
-    ]
+  | inl h ↦ let edge = edge_cases m k n (base_of (field_type f)) h in
+      (edge.0, or_here (field_leads has f) (list_any (field_leads has) fs) (or_there (has_iso (field_type f)) (option_map_or has (base_of (field_type f)) false) (base_in has (base_of (field_type f)) n edge.1 e)))
+  | inr h ↦ let rest = fields_lead has m k n fs h e in (rest.0, or_there (field_leads has f) (list_any (field_leads has) fs) rest.1)
+]
 
 abbrev any_iso : List FieldDecl → Bool
 any_iso fs = list_any (λ f. has_iso (field_type f)) fs
@@ -102,18 +102,18 @@ any_iso fs = list_any (λ f. has_iso (field_type f)) fs
 isos_lead : (has : ℕ → Bool) (fs : List FieldDecl) → any_iso fs ≡ true → list_any (field_leads has) fs ≡ true
 isos_lead has [] e = e
 isos_lead has (f ∷ fs) e = elim (or_cases (has_iso (field_type f)) (any_iso fs) e) [
-      | inl h ↦ or_here (field_leads has f) (list_any (field_leads has) fs) (or_here (has_iso (field_type f)) (option_map_or has (base_of (field_type f)) false) h)
-      | inr h ↦ or_there (field_leads has f) (list_any (field_leads has) fs) (isos_lead has fs h)
-    ]
+  | inl h ↦ or_here (field_leads has f) (list_any (field_leads has) fs) (or_here (has_iso (field_type f)) (option_map_or has (base_of (field_type f)) false) h)
+  | inr h ↦ or_there (field_leads has f) (list_any (field_leads has) fs) (isos_lead has fs h)
+]
 
 abbrev Source : (ℕ → Bool) → ℕ → List FieldDecl → Type 0
 Source has m fs = (any_iso fs ≡ true) ⊎ ((n : ℕ) × Leads (edges_of m fs) m n × (has n ≡ true))
 
 field_source : (has : ℕ → Bool) (m : ℕ) (f : FieldDecl) (fs : List FieldDecl) → field_leads has f ≡ true → Source has m (f ∷ fs)
 field_source has m f fs e = elim (or_cases (has_iso (field_type f)) (option_map_or has (base_of (field_type f)) false) e) [
-      | inl h ↦ inl (or_here (has_iso (field_type f)) (any_iso fs) h)
-      | inr h ↦ let edge = base_edge has m (base_of (field_type f)) h in inr (edge.0, leads_left (edge_to m (base_of (field_type f))) (edges_of m fs) m edge.0 edge.1, edge.2)
-    ]
+  | inl h ↦ inl (or_here (has_iso (field_type f)) (any_iso fs) h)
+  | inr h ↦ let edge = base_edge has m (base_of (field_type f)) h in inr (edge.0, leads_left (edge_to m (base_of (field_type f))) (edges_of m fs) m edge.0 edge.1, edge.2)
+]
 
 later_source : (has : ℕ → Bool) (m : ℕ) (f : FieldDecl) (fs : List FieldDecl) → Source has m fs → Source has m (f ∷ fs)
 later_source has m f fs (inl h) = inl (or_there (has_iso (field_type f)) (any_iso fs) h)
@@ -122,9 +122,9 @@ later_source has m f fs (inr h) = inr (h.0, leads_right (edge_to m (base_of (fie
 sources : (has : ℕ → Bool) (m : ℕ) (fs : List FieldDecl) → list_any (field_leads has) fs ≡ true → Source has m fs
 sources has m [] e = cc
 sources has m (f ∷ fs) e = elim (or_cases (field_leads has f) (list_any (field_leads has) fs) e) [
-      | inl h ↦ field_source has m f fs h
-      | inr h ↦ later_source has m f fs (sources has m fs h)
-    ]
+  | inl h ↦ field_source has m f fs h
+  | inr h ↦ later_source has m f fs (sources has m fs h)
+]
 
 -- ---- what is closed is closed along edges and has the holders
 
@@ -155,9 +155,9 @@ closed_edges has (item ∷ items) ok m n l e =
 
 item_holder : (has : ℕ → Bool) (item : Item) (ms : List ℕ) (n : ℕ) → is_closed has item ≡ true → IsIn n (cons_option (iso_holder item) ms) → (has n ≡ true) ⊎ IsIn n ms
 item_holder has (struct_item s fs) ms n ok i = elim (holder_cases (any_iso fs) s.name.0 ms n i) [
-      | inl h ↦ inl (moved has s.name.0 n h.1 (implied (list_any (field_leads has) fs) (has s.name.0) ok (isos_lead has fs h.0)))
-      | inr h ↦ inr h
-    ]
+  | inl h ↦ inl (moved has s.name.0 n h.1 (implied (list_any (field_leads has) fs) (has s.name.0) ok (isos_lead has fs h.0)))
+  | inr h ↦ inr h
+]
 item_holder has (interface_item s hs) ms n ok i = inr i
 item_holder has (impl_item at s t fs) ms n ok i = inr i
 item_holder has (function_item f) ms n ok i = inr i
@@ -194,9 +194,9 @@ all_closed has (item ∷ items) edges holders = and_from (is_closed has item) (l
 reach_edge : (edges : List Edge) (m n : ℕ) (ms : List ℕ) → Leads edges m n → list_any (is_reached edges n) ms ≡ true → list_any (is_reached edges m) ms ≡ true
 reach_edge edges m n [] l e = e
 reach_edge edges m n (h ∷ ms) l e = elim (or_cases (is_reached edges n h) (list_any (is_reached edges n) ms) e) [
-      | inl r ↦ or_here (is_reached edges m h) (list_any (is_reached edges m) ms) (one_more edges m n h l r)
-      | inr r ↦ or_there (is_reached edges m h) (list_any (is_reached edges m) ms) (reach_edge edges m n ms l r)
-    ]
+  | inl r ↦ or_here (is_reached edges m h) (list_any (is_reached edges m) ms) (one_more edges m n h l r)
+  | inr r ↦ or_there (is_reached edges m h) (list_any (is_reached edges m) ms) (reach_edge edges m n ms l r)
+]
 
 reach_holder : (edges : List Edge) (n : ℕ) (ms : List ℕ) → IsIn n ms → list_any (is_reached edges n) ms ≡ true
 reach_holder edges n [] i = elim i [ ]
@@ -206,9 +206,9 @@ reach_holder edges n (m ∷ ms) (inr i) = or_there (is_reached edges n m) (list_
 reached_holder : (edges : List Edge) (n : ℕ) (ms : List ℕ) → list_any (is_reached edges n) ms ≡ true → (h : ℕ) × IsIn h ms × IsReached edges n h
 reached_holder edges n [] e = cc
 reached_holder edges n (h ∷ ms) e = elim (or_cases (is_reached edges n h) (list_any (is_reached edges n) ms) e) [
-      | inl r ↦ (h, inl refl, is_sound edges n h r)
-      | inr r ↦ let more = reached_holder edges n ms r in (more.0, inr more.1, more.2)
-    ]
+  | inl r ↦ (h, inl refl, is_sound edges n h r)
+  | inr r ↦ let more = reached_holder edges n ms r in (more.0, inr more.1, more.2)
+]
 
 back : (has : ℕ → Bool) (edges : List Edge) (n h : ℕ) → AlongEdges has edges → IsReached edges n h → has h ≡ true → has n ≡ true
 back has edges n h closed (here e) t = moved has h n (sym e) t
@@ -218,11 +218,11 @@ back has edges n h closed (along {k = k} l r) t = closed n k l (back has edges k
 pub least_reaches : (items : List Item) (has : ℕ → Bool) → IsLeast items has → (n : ℕ) → has n ≡ list_any (is_reached (leads items) n) (iso_holders items)
 least_reaches items has is n = same_tests (has n) (list_any (is_reached (leads items) n) (iso_holders items))
     (is.least (λ m. list_any (is_reached (leads items) m) (iso_holders items))
-      (all_closed (λ m. list_any (is_reached (leads items) m) (iso_holders items)) items
-        (λ m k l. reach_edge (leads items) m k (iso_holders items) l)
-        (λ m i. reach_holder (leads items) m (iso_holders items) i)) n)
+    (all_closed (λ m. list_any (is_reached (leads items) m) (iso_holders items)) items
+    (λ m k l. reach_edge (leads items) m k (iso_holders items) l)
+    (λ m i. reach_holder (leads items) m (iso_holders items) i)) n)
     (λ e. let found = reached_holder (leads items) n (iso_holders items) e in
-      back has (leads items) n found.0 (closed_edges has items is.closed) found.2 (closed_holders has items is.closed found.0 found.1))
+    back has (leads items) n found.0 (closed_edges has items is.closed) found.2 (closed_holders has items is.closed found.0 found.1))
 
 pub all_reach : (items : List Item) (r : Result Names Memory) → IfOk r (λ isos. IsLeast items (has isos)) → IfOk r (λ isos. (n : ℕ) → has isos n ≡ list_any (is_reached (leads items) n) (iso_holders items))
 all_reach items (Ok isos) is = least_reaches items (has isos) is

@@ -24,8 +24,8 @@ bind_ext (Err e) f g same = refl
 pub in_if : (items : List Item) (at : Spot) (c : Expr) (b : Block) (es : List ElseIf) (o : Option Block) (left : ℕ) → walked (in_form items (view_form (f.If at c b es o))) left ≡ (walked (in_expr items (view_expr c)) left >>= λ l. walked (in_block items (view_block b)) l >>= λ l. walked (in_elses items (elses_of (map view_else_if es) None)) l >>= λ l. walked (in_elses items (else_end (option_map view_block o))) l)
 in_if items at c b es o left =
     rw (of_if at c b es o) (walked_then (in_expr items (view_expr c)) (in_block items (view_block b) ▸ in_elses items (elses_of (map view_else_if es) (option_map view_block o))) left
-      ∙ bind_ext (walked (in_expr items (view_expr c)) left) _ _ (λ l. walked_then (in_block items (view_block b)) (in_elses items (elses_of (map view_else_if es) (option_map view_block o))) l
-          ∙ bind_ext (walked (in_block items (view_block b)) l) _ _ (λ m. walked_elses items (map view_else_if es) (else_end (option_map view_block o)) m)))
+    ∙ bind_ext (walked (in_expr items (view_expr c)) left) _ _ (λ l. walked_then (in_block items (view_block b)) (in_elses items (elses_of (map view_else_if es) (option_map view_block o))) l
+    ∙ bind_ext (walked (in_block items (view_block b)) l) _ _ (λ m. walked_elses items (map view_else_if es) (else_end (option_map view_block o)) m)))
 
 pub of_out_block : (b : Block) → view_block b ≡ t.block (out-Block b).at (stmts_of (map view_stmt (out-Block b).stmts) (option_map view_expr (out-Block b).last))
 of_out_block b = search (rules, the_lemmas)

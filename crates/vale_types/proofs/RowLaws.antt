@@ -1,6 +1,6 @@
 -- A row is asked rule by rule; a list of parts, part by part.
-use Rattle.std.proofs.Common.{◌≡◌, ℕ, List, [], ◌∷◌, ◌++◌, refl, sym, ◌∙◌}
-use Rattle.std.specs.Prelude.{Bool, true, false, Result, Ok, Err}
+use Rattle.std.proofs.Common.{◌≡◌, ℕ, List, [], ◌∷◌, refl, ◌∙◌}
+use Rattle.std.specs.Prelude.{Bool, true, false, Ok, Err}
 use Rattle.vale_base.specs.declared.spot.Spot.{Spot}
 use Rattle.vale_syntax.specs.declared.fault.Fault.{Fault}
 use Rattle.vale_syntax.specs.Judged.{Rules, own, stopped, one_by_one}

@@ -1,4 +1,4 @@
-use Rattle.std.proofs.Common.{◌≡◌, map, sym, ◌∙◌}
+use Rattle.std.proofs.Common.{map, sym, ◌∙◌}
 use Rattle.std.proofs.lemmas.Result.{err_from_is_err_and}
 use Rattle.vale_syntax.specs.View.{view_item}
 use Rattle.vale_types.proofs.PartLaws.{if_ends, block_fails, block_ends}
@@ -16,5 +16,5 @@ walk_block-returns t c =
 pub walk_form-returns-in_ok-left-in-If-3 : goal.walk_form-returns-in_ok-left-in-If-3
 walk_form-returns-in_ok-left-in-If-3 t c =
     let itself = if_ends (map view_item c.args.items.now) c.in-If.field-0 c.in-If.condition c.in-If.block c.in-If.else_ifs c.as_slice.result.now c.in-If.otherwise c.args.left c.in_ok-left-in-If.left c.in_ok-left-in-If-2.left c.in_ok-left-in-If-3.left c.walk_else.result
-      (sym c.in_ok-left-in-If.was ∙ c.walk_expr.ensures) (sym c.in_ok-left-in-If-2.was ∙ c.walk_block.ensures) c.as_slice.ensures (sym c.in_ok-left-in-If-3.was ∙ c.walk_else_ifs.ensures) c.walk_else.ensures in
+    (sym c.in_ok-left-in-If.was ∙ c.walk_expr.ensures) (sym c.in_ok-left-in-If-2.was ∙ c.walk_block.ensures) c.as_slice.ensures (sym c.in_ok-left-in-If-3.was ∙ c.walk_else_ifs.ensures) c.walk_else.ensures in
     rw c.in-If.is itself

@@ -1,5 +1,4 @@
-use Rattle.std.proofs.Common.{[], ◌∷◌, map, refl, sym, arith}
-use Rattle.std.specs.Prelude.{Ok}
+use Rattle.std.proofs.Common.{[], ◌∷◌, map, refl}
 use Rattle.std.proofs.lemmas.Result.{err_from_is_err_and}
 use Rattle.vale_syntax.specs.Judged.{stopped, one_by_one}
 use Rattle.vale_syntax.specs.View.{view_item, view_field}
@@ -14,8 +13,7 @@ pub loop-field-preserved : goal.loop-field-preserved
 loop-field-preserved c =
     let judge = field_faults (map view_item c.args.items.now) in
     let so_far = c.loop-field.invariant.0 in
-    let names = c.loop-field.invariant.1 in
-    (
+    let names = c.loop-field.invariant.1 in (
       view_field c.field-item.result ∷ so_far,
       c.in_ok-check_field.ensures.names so_far names,
       part_passes judge view_field so_far c.args.fields.now c.loop-field.field-index c.field-item.result (stopped (one_by_one judge [] (map view_field c.args.fields.now)) (tt {0})) c.loop-field-test.true c.field-item.is (c.in_ok-check_field.ensures.fault so_far names) c.loop-field.invariant.2,

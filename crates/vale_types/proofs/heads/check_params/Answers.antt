@@ -1,5 +1,4 @@
-use Rattle.std.proofs.Common.{[], ◌∷◌, map, refl, sym, arith}
-use Rattle.std.specs.Prelude.{Ok}
+use Rattle.std.proofs.Common.{[], ◌∷◌, map, refl}
 use Rattle.std.proofs.lemmas.Result.{err_from_is_err_and}
 use Rattle.vale_syntax.specs.Judged.{stopped, one_by_one}
 use Rattle.vale_syntax.specs.View.{view_item, view_param}
@@ -14,8 +13,7 @@ pub loop-param-preserved : goal.loop-param-preserved
 loop-param-preserved c =
     let judge = param_faults (map view_item c.args.items.now) in
     let so_far = c.loop-param.invariant.0 in
-    let names = c.loop-param.invariant.1 in
-    (
+    let names = c.loop-param.invariant.1 in (
       view_param c.param-item.result ∷ so_far,
       c.in_ok-check_param.ensures.names so_far names,
       part_passes judge view_param so_far c.args.params.now c.loop-param.param-index c.param-item.result (stopped (one_by_one judge [] (map view_param c.args.params.now)) (tt {0})) c.loop-param-test.true c.param-item.is (c.in_ok-check_param.ensures.fault so_far names) c.loop-param.invariant.2,

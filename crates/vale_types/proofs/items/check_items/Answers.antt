@@ -1,5 +1,4 @@
 use Rattle.std.proofs.Common.{◌≡◌, [], ◌∷◌, map, refl, sym, true, subst}
-use Rattle.std.specs.Prelude.{Ok}
 use Rattle.std.proofs.lemmas.Result.{err_from_is_err_and}
 use Rattle.vale_syntax.specs.declared.tree.Item.{Item}
 use Rattle.vale_syntax.specs.Judged.{stopped, one_by_one}
@@ -12,10 +11,10 @@ use Rattle.vale_types.proofs.items.check_items.Goals as goal
 
 pub loop-item-init : goal.loop-item-init
 loop-item-init c = (
-      [],
-      record { names = λ n. c.new.ensures n.name.0; dropped = λ n. c.new-2.ensures n.name.0; has_main = refl },
-      refl,
-    )
+  [],
+  record { names = λ n. c.new.ensures n.name.0; dropped = λ n. c.new-2.ensures n.name.0; has_main = refl },
+  refl,
+)
 
 pub check_item-requires : goal.check_item-requires
 check_item-requires c = record {
@@ -28,8 +27,7 @@ pub loop-item-preserved : goal.loop-item-preserved
 loop-item-preserved c =
     let judge = item_faults c.args.names.now (map view_item c.args.items.now) in
     let so_far = c.loop-item.invariant.0 in
-    let kept = c.loop-item.invariant.1 in
-    (
+    let kept = c.loop-item.invariant.1 in (
       view_item c.item-item.result ∷ so_far,
       c.in_ok-put.ensures so_far kept,
       part_passes judge view_item so_far c.args.items.now c.loop-item.item-index c.item-item.result (stopped (one_by_one judge [] (map view_item c.args.items.now)) (tt {0})) c.loop-item-test.true c.item-item.is (c.in_ok-check_item.ensures so_far kept) c.loop-item.invariant.2,
