@@ -1,0 +1,8 @@
+pub mod GrowLaws
+pub mod IsoLaws
+pub mod LoopLaws
+pub mod PartLaws
+pub mod RowLaws
+pub mod Rules
+pub mod TypeLaws
+pub mod WalkLaws

@@ -1,0 +1,19 @@
+//! What a program declares: its structs, interfaces, implementations and functions, and the rules that its names and types
+//! keep.
+#![tactic(auto)]
+
+mod before;
+mod body;
+mod collect;
+mod heads;
+mod items;
+mod known;
+mod names;
+mod program;
+mod reach;
+mod special;
+mod texts;
+mod types;
+
+pub use program::{DeclFault, declare};
+pub use vale_syntax::{Declared, Decls, Implemented};
