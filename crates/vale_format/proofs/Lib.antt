@@ -1,0 +1,4 @@
+mod Lexemes
+mod Rendered
+mod Spots
+mod Round
