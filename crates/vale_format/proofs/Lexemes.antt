@@ -120,15 +120,15 @@ unfolding next
 sign_next s.Dot [] h = refl
 sign_next s.Dot (b ∷ rest) h = let e : eqb b 46 ≡ false = (h refl).0 in rw e refl
 sign_next s.Bang [] h = refl
-sign_next s.Bang (b ∷ rest) h = let e : eqb b 61 ≡ false = (h refl).1.0 in rw e refl
+sign_next s.Bang (b ∷ rest) h = let e : eqb b 61 ≡ false = (h refl).1 in rw e refl
 sign_next s.Assign [] h = refl
-sign_next s.Assign (b ∷ rest) h = let e : eqb b 61 ≡ false = (h refl).1.0 in rw e refl
+sign_next s.Assign (b ∷ rest) h = let e : eqb b 61 ≡ false = (h refl).1 in rw e refl
 sign_next s.Less [] h = refl
-sign_next s.Less (b ∷ rest) h = let e : eqb b 61 ≡ false = (h refl).1.0 in rw e refl
+sign_next s.Less (b ∷ rest) h = let e : eqb b 61 ≡ false = (h refl).1 in rw e refl
 sign_next s.Greater [] h = refl
-sign_next s.Greater (b ∷ rest) h = let e : eqb b 61 ≡ false = (h refl).1.0 in rw e refl
+sign_next s.Greater (b ∷ rest) h = let e : eqb b 61 ≡ false = (h refl).1 in rw e refl
 sign_next s.Slash [] h = refl
-sign_next s.Slash (b ∷ rest) h = let e : eqb b 47 ≡ false = (h refl).1.1 in rw e refl
+sign_next s.Slash (b ∷ rest) h = let e : eqb b 47 ≡ false = (h refl).2 in rw e refl
 sign_next x [] h = refl
 sign_next x (b ∷ rest) h = refl
 
