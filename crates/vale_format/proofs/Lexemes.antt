@@ -20,7 +20,7 @@ use Rattle.vale_lexer.proofs.OneCut.{same_front}
 use Rattle.vale_lexer.proofs.Runs.{longest_by}
 use Rattle.vale_lexer.proofs.Sorted.{heads, letter_class, digit_class, Sorted, a_blank, a_name, a_number, a_quote, a_comment, a_sign, word_name}
 use Rattle.vale_lexer.proofs.Tells.{Tells, next_tells, quote_longest}
-use Rattle.vale_printer.specs.Apart.{is_wordy, is_short}
+use Rattle.vale_printer.proofs.Apart.{is_wordy, is_short}
 
 -- ---- quotes
 

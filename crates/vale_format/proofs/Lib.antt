@@ -1,4 +1,6 @@
+mod Fixed
 mod Lexemes
+mod NamedTrees
 mod Rendered
-mod Spots
 mod Round
+mod Spots

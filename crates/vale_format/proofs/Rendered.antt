@@ -16,7 +16,7 @@ use Rattle.vale_syntax.specs.declared.token.TokenKind.{TokenKind}
 use Rattle.vale_syntax.specs.declared.token.TokenKind.TheVariants as k
 use Rattle.vale_lexer.proofs.Sorted.{word_name}
 use Rattle.vale_lexer.proofs.Tells.{blank_longest}
-use Rattle.vale_printer.specs.Apart.{is_wordy, is_short, begins_wordy, begins_sign, Apart}
+use Rattle.vale_printer.proofs.Apart.{is_wordy, is_short, begins_wordy, begins_sign, Apart}
 use Rattle.vale_printer.proofs.Lays.{laid}
 use Rattle.vale_format.proofs.Lexemes.{means_again, StopsAt, NoMore, lexeme_longest}
 

@@ -49,8 +49,8 @@ read_back_by t ts h order r =
       spelled = spelled;
       same = one_but_for_spots t again ts r.tokens h spelled e;
       only = λ u x c g.
-        let one : u ≡ tokens = one_tokens (canon t) u tokens c r.cuts in
-        (one, one_tree r.tokens x again (subst (λ (z : Tokens). spells x z.list) one g) spelled);
+          let one : u ≡ tokens = one_tokens (canon t) u tokens c r.cuts in
+          (one, one_tree r.tokens x again (subst (λ (z : Tokens). spells x z.list) one g) spelled);
       fixed = canon_moved (spot_for ts r.tokens) t;
     }
 

@@ -8,6 +8,8 @@ ghost use Rattle.vale_syntax.specs.Round.{IsReadBack};
 ghost use Rattle.vale_syntax.specs.Tree as t;
 ghost use Rattle.vale_parser.specs.ItemReading.{all_of};
 ghost use Rattle.vale_parser.specs.Refusal.{IsRefusal};
+ghost use Rattle.vale_format.specs.Format.{IsFormatOf, IsFixed};
+ghost use Rattle.vale_format.specs.Named.{IsNamed};
 
 use std::alloc::Global;
 use vale_base::Fail;
@@ -24,8 +26,12 @@ pub fn format(alloc: Global, tokens: &Tokens) -> Result<Vec<u8>, Fail<ParseFault
     ensures complete { (tree : t.Tree) → spells tree tokens.now.list → IsValueUnlessMemory result (λ text. text.items ≡ canon tree) }
     // which fault it is, by the reader that looks at one token at a time
     ensures fault { IfFault result (λ f. IsRefusal tokens.now.end (all_of tokens.now.list) f) }
-    // where the tokens are a text's, the canonical text is read back as the same tree, and is its own canonical text
+    // where the tokens are those of a text, the canonical text is read back as the same tree but for spots, and as no other
     ensures read_back { (source : List ℕ) (tree : t.Tree) → cut source tokens.now → spells tree tokens.now.list → IsReadBack tree }
+    // what is formatted once stays as it is
+    ensures fixed { (source text : List ℕ) → IsFormatOf source text → IsFixed text }
+    // each name of the tree has a text of its own
+    ensures named { (tree : t.Tree) → spells tree tokens.now.list → IsNamed tree }
 {
     let tree = parse(alloc, tokens)?;
     let text = print(alloc, &tree)?;

@@ -6,6 +6,7 @@ mod ExprLaws
 mod ItemLaws
 mod ListLaws
 mod StepLaws
+pub mod Apart
 pub mod Lays
 pub mod Moves
 pub mod Neat
