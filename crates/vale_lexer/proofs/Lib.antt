@@ -3,11 +3,11 @@ mod Examples
 mod Fronts
 mod Goes
 mod NumberLemmas
-mod OneCut
-mod Runs
+pub mod OneCut
+pub mod Runs
 mod Scans
 mod SignLemmas
-mod Sorted
-mod Tells
+pub mod Sorted
+pub mod Tells
 mod Walk
 mod WordLemmas

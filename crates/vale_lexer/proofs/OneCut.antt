@@ -11,7 +11,7 @@ use Rattle.vale_lexer.proofs.Sorted.{heads, cons_no, quote_class, Sorted, sorted
 use Rattle.vale_lexer.proofs.Alone.{one_kind, gap_or_token, gap_or_large, token_or_large}
 
 -- fronts of one length are one
-same_front : (a b x y : List ℕ) → a ++ x ≡ b ++ y → length a ≡ length b → (a ≡ b) × (x ≡ y)
+pub same_front : (a b x y : List ℕ) → a ++ x ≡ b ++ y → length a ≡ length b → (a ≡ b) × (x ≡ y)
 same_front [] [] x y e l = (refl, e)
 same_front [] (c ∷ b) x y e l = absurd (omega arith)
 same_front (c ∷ a) [] x y e l = absurd (omega arith)

@@ -11,7 +11,7 @@ use Rattle.vale_syntax.specs.declared.token.Word.{Word}
 use Rattle.vale_syntax.specs.Grammar.{Part, token, one, sign, word, nothing, never, when, optional, each, with_commas, deeper, ◌▸◌, ◌⊳◌}
 use Rattle.vale_syntax.specs.Layout as l
 use Rattle.vale_syntax.specs.Layout.{Piece, lexeme, space, line, Layout, put, mark, key, gap, new_line, around}
-use Rattle.vale_printer.specs.Bare.{kinds}
+use Rattle.vale_syntax.specs.Moved.{kinds}
 
 -- the kinds of the layout's tokens, before these
 unfoldable pub laid : Layout → List TokenKind → List TokenKind

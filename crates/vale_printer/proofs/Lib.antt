@@ -6,6 +6,10 @@ mod ExprLaws
 mod ItemLaws
 mod ListLaws
 mod StepLaws
-mod Lays
-mod Numbered
-mod Same
+pub mod Apart
+pub mod Lays
+pub mod Moves
+pub mod Neat
+pub mod Numbered
+pub mod Same
+pub mod SameLayout

@@ -17,7 +17,7 @@ use Rattle.vale_syntax.specs.Grammar.{Part, token, number_of, whole, postfix, pr
 use Rattle.vale_syntax.specs.Layout as l
 use Rattle.vale_syntax.specs.Layout.{Layout, mark, key, gap, new_line, around, after_word, after_unary, lay_type, lay_expr, lay_args, lay_more_args, lay_link, lay_links, lay_step, lay_steps, lay_form, lay_else_if, lay_elses, lay_block, lay_stmts, lay_stmt, lay_param, lay_head, lay_function, lay_field, lay_members, lay_item, lay_tree, opens}
 use Rattle.vale_syntax.specs.Tree.{TypeExpr, int_type, bool_type, str_type, named_type, array_type, ref_type, imm_ref_type, iso_type, Expr, set, chain, unary, steps, number, quote, truth, name, call, paren, array, iso, form, Exprs, no_exprs, more_exprs, Link, link, Links, no_links, more_links, Step, field, method, index, Steps, no_steps, more_steps, Form, branch, pure, parallel_range, parallel_each, ElseIf, else_if, Elses, no_else, otherwise, more_elses, Block, block, Stmt, declare, destructure, return_nothing, return_value, while, foreach, form_stmt, express, Stmts, no_stmts, last, more_stmts, Param, param, Head, head, Function, function, FieldDecl, field_decl, Item, struct_item, interface_item, impl_item, function_item, Tree, tree}
-use Rattle.vale_printer.specs.Bare.{kinds}
+use Rattle.vale_syntax.specs.Moved.{kinds}
 use Rattle.vale_printer.proofs.Lays.{laid, Lays, seq, re, Blank, behind, before, no_layout, gaps, lines, puts, marks, keys, nothings, arounds, inner, whens, optionals, eachs, commas, given}
 
 -- ---- spaces

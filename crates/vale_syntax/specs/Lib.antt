@@ -1,14 +1,16 @@
 pub mod Bytes
 pub mod Canon
 pub mod Cut
-pub mod Declarations
 pub mod DeclFaults
 pub mod DeclRules
+pub mod Declarations
 pub mod Grammar
 pub mod Judged
 pub mod Layout
+pub mod Moved
 pub mod Reach
 pub mod Returns
+pub mod Round
 pub mod Sites
 pub mod Sums
 pub mod Takes

@@ -1,0 +1,6 @@
+mod Fixed
+mod Lexemes
+mod NamedTrees
+mod Rendered
+mod Round
+mod Spots
