@@ -15,5 +15,5 @@ mod special;
 mod texts;
 mod types;
 
-pub use program::{DeclFault, declare};
+pub use program::{DeclFault, declare, has_no_interface};
 pub use vale_syntax::{Declared, Decls, Implemented};

@@ -1,5 +1,5 @@
 // A program's declarations.
-ghost use Rattle.std.specs.Prelude.{◌≡◌, map, IfOk};
+ghost use Rattle.std.specs.Prelude.{◌≡◌, ◌↔◌, map, IfOk, IsTrue};
 ghost use Rattle.vale_base.specs.Faults.{IfFault, IsValueUnlessMemory, IsFaultUnlessMemory};
 ghost use Rattle.vale_syntax.specs.View.{view_item, view_tree};
 ghost use Rattle.vale_syntax.specs.Judged.{first, Gives, IsFine, IsFirstFault, stopped, own};
@@ -8,8 +8,8 @@ ghost use Rattle.vale_syntax.specs.DeclRules.{program_rules};
 ghost use Rattle.vale_syntax.specs.DeclFaults.{declared, program_spot};
 ghost use Rattle.vale_syntax.specs.declared.decls.Decls.{Decls};
 ghost use Rattle.vale_syntax.specs.declared.fault.Fault.{Fault};
-ghost use Rattle.vale_types.specs.Plain.{HasNoInterface};
-ghost use Rattle.std.specs.List.{list_any};
+ghost use Rattle.vale_types.specs.Plain.{is_plain, HasNoInterface};
+ghost use Rattle.std.specs.List.{list_all, list_any};
 
 use crate::collect::collect;
 use crate::items::check_items;
@@ -80,6 +80,31 @@ fn declare_all(alloc: Global, tree: &Tree) -> Result<Decls, Fail<Fault>>
     check_items(alloc, names, items, &known, has_lawful_main(names, items))?;
     check_program(names, items)?;
     Ok(collect(alloc, items)?)
+}
+
+// A struct or a function.
+fn is_plain(item: &Item) -> bool
+    ensures { result ≡ is_plain (view_item item.now) }
+{
+    matches!(item, Item::Struct(..) | Item::Function(_))
+}
+
+fn are_plain(items: &[Item]) -> bool
+    ensures { result ≡ list_all is_plain (map view_item items.now) }
+{
+    for item in items {
+        if !is_plain(item) {
+            return false;
+        }
+    }
+    true
+}
+
+/// Whether the program has no interface and no implementation, so that `declare` may be asked.
+pub fn has_no_interface(tree: &Tree) -> bool
+    ensures { IsTrue result ↔ HasNoInterface (view_tree tree.now) }
+{
+    are_plain(tree.items.as_slice())
 }
 
 /// What the program declares.
