@@ -8,6 +8,5 @@ pub mod Grammar
 pub mod Judged
 pub mod Layout
 pub mod Reach
-pub mod Sums
 pub mod Tree
 pub mod View
