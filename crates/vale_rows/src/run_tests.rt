@@ -83,11 +83,11 @@ fn texts_have_their_answers(rt: HostRuntime) -> Result<(), Fail> {
             b"func main() { println(9223372036854775808); }",
             1,
             b"",
-            b"E05 at 1:1\n",
+            b"E03 at 1:23\n",
         ),
         (b"funcmain() { }", 1, b"", b"E05 at 1:1\n"),
-        (b"func main() { println(1 +); }", 1, b"", b"E05 at 1:1\n"),
-        (b"func main() { println(1); } x", 1, b"", b"E05 at 1:1\n"),
+        (b"func main() { println(1 +); }", 1, b"", b"E05 at 1:26\n"),
+        (b"func main() { println(1); } x", 1, b"", b"E05 at 1:29\n"),
         (
             b"func main() {\n  println(1);\n  println(1 + 9223372036854775807\n + 1); }",
             3,
@@ -104,32 +104,143 @@ fn texts_have_their_answers(rt: HostRuntime) -> Result<(), Fail> {
     Ok(())
 }
 
+// Texts that are programs of the language, and not of those that run today.
+#[test]
+fn other_programs_do_not_run_yet(rt: HostRuntime) -> Result<(), Fail> {
+    let texts: [&[u8]; 12] = [
+        b"func f() { }",
+        b"func f() { } func main() { }",
+        b"pure func main() { }",
+        b"func main() int { 1 }",
+        b"func main(input []int) { }",
+        b"func main() { println(1 - 2); }",
+        b"func main() { println((1)); }",
+        b"func main() { println(1, 2); }",
+        b"func main() { print(1); }",
+        b"func main() { println(1) }",
+        b"func main() { x = 1; }",
+        b"func main() { if true { println(1); } }",
+    ];
+    for text in texts {
+        let seen = run_on(&rt, rt.alloc(), &["run", "p"], text, &CALM)?;
+        assert_eq!(rt; seen.status, 1, "{text:?}");
+        assert_eq!(rt; seen.out.len(), 0);
+        assert_eq!(rt; seen.err.as_slice(), b"E05 at 1:1\n".as_slice());
+        let laid_out = run_on(&rt, rt.alloc(), &["fmt", "p"], text, &CALM)?;
+        assert_eq!(rt; laid_out.status, 0, "{text:?}");
+    }
+    Ok(())
+}
+
+// `run` and `fmt` refuse a text with the same line.
+fn refuses<R: Threads + Sync>(
+    rt: &R,
+    alloc: Global,
+    text: &[u8],
+    line: &[u8],
+) -> Result<bool, Fail> {
+    let run = run_on(rt, alloc, &["run", "p"], text, &CALM)?;
+    let fmt = run_on(rt, alloc, &["fmt", "p"], text, &CALM)?;
+    Ok(
+        run.status == 1
+            && fmt.status == 1
+            && run.out.is_empty()
+            && fmt.out.is_empty()
+            && run.err.as_slice() == line
+            && fmt.err.as_slice() == line,
+    )
+}
+
+#[test]
+fn a_text_without_a_tree_is_refused_by_both_commands(rt: HostRuntime) -> Result<(), Fail> {
+    let rows: [(&[u8], &[u8]); 5] = [
+        (b"func main() { @ }", b"E02 at 1:15\n"),
+        (
+            b"func main() { x = 9223372036854775808; }",
+            b"E03 at 1:19\n",
+        ),
+        (b"func main() { print(\"a); }", b"E04 at 1:21\n"),
+        (b"func main() { x = ; }", b"E05 at 1:19\n"),
+        (b"func main() {", b"E05 at 1:14\n"),
+    ];
+    for (text, line) in rows {
+        let is_refused = refuses(&rt, rt.alloc(), text, line)?;
+        assert!(rt; is_refused, "{line:?}");
+    }
+    let mut deep = Vec::from_slice(rt.alloc(), b"func main() { x = ".as_slice())?;
+    deep.extend_from_slice(&[b'('; 64])?;
+    deep.push(b'1')?;
+    deep.extend_from_slice(&[b')'; 64])?;
+    deep.extend_from_slice(b"; }")?;
+    let is_refused = refuses(&rt, rt.alloc(), &deep, b"E06 at 1:82\n")?;
+    assert!(rt; is_refused);
+    Ok(())
+}
+
 #[test]
 fn a_text_is_refused_from_its_limit_on(rt: HostRuntime) -> Result<(), Fail> {
     let longest = vec![in rt.alloc(); b' '; 1_048_576]?;
     let seen = run_on(&rt, rt.alloc(), &["run", "p"], &longest, &CALM)?;
     assert_eq!(rt; seen.err.as_slice(), b"E05 at 1:1\n".as_slice());
     let text = vec![in rt.alloc(); b' '; 1_048_577]?;
-    let seen = run_on(&rt, rt.alloc(), &["run", "p"], &text, &CALM)?;
-    assert_eq!(rt; seen.status, 1);
-    assert_eq!(rt; seen.err.as_slice(), b"E01 at 1:1\n".as_slice());
+    let is_refused = refuses(&rt, rt.alloc(), &text, b"E01 at 1:1\n")?;
+    assert!(rt; is_refused);
+    Ok(())
+}
+
+#[test]
+fn texts_have_their_canonical_text(rt: HostRuntime) -> Result<(), Fail> {
+    let rows: [(&[u8], &[u8]); 5] = [
+        (
+            b"func main(){if true{println( 1+2 );}}\n",
+            b"func main() {\n  if true {\n    println(1 + 2);\n  }\n}\n",
+        ),
+        (b"", b""),
+        (b"// nothing\n", b""),
+        (b"func\tmain( ) { }", b"func main() {\n}\n"),
+        (
+            b"struct S{a! int;}impl I for S{}func f(x &imm S,y []int)int{return(007);}",
+            b"struct S {\n  a! int;\n}\nimpl I for S {\n}\nfunc f(x &imm S, y []int) int {\n  return(7);\n}\n",
+        ),
+    ];
+    for (text, canonical) in rows {
+        let seen = run_on(&rt, rt.alloc(), &["fmt", "p"], text, &CALM)?;
+        assert_eq!(rt; seen.status, 0, "{text:?}");
+        assert_eq!(rt; seen.out.as_slice(), canonical);
+        assert_eq!(rt; seen.err.len(), 0);
+        let again = run_on(&rt, rt.alloc(), &["fmt", "p"], canonical, &CALM)?;
+        assert_eq!(rt; again.out.as_slice(), canonical);
+    }
     Ok(())
 }
 
 #[test]
 fn words_that_are_not_served_have_their_index(rt: HostRuntime) -> Result<(), Fail> {
-    let rows: [(&[&str], &[u8]); 8] = [
+    let rows: [(&[&str], &[u8]); 16] = [
         (&[], b"word 0\n"),
         (&["walk", "p"], b"word 0\n"),
         (&["run"], b"word 1\n"),
         (&["run", "-p"], b"word 1\n"),
         (&["run", ""], b"word 1\n"),
         (&["run", "p", "q"], b"word 2\n"),
+        (&["run", "p", "--workers", "65"], b"word 3\n"),
+        (&["run", "p", "--ticks", "5", "--ticks", "5"], b"word 4\n"),
         (&["run", "p", "--ticks", "3"], b"word 2\n"),
+        (&["fmt"], b"word 1\n"),
+        (&["fmt", "p", "q"], b"word 2\n"),
+        (&["fmt", "p", "--ticks", "3"], b"word 2\n"),
         (&["check", "p"], b"word 0\n"),
+        (&["check", "p", "q"], b"word 2\n"),
+        (&["gen", "0"], b"word 1\n"),
+        (&["gen", "1"], b"word 0\n"),
     ];
+    // a shelf whose first call fails: the answer shows that no file is read
+    let outside = Outside {
+        shelf_fails: &[1],
+        ..CALM
+    };
     for (words, err) in rows {
-        let seen = run_on(&rt, rt.alloc(), words, SUM, &CALM)?;
+        let seen = run_on(&rt, rt.alloc(), words, SUM, &outside)?;
         assert_eq!(rt; seen.status, 2);
         assert_eq!(rt; seen.out.len(), 0);
         assert_eq!(rt; seen.err.as_slice(), err);
@@ -148,6 +259,9 @@ fn a_failing_shelf_is_a_read_fault(rt: HostRuntime) -> Result<(), Fail> {
     assert_eq!(rt; read.err.as_slice(), b"read fault\n".as_slice());
     let absent = run_on(&rt, rt.alloc(), &["run", "q"], SUM, &CALM)?;
     assert_eq!(rt; absent.status, 6);
+    let laid_out = run_on(&rt, rt.alloc(), &["fmt", "p"], SUM, &outside)?;
+    assert_eq!(rt; laid_out.status, 6);
+    assert_eq!(rt; laid_out.err.as_slice(), b"read fault\n".as_slice());
     Ok(())
 }
 

@@ -1,14 +1,14 @@
 -- What is owed to a job that the words ask for.
-use Rattle.std.proofs.Common.{◌≡◌, ◌≢◌, ℕ, ◌<◌, List, [], ◌∷◌, length, get_or, Some, false, true, refl, sym, ap, subst, ◌∙◌, arith}
+use Rattle.std.proofs.Common.{◌≡◌, ◌≢◌, ℕ, suc, ◌<◌, List, [], ◌∷◌, length, get_or, Some, false, true, refl, sym, ap, subst, ◌∙◌, arith}
 use Rattle.std.proofs.lemmas.List.{length-map}
 use Rattle.std.proofs.lemmas.Option.{slice_get-map, slice_get-get_or}
 use Rattle.std.specs.Option.{option_map}
 use Rattle.std.specs.Prelude.{String, string_bytes, slice_get, ◌==◌}
 use Rattle.vale_ports.specs.Shelf.{ShelfState, HasFile}
-use Rattle.vale_run.specs.Owed.{Owes, OwesJob, RunsTo, unserved, not_served, served, bad_word}
+use Rattle.vale_run.specs.Owed.{Owes, OwesJob, RunsTo, FormatsTo, unserved, not_served, served, bad_word}
 use Rattle.vale_run.specs.declared.answer.Answer.{Answer}
 use Rattle.vale_words.specs.FirstFault.{Word}
-use Rattle.vale_words.specs.Words.{Asks, AsksBehind, texts}
+use Rattle.vale_words.specs.Words.{Asks, AsksBehind, IsOneName, texts}
 use Rattle.vale_words.specs.declared.job.Job.{Job}
 use Rattle.vale_words.specs.declared.job.Job.TheVariants as j
 use Rattle.vale_words.specs.declared.job.Options.{Options}
@@ -31,6 +31,11 @@ run_unserved words shelf job file options a asks is other answer =
     let many : (length (texts words) == 2) ≡ false = rw (length-map words string_bytes) (test_false (length words) other) in
     not_served job 2 asks (rw (is, many) refl) answer
 
+-- the word of an index is the name that is found there
+name_found : {A : Type 0} (words : List (String A)) (file : ℕ) (word : String A) (name : List ℕ) → file < length words → word ≡ get_or words file word → name ≡ string_bytes word → slice_get (texts words) file ≡ Some name
+name_found words file word name within at named =
+    slice_get-map string_bytes words file ∙ (ap (λ w. option_map string_bytes w) (slice_get-get_or words file word within) ∙ ap Some (ap string_bytes (sym at) ∙ sym named))
+
 -- a run without
 pub run_served : {A : Type 0} (words : List (String A)) (shelf : ShelfState) (job : Job) (file : ℕ) (options : Options) (word : String A) (name : List ℕ) (a : Answer) → Asks (texts words) job → job ≡ j.Run file options → length words ≡ 2 → word ≡ get_or words file word → name ≡ string_bytes word → (text : List ℕ) × HasFile shelf.files name text × RunsTo text options a → Owes (texts words) shelf a
 run_served words shelf job file options word name a asks is two at named (text, has, answered) =
@@ -38,14 +43,39 @@ run_served words shelf job file options word name a asks is two at named (text, 
     let asked = rw is at asks in
     let first : file ≡ 1 = run_file_is file options (texts words) asked in
     let within : file < length words = omega (arith, first, two) in
-    let found : slice_get (texts words) file ≡ Some name =
-    slice_get-map string_bytes words file ∙ (ap (λ w. option_map string_bytes w) (slice_get-get_or words file word within) ∙ ap Some (ap string_bytes (sym at) ∙ sym named)) in
     served job asks (rw (is, few) refl)
-    (subst (λ z. OwesJob z (texts words) shelf a) (sym is) (text, (name, found, has), answered))
+    (subst (λ z. OwesJob z (texts words) shelf a) (sym is) (text, (name, name_found words file word name within at named, has), answered))
+
+fmt_words : (file : ℕ) (words : List Word) → Asks words (j.Fmt file) → (file ≡ 1) × (length words ≡ 2)
+fmt_words file [] asks = absurd asks
+fmt_words file (word ∷ more) (command, text, asks) = by_command command asks where
+  one_name : (words : List Word) → IsOneName words → length words ≡ 1
+  one_name [] names = absurd names
+  one_name (name ∷ []) names = refl
+  one_name (name ∷ next ∷ rest) names = absurd names
+
+  by_command : (command : Command) → AsksBehind command more (j.Fmt file) → (file ≡ 1) × (suc (length more) ≡ 2)
+  by_command c.Fmt behind = (behind.0, ap suc (one_name more behind.1))
+  by_command _ behind = absurd behind
+
+-- where `fmt` is asked for, the word that names the file is there
+pub fmt_within : {A : Type 0} (words : List (String A)) (job : Job) (file : ℕ) → Asks (texts words) job → job ≡ j.Fmt file → file < length words
+fmt_within words job file asks is =
+    let asked = rw is at asks in
+    let (first, two) = fmt_words file (texts words) asked in
+    omega (arith, first, two, length-map words string_bytes)
+
+-- a text that is laid out
+pub fmt_served : {A : Type 0} (words : List (String A)) (shelf : ShelfState) (job : Job) (file : ℕ) (word : String A) (name : List ℕ) (a : Answer) → Asks (texts words) job → job ≡ j.Fmt file → word ≡ get_or words file word → name ≡ string_bytes word → (text : List ℕ) × HasFile shelf.files name text × FormatsTo text a → Owes (texts words) shelf a
+fmt_served words shelf job file word name a asks is at named (text, has, answered) =
+    let within : file < length words = fmt_within words job file asks is in
+    served job asks (rw is refl)
+    (subst (λ z. OwesJob z (texts words) shelf a) (sym is) (text, (name, name_found words file word name within at named, has), answered))
 
 -- any other command
-pub other_unserved : (words : List Word) (shelf : ShelfState) (job : Job) (a : Answer) → Asks words job → ((file : ℕ) (options : Options) → job ≡ j.Run file options → ⊥) → a ≡ bad_word 0 → Owes words shelf a
-other_unserved words shelf job a asks other answer = not_served job 0 asks (unserved_at job other) answer where
-  unserved_at : (k : Job) → ((file : ℕ) (options : Options) → k ≡ j.Run file options → ⊥) → unserved k words ≡ Some 0
-  unserved_at (j.Run file options) none = absurd (none file options refl)
-  unserved_at _ none = refl
+pub other_unserved : (words : List Word) (shelf : ShelfState) (job : Job) (a : Answer) → Asks words job → ((file : ℕ) (options : Options) → job ≡ j.Run file options → ⊥) → ((file : ℕ) → job ≡ j.Fmt file → ⊥) → a ≡ bad_word 0 → Owes words shelf a
+other_unserved words shelf job a asks no_run no_fmt answer = not_served job 0 asks (unserved_at job no_run no_fmt) answer where
+  unserved_at : (k : Job) → ((file : ℕ) (options : Options) → k ≡ j.Run file options → ⊥) → ((file : ℕ) → k ≡ j.Fmt file → ⊥) → unserved k words ≡ Some 0
+  unserved_at (j.Run file options) run fmt = absurd (run file options refl)
+  unserved_at (j.Fmt file) run fmt = absurd (fmt file refl)
+  unserved_at _ run fmt = refl

@@ -1,6 +1,4 @@
 pub mod CodeMeaning
 pub mod Jobs
 pub mod Owed
-pub mod ReadEach
-pub mod ReadPrintlns
-pub mod ReadSums
+pub mod ServedLaws

@@ -3,8 +3,10 @@ use Rattle.std.proofs.Common.{◌≡◌, ℕ, ◌≤◌, List, Option, None, Som
 use Rattle.std.specs.Option.{option_map}
 use Rattle.std.proofs.lemmas.List.{length-take, take_all}
 use Rattle.vale_base.specs.Limits.{program_limit}
+use Rattle.vale_base.specs.declared.spot.Spot.{Spot}
 use Rattle.vale_ports.specs.Shelf.{Files, ReadsFile, HasFile}
-use Rattle.vale_run.specs.Owed.{RunsTo, too_long, not_well_formed, runs}
+use Rattle.vale_run.specs.Front.{Refused, too_long, no_tokens, no_tree}
+use Rattle.vale_run.specs.Owed.{RunsTo, refused_run, not_run, runs, FormatsTo, refused_format, formats}
 use Rattle.vale_run.specs.declared.answer.Answer.{Answer}
 use Rattle.vale_words.specs.declared.job.Options.{Options}
 
@@ -12,18 +14,34 @@ use Rattle.vale_words.specs.declared.job.Options.{Options}
 whole : (text : List ℕ) → length (take 1048577 text) ≤ program_limit → take 1048577 text ≡ text
 whole text h = take_all 1048577 text (omega (arith, length-take 1048577 text))
 
-RunsTo-whole : (text : List ℕ) (options : Options) (a : Answer) → RunsTo (take 1048577 text) options a → RunsTo text options a
-RunsTo-whole text options a (too_long h e) = too_long (omega (arith, length-take 1048577 text, h)) e
-RunsTo-whole text options a (not_well_formed h none e) = subst (λ t. RunsTo t options a) (whole text h) (not_well_formed h none e)
-RunsTo-whole text options a (runs program w e) = subst (λ t. RunsTo t options a) (whole text w.within) (runs program w e)
+Refused-whole : (text : List ℕ) (code : ℕ) (at : Spot) → Refused (take 1048577 text) code at → Refused text code at
+Refused-whole text code at (too_long h c s) = too_long (omega (arith, length-take 1048577 text, h)) c s
+Refused-whole text code at (no_tokens h uncut fault) = subst (λ t. Refused t code at) (whole text h) (no_tokens h uncut fault)
+Refused-whole text code at (no_tree h tokens cuts none why) = subst (λ t. Refused t code at) (whole text h) (no_tree h tokens cuts none why)
 
-found : (file : Option (List ℕ)) (bytes : List ℕ) (options : Options) (a : Answer) → option_map (λ whole. take 1048577 whole) file ≡ Some bytes → RunsTo bytes options a → (text : List ℕ) × (file ≡ Some text) × RunsTo text options a
-found None bytes options a e r = absurd (cc e)
-found (Some text) bytes options a e r =
-    let same : take 1048577 text ≡ bytes = cc e in
-    (text, refl, RunsTo-whole text options a (subst (λ t. RunsTo t options a) (sym same) r))
+RunsTo-whole : (options : Options) (a : Answer) (text : List ℕ) → RunsTo (take 1048577 text) options a → RunsTo text options a
+RunsTo-whole options a text (refused_run code at r e) = refused_run code at (Refused-whole text code at r) e
+RunsTo-whole options a text (not_run parsed r n e) = subst (λ t. RunsTo t options a) (whole text r.within) (not_run parsed r n e)
+RunsTo-whole options a text (runs parsed program r s e) = subst (λ t. RunsTo t options a) (whole text r.within) (runs parsed program r s e)
+
+FormatsTo-whole : (a : Answer) (text : List ℕ) → FormatsTo (take 1048577 text) a → FormatsTo text a
+FormatsTo-whole a text (refused_format code at r e) = refused_format code at (Refused-whole text code at r) e
+FormatsTo-whole a text (formats parsed r e) = subst (λ t. FormatsTo t a) (whole text r.within) (formats parsed r e)
+
+module _ (Fits : List ℕ → Type 0) (fits_whole : (text : List ℕ) → Fits (take 1048577 text) → Fits text) where
+  found : (file : Option (List ℕ)) (bytes : List ℕ) → option_map (λ whole. take 1048577 whole) file ≡ Some bytes → Fits bytes → (text : List ℕ) × (file ≡ Some text) × Fits text
+  found None bytes e r = absurd (cc e)
+  found (Some text) bytes e r =
+      let same : take 1048577 text ≡ bytes = cc e in
+      (text, refl, fits_whole text (subst Fits (sym same) r))
+
+  of_read : (files : Option Files) (name bytes : List ℕ) → ReadsFile files name 1048577 bytes → Fits bytes → (text : List ℕ) × HasFile files name text × Fits text
+  of_read None name bytes read r = (bytes, tt, r)
+  of_read (Some files) name bytes read r = found (files name) bytes read r
 
 -- what was read of the file tells the answer to all of it
 pub RunsTo-read : (files : Option Files) (name bytes : List ℕ) (options : Options) (a : Answer) → ReadsFile files name 1048577 bytes → RunsTo bytes options a → (text : List ℕ) × HasFile files name text × RunsTo text options a
-RunsTo-read None name bytes options a read r = (bytes, tt, r)
-RunsTo-read (Some files) name bytes options a read r = found (files name) bytes options a read r
+RunsTo-read files name bytes options a read r = of_read (λ t. RunsTo t options a) (RunsTo-whole options a) files name bytes read r
+
+pub FormatsTo-read : (files : Option Files) (name bytes : List ℕ) (a : Answer) → ReadsFile files name 1048577 bytes → FormatsTo bytes a → (text : List ℕ) × HasFile files name text × FormatsTo text a
+FormatsTo-read files name bytes a read r = of_read (λ t. FormatsTo t a) (FormatsTo-whole a) files name bytes read r

@@ -1,5 +1,5 @@
 pub mod Code
-pub mod Follows
+pub mod Front
 pub mod Headline
 pub mod Owed
-pub mod WellFormed
+pub mod Served

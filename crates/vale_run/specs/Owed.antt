@@ -1,32 +1,34 @@
 -- What is owed to the words of the command line: a status, and the bytes for `out` and `err`.
-use Rattle.std.specs.Prelude.{ℕ, ◌≡◌, ◌≤◌, ◌<◌, ◌⊎◌, List, [], ◌++◌, Option, None, Some, codes, length, take, false, slice_get, ◌==◌, if◌then◌else◌}
+use Rattle.std.specs.Prelude.{ℕ, ◌≡◌, ◌⊎◌, ◌/◌, ◌%◌, List, [], ◌++◌, Option, None, Some, codes, length, take, false, slice_get, ◌==◌, if◌then◌else◌}
 use Rattle.std.specs.Fmt.{decimal}
-use Rattle.vale_base.specs.Limits.{program_limit}
 use Rattle.vale_base.specs.Outcome.{Outcome, End, Done, Trap, Cut, Wrong, output}
+use Rattle.vale_base.specs.declared.spot.Spot.{Spot}
 use Rattle.vale_ports.specs.Faults.{Rose}
 use Rattle.vale_ports.specs.Shelf.{ShelfState, HasFile}
 use Rattle.vale_model.specs.Meaning.{meaning}
-use Rattle.vale_model.specs.Report.{report_text}
+use Rattle.vale_model.specs.Report.{spot_text, report_text}
+use Rattle.vale_syntax.specs.Canon.{canon}
+use Rattle.vale_syntax.specs.Cut.{start}
+use Rattle.vale_syntax.specs.Tree.{Tree}
 use Rattle.vale_syntax.specs.declared.program.Program.{Program}
-use Rattle.vale_run.specs.WellFormed.{WellFormed}
+use Rattle.vale_run.specs.Front.{Reads, Refused}
+use Rattle.vale_run.specs.Served.{served_program}
 use Rattle.vale_run.specs.declared.answer.Answer.{Answer}
 use Rattle.vale_words.specs.FirstFault.{Word, IsFirstFault}
 use Rattle.vale_words.specs.Words.{Asks, Lawful}
 use Rattle.vale_words.specs.declared.job.Job.{Job}
-use Rattle.vale_words.specs.declared.job.Job.TheVariants.{Run}
+use Rattle.vale_words.specs.declared.job.Job.TheVariants.{Run, Fmt}
 use Rattle.vale_words.specs.declared.job.Options.{Options}
 
 -- ---- answers
 
--- the text is refused, with this line
-abbrev pub refused : List ℕ → Answer
-refused line = record { status = 1; out = []; err = line }
+-- the line that tells a refusal: its code by two digits, and its spot
+abbrev pub refusal_text : ℕ → Spot → List ℕ
+refusal_text code at = codes "E" ++ decimal (code / 10) ++ decimal (code % 10) ++ codes " at " ++ spot_text at ++ codes "\n"
 
-abbrev pub e01 : List ℕ
-e01 = codes "E01 at 1:1\n"
-
-abbrev pub e05 : List ℕ
-e05 = codes "E05 at 1:1\n"
+-- the text is refused, with this code and spot
+abbrev pub refused : ℕ → Spot → Answer
+refused code at = record { status = 1; out = []; err = refusal_text code at }
 
 abbrev pub bad_word : ℕ → Answer
 bad_word index = record { status = 2; out = []; err = codes "word " ++ decimal index ++ codes "\n" }
@@ -53,24 +55,33 @@ answers_end Wrong ticks out a = ⊥
 abbrev pub EndsWith : Outcome → Answer → Type 0
 EndsWith o a = answers_end o.end o.ticks (output o) a
 
--- the answer to the run of a text
+-- the answer to the run of a text; a tree that isn't served yet is refused as a whole
 pub data RunsTo (text : List ℕ) (options : Options) (a : Answer) : Type 0 where
-  too_long : program_limit < length text → a ≡ refused e01 → RunsTo text options a
-  not_well_formed : length text ≤ program_limit → ((program : Program) → WellFormed text program → ⊥) → a ≡ refused e05 → RunsTo text options a
-  runs : (program : Program) → WellFormed text program → EndsWith (meaning program options.ticks) a → RunsTo text options a
+  refused_run : (code : ℕ) (at : Spot) → Refused text code at → a ≡ refused code at → RunsTo text options a
+  not_run : (tree : Tree) → Reads text tree → served_program tree ≡ None → a ≡ refused 5 start → RunsTo text options a
+  runs : (tree : Tree) (program : Program) → Reads text tree → served_program tree ≡ Some program
+      → EndsWith (meaning program options.ticks) a → RunsTo text options a
+
+-- the answer to the laying out of a text: every tree is served
+pub data FormatsTo (text : List ℕ) (a : Answer) : Type 0 where
+  refused_format : (code : ℕ) (at : Spot) → Refused text code at → a ≡ refused code at → FormatsTo text a
+  formats : (tree : Tree) → Reads text tree → a ≡ record { status = 0; out = canon tree; err = [] } → FormatsTo text a
 
 -- a shelf has a file with this text under the word of this index; where it doesn't tell its files, any text
 abbrev pub HasText : ShelfState → List Word → ℕ → List ℕ → Type 0
 HasText shelf words file text = (name : List ℕ) × (slice_get words file ≡ Some name) × HasFile shelf.files name text
 
--- The least index of a word whose command or option isn't served yet: of the commands `run` is, and no option.
+-- The least index of a word whose command or option isn't served yet: of the commands `run` and `fmt` are, and no
+-- option.
 abbrev pub unserved : Job → List Word → Option ℕ
 unserved (Run file options) words = if length words == 2 then None else Some 2
+unserved (Fmt file) words = None
 unserved _ words = Some 0
 
 -- the answer to a job that is served
 abbrev pub OwesJob : Job → List Word → ShelfState → Answer → Type 0
 OwesJob (Run file options) words shelf a = (text : List ℕ) × HasText shelf words file text × RunsTo text options a
+OwesJob (Fmt file) words shelf a = (text : List ℕ) × HasText shelf words file text × FormatsTo text a
 OwesJob _ words shelf a = ⊥
 
 -- the answer that is owed to the words, with the shelf as it stands when the call begins
@@ -89,8 +100,13 @@ PrintsFront words shelf out = (out ≡ []) ⊎ ((a : Answer) × Owes words shelf
 abbrev pub ReadFailed : ShelfState → ShelfState → List ℕ → Type 0
 ReadFailed old new name = Rose old.faults new.faults × (new.last_fault ≡ Some (record { name = name; is_write = false }))
 
+-- the read of the file under the word of this index failed in the call
+abbrev pub FileReadFailed : ℕ → List Word → ShelfState → ShelfState → Type 0
+FileReadFailed file words old new = (name : List ℕ) × (slice_get words file ≡ Some name) × ReadFailed old new name
+
 abbrev pub JobReadFailed : Job → List Word → ShelfState → ShelfState → Type 0
-JobReadFailed (Run file options) words old new = (name : List ℕ) × (slice_get words file ≡ Some name) × ReadFailed old new name
+JobReadFailed (Run file options) words old new = FileReadFailed file words old new
+JobReadFailed (Fmt file) words old new = FileReadFailed file words old new
 JobReadFailed _ words old new = ⊥
 
 -- the read of a file of the job failed in the call

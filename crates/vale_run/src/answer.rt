@@ -2,16 +2,18 @@
 ghost use Rattle.std.specs.Prelude.{◌≡◌, ◌≤◌, ℕ, List, IfOk, IsErrOf};
 ghost use Rattle.vale_base.specs.Outcome.{Cut};
 ghost use Rattle.vale_model.specs.Meaning.{ends, meaning};
-ghost use Rattle.vale_ports.specs.Shelf.{HasFile, KeepsFiles};
-ghost use Rattle.vale_run.specs.Owed.{refused, bad_word, EndsWith, RunsTo, Owes, ReadFailed, ReadFails};
+ghost use Rattle.vale_ports.specs.Shelf.{HasFile, KeepsFiles, ReadsFile};
+ghost use Rattle.vale_run.specs.Owed.{refused, bad_word, EndsWith, RunsTo, FormatsTo, Owes, ReadFailed, ReadFails};
 ghost use Rattle.vale_words.specs.Words.{Asks, texts};
 
 use crate::code::{lower, run};
 use crate::front::front;
+use crate::served::served_program;
 use std::alloc::Global;
-use vale_base::{Fail, Memory, PROGRAM_LIMIT, Text};
+use vale_base::{Fail, Memory, PROGRAM_LIMIT, Spot, Text};
 use vale_ports::{Shelf, ShelfFault};
-use vale_syntax::Program;
+use vale_printer::print;
+use vale_syntax::{Fault, Program};
 use vale_trap::report;
 use vale_words::{Job, Options, read_words};
 
@@ -41,13 +43,22 @@ impl From<Memory> for Stop {
     }
 }
 
-fn refused(alloc: Global, line: &[u8]) -> Result<Answer, Memory>
-    ensures { IfOk result (λ a. a ≡ refused line.now) }
+/// What a text is refused with whose tree isn't served yet.
+const NOT_SERVED: Fault = Fault {
+    code: 5,
+    at: Spot { line: 1, col: 1 },
+};
+
+fn refused(alloc: Global, fault: Fault) -> Result<Answer, Memory>
+    ensures { IfOk result (λ a. a ≡ refused fault.code fault.at) }
 {
+    let (tens, ones) = (fault.code / 10, fault.code % 10);
+    let Spot { line, col } = fault.at;
+    let line = format!(in alloc; "E{tens}{ones} at {line}:{col}\n")?;
     Ok(Answer {
         status: 1,
         out: Text::new(alloc),
-        err: Text::from_slice(alloc, line)?,
+        err: Text::from_slice(alloc, line.as_bytes())?,
     })
 }
 
@@ -102,16 +113,47 @@ fn run_program(alloc: Global, program: &Program, options: &Options) -> Result<An
 pub fn run_text(alloc: Global, text: &[u8], options: &Options) -> Result<Answer, Memory>
     ensures { IfOk result (λ a. RunsTo text.now options.now a) }
 {
-    if text.len() > PROGRAM_LIMIT {
-        return refused(alloc, b"E01 at 1:1\n");
-    }
-    match front(alloc, text)? {
+    let tree = match front(alloc, text) {
+        Ok(tree) => tree,
+        Err(Fail::Is(fault)) => return refused(alloc, fault),
+        Err(Fail::Memory) => return Err(Memory),
+    };
+    match served_program(alloc, &tree)? {
         Some(program) => run_program(alloc, &program, options),
-        None => refused(alloc, b"E05 at 1:1\n"),
+        None => refused(alloc, NOT_SERVED),
     }
 }
 
-// The answer to the run of a file. It reads no more of it than tells that it is too long.
+/// The answer to the laying out of a text.
+pub fn format_text(alloc: Global, text: &[u8]) -> Result<Answer, Memory>
+    ensures { IfOk result (λ a. FormatsTo text.now a) }
+{
+    match front(alloc, text) {
+        Ok(tree) => Ok(Answer {
+            status: 0,
+            out: Text::from_vec(print(alloc, &tree)?),
+            err: Text::new(alloc),
+        }),
+        Err(Fail::Is(fault)) => refused(alloc, fault),
+        Err(Fail::Memory) => Err(Memory),
+    }
+}
+
+// What is to be known of a program's file: no more of it than tells that it is too long.
+fn read_program<H: Shelf>(alloc: Global, name: &str, shelf: &mut H) -> Result<Vec<u8>, Stop>
+    ensures bytes { IfOk result (λ bytes. ReadsFile (H.state shelf.old).files name.now 1048577 bytes.items) }
+    ensures read { IsErrOf result Stop.ReadFault → ReadFailed (H.state shelf.old) (H.state shelf.new) name.now }
+    ensures files { KeepsFiles (H.state shelf.old).files (H.state shelf.new).files }
+    ensures later { (H.state shelf.old).faults ≤ (H.state shelf.new).faults }
+{
+    match shelf.read(alloc, name, PROGRAM_LIMIT as u64 + 1) {
+        Ok(bytes) => Ok(bytes),
+        Err(ShelfFault::Failed) => Err(Stop::ReadFault),
+        Err(ShelfFault::Memory) => Err(Stop::Memory),
+    }
+}
+
+// The answer to the run of a file.
 fn run_file<H: Shelf>(
     alloc: Global,
     name: &str,
@@ -123,11 +165,19 @@ fn run_file<H: Shelf>(
     ensures files { KeepsFiles (H.state shelf.old).files (H.state shelf.new).files }
     ensures later { (H.state shelf.old).faults ≤ (H.state shelf.new).faults }
 {
-    match shelf.read(alloc, name, PROGRAM_LIMIT as u64 + 1) {
-        Ok(bytes) => Ok(run_text(alloc, &bytes, options)?),
-        Err(ShelfFault::Failed) => Err(Stop::ReadFault),
-        Err(ShelfFault::Memory) => Err(Stop::Memory),
-    }
+    let text = read_program(alloc, name, shelf)?;
+    Ok(run_text(alloc, &text, options)?)
+}
+
+// The answer to the laying out of a file.
+fn format_file<H: Shelf>(alloc: Global, name: &str, shelf: &mut H) -> Result<Answer, Stop>
+    ensures owed { IfOk result (λ a. (text : List ℕ) × HasFile (H.state shelf.old).files name.now text × FormatsTo text a) }
+    ensures read { IsErrOf result Stop.ReadFault → ReadFailed (H.state shelf.old) (H.state shelf.new) name.now }
+    ensures files { KeepsFiles (H.state shelf.old).files (H.state shelf.new).files }
+    ensures later { (H.state shelf.old).faults ≤ (H.state shelf.new).faults }
+{
+    let text = read_program(alloc, name, shelf)?;
+    Ok(format_text(alloc, &text)?)
 }
 
 // The answer to a job that was asked for.
@@ -150,6 +200,7 @@ fn do_job<H: Shelf>(
             }
             run_file(alloc, words[*file as usize].as_str(), options, shelf)
         }
+        Job::Fmt { file } => format_file(alloc, words[*file as usize].as_str(), shelf),
         _ => Ok(bad_word(alloc, 0)?),
     }
 }

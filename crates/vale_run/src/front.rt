@@ -1,24 +1,43 @@
-// From a text to its program.
-ghost use Rattle.std.specs.Prelude.{◌≡◌, ◌≤◌, length, IfOk, IfSome, Some};
-ghost use Rattle.vale_base.specs.Limits.{program_limit};
-ghost use Rattle.vale_run.specs.WellFormed.{WellFormed};
-ghost use Rattle.vale_syntax.specs.declared.program.Program.{Program};
+// From a text to its tree.
+ghost use Rattle.std.specs.Prelude.{◌≡◌, IfOk};
+ghost use Rattle.vale_base.specs.Faults.{IfFault, IsValueUnlessMemory};
+ghost use Rattle.vale_run.specs.Front.{Reads, Refused};
+ghost use Rattle.vale_syntax.specs.Tree as t;
+ghost use Rattle.vale_syntax.specs.View.{view_tree};
 
-use crate::parser::parse;
 use std::alloc::Global;
-use vale_base::{Fail, Memory};
-use vale_lexer::lex;
-use vale_syntax::Program;
+use vale_base::{Fail, PROGRAM_LIMIT, Spot};
+use vale_lexer::{LexFault, lex};
+use vale_parser::{ParseFault, parse};
+use vale_syntax::{Fault, Tree};
 
-/// The program of a text, where the text is well formed.
-pub fn front(alloc: Global, text: &[u8]) -> Result<Option<Program>, Memory>
-    requires { length text.now ≤ program_limit }
-    ensures found { IfOk result (λ o. IfSome o (λ program. WellFormed text.now program)) }
-    ensures complete { (program : Program) → WellFormed text.now program → IfOk result (λ o. o ≡ Some program) }
+const TOO_LONG: Fault = Fault {
+    code: 1,
+    at: Spot { line: 1, col: 1 },
+};
+
+/// The tree that a text is read as, or why it has none (docs/LANGUAGE.md, "Tokens" and "Grammar"). `Fail::Is` comes
+/// where the text is too long, nothing cuts it or its tokens spell no tree, and only there; `Fail::Memory` may always
+/// come.
+pub fn front(alloc: Global, text: &[u8]) -> Result<Tree, Fail<Fault>>
+    // what is answered is read
+    ensures found { IfOk result (λ tree. Reads text.now (view_tree tree)) }
+    // what is read is answered
+    ensures complete { (tree : t.Tree) → Reads text.now tree → IsValueUnlessMemory result (λ x. view_tree x ≡ tree) }
+    // a fault is that of the first phase that can't go on
+    ensures refused { IfFault result (λ f. Refused text.now f.code f.at) }
 {
-    match lex(alloc, text) {
-        Ok(tokens) => parse(alloc, tokens.list.as_slice()),
-        Err(Fail::Is(_fault)) => Ok(None),
-        Err(Fail::Memory) => Err(Memory),
+    if text.len() > PROGRAM_LIMIT {
+        return Err(Fail::Is(TOO_LONG));
+    }
+    let tokens = match lex(alloc, text) {
+        Ok(tokens) => tokens,
+        Err(Fail::Is(LexFault { code, at })) => return Err(Fail::Is(Fault { code, at })),
+        Err(Fail::Memory) => return Err(Fail::Memory),
+    };
+    match parse(alloc, &tokens) {
+        Ok(tree) => Ok(tree),
+        Err(Fail::Is(ParseFault { code, at })) => Err(Fail::Is(Fault { code, at })),
+        Err(Fail::Memory) => Err(Fail::Memory),
     }
 }

@@ -5,7 +5,7 @@ mod answer;
 mod code;
 mod deliver;
 mod front;
-mod parser;
+mod served;
 mod top;
 
 pub use answer::Answer;

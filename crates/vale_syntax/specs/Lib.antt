@@ -12,7 +12,6 @@ pub mod Reach
 pub mod Returns
 pub mod Round
 pub mod Sites
-pub mod Sums
 pub mod Takes
 pub mod Tree
 pub mod Typed
