@@ -44,6 +44,13 @@ impl Values {
         Values { values }
     }
 
+    /// The values.
+    pub fn as_slice(&self) -> &[Named]
+        ensures { result.now ≡ self.now }
+    {
+        &self.values
+    }
+
     /// The list of the values.
     pub fn into_vec(self) -> Vec<Named>
         ensures { result.items ≡ self }

@@ -49,7 +49,8 @@ fn cells_of(alloc: Global, places: &[Place], values: Values) -> Result<Cells, Me
 impl Session {
     /// A session with an empty heap.
     pub fn open(alloc: Global, frames: u32, depth: u32, first: u64) -> Result<Session, Memory>
-        ensures { IfOk result (λ session. IsTied session.heap session.table session.places.items (record { world = []; regions = 1 })) }
+        ensures tied { IfOk result (λ session. IsTied session.heap session.table session.places.items (record { world = []; regions = 1 })) }
+        ensures depth { IfOk result (λ session. session.heap.depth ≡ depth) }
     {
         Ok(Session {
             heap: Heap::open(alloc, frames, depth)?,
@@ -133,7 +134,8 @@ impl Session {
     /// object that is made gets the next name, and no name comes back.
     pub fn run(&mut self, alloc: Global, calls: Vec<Call>) -> Result<Vec<Reply>, Memory>
         requires { CanCallAll self.old.heap self.old.table self.old.places.items calls.items }
-        ensures { IfOk result (λ replies. FollowAll self.old.heap self.new.heap self.old.table self.new.table self.old.places.items self.new.places.items calls.items replies.items) }
+        ensures follows { IfOk result (λ replies. FollowAll self.old.heap self.new.heap self.old.table self.new.table self.old.places.items self.new.places.items calls.items replies.items) }
+        ensures depth { self.new.heap.depth ≡ self.old.heap.depth }
     {
         let mut replies = Vec::new(alloc);
         for call in calls {
