@@ -1,4 +1,4 @@
-mod Fixed
+pub mod Fixed
 mod Lexemes
 mod NamedTrees
 mod Rendered

@@ -1,4 +1,5 @@
 pub mod CodeMeaning
+pub mod FormattedAgain
 pub mod Jobs
 pub mod Owed
 pub mod ServedLaws

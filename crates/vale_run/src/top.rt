@@ -1,5 +1,6 @@
 // The top call.
 ghost use Rattle.std.specs.Prelude.{◌≡◌};
+ghost use Rattle.vale_run.specs.Formatted.{StaysFormatted};
 ghost use Rattle.vale_run.specs.Headline.{Answers};
 ghost use Rattle.vale_run.specs.Owed.{MayTakeInput};
 ghost use Rattle.vale_words.specs.Words.{texts};
@@ -17,6 +18,7 @@ const WANT_OF_MEMORY: u8 = 8;
 /// Does what the words ask for (docs/LANGUAGE.md, "The command line" and "Answers"), with the file from the shelf:
 /// `run FILE` writes what the program in it prints to `out`, `fmt FILE` the program's canonical text, and both to `err`
 /// why it was refused or stopped.
+#[tactic(auto, using(crate::proofs::FormattedAgain::stays_formatted))]
 pub fn valec<R: Threads + Sync, H: Shelf, I: Source, O: Sink, E: Sink, G: Gate + Sync>(
     rt: &R,
     alloc: Global,
@@ -28,6 +30,8 @@ pub fn valec<R: Threads + Sync, H: Shelf, I: Source, O: Sink, E: Sink, G: Gate +
     gate: &G,
 ) -> Status
     ensures headline { Answers (texts words.now) (record { shelf = H.state shelf.old; input = I.state input.old; out = O.state out.old; err = E.state err.old }) (record { shelf = H.state shelf.new; input = I.state input.new; out = O.state out.new; err = E.state err.new }) result.0 }
+    // `fmt` of what `fmt` printed prints the same
+    ensures formatted { StaysFormatted }
     ensures input { (MayTakeInput (texts words.now) (H.state shelf.old) → ⊥) → input.new ≡ input.old }
 {
     match answer_of(alloc, words, shelf) {
