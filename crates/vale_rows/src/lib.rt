@@ -5,6 +5,8 @@
 #[cfg(test)]
 mod lexer_tests;
 #[cfg(test)]
+mod parser_tests;
+#[cfg(test)]
 mod ports_tests;
 #[cfg(test)]
 mod run_tests;
