@@ -1,18 +1,21 @@
-//! The tests of all crates: tables of texts, words and runs with what is expected of them, over the kinds in memory.
+//! The tests of the crates that a program passes: tables of texts, words and runs with what is expected of them, over the
+//! kinds in memory.
 #![tactic(auto)]
 
 #[cfg(test)]
-mod heap_tests;
-mod lent_heap;
+mod declare_tests;
+#[cfg(test)]
+mod format_tests;
 #[cfg(test)]
 mod lexer_tests;
 #[cfg(test)]
+mod parser_tests;
+#[cfg(test)]
 mod ports_tests;
 #[cfg(test)]
-mod run_tests;
+mod reading;
 #[cfg(test)]
-mod table_tests;
-mod team;
+mod run_tests;
 #[cfg(test)]
 mod trap_tests;
 #[cfg(test)]

@@ -1,0 +1,2 @@
+mod CallListLaws
+mod LentHeapLaws

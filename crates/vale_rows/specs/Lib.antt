@@ -1,2 +1,0 @@
-pub mod LentHeap
-pub mod Teams
