@@ -75,7 +75,7 @@ module _ {X E L : Type 0} (turn : Reader (Turn X E)) (more : X → L → L) (end
 
 -- ---- with commas
 
-module _ {X L : Type 0} (item : Reader X) (P : X → Part) (S : List Token → Type 0) (close : Sign) (more : X → L → L) (nil : L) (R R2 : L → Part)
+module _ {X L : Type 0} (item : Reader X) (P : X → Part) (S : List Token → Type 0) (close : Sign) (more : X → L → L) (nil : L) (R Others : L → Part)
     (item_again : Again item P S)
     (shrinks : (x : X) (ts mid : List Token) → P x ts mid → length mid < length ts)
     (no_close : (x : X) (ts mid : List Token) → P x ts mid → begins close ts ≡ false)
@@ -83,10 +83,10 @@ module _ {X L : Type 0} (item : Reader X) (P : X → Part) (S : List Token → T
     (close_follows : (ts rest : List Token) → sign close ts rest → S ts)
     (other : is_sign s.Comma (k.Sign close) ≡ false)
     (none : (ts rest : List Token) → R nil ts rest → ts ≡ rest)
-    (opens : (x : X) (l : L) (ts rest : List Token) → R (more x l) ts rest → (mid : List Token) × P x ts mid × R2 l mid rest)
-    (none2 : (ts rest : List Token) → R2 nil ts rest → ts ≡ rest)
-    (opens2 : (x : X) (l : L) (ts rest : List Token) → R2 (more x l) ts rest → (mid : List Token) × (sign s.Comma ▸ P x) ts mid × R2 l mid rest) where
-  follows : (xs : List X) (ts rest : List Token) → R2 (listed more xs nil) ts rest → Before close rest → S ts
+    (opens : (x : X) (l : L) (ts rest : List Token) → R (more x l) ts rest → (mid : List Token) × P x ts mid × Others l mid rest)
+    (none2 : (ts rest : List Token) → Others nil ts rest → ts ≡ rest)
+    (opens2 : (x : X) (l : L) (ts rest : List Token) → Others (more x l) ts rest → (mid : List Token) × (sign s.Comma ▸ P x) ts mid × Others l mid rest) where
+  follows : (xs : List X) (ts rest : List Token) → Others (listed more xs nil) ts rest → Before close rest → S ts
   follows [] ts rest h b = subst S (sym (none2 ts rest h)) (close_follows rest b.0 b.1)
   follows (x ∷ xs) ts rest h b = let o = opens2 x (listed more xs nil) ts rest h in comma_follows ts o.1.0 o.1.1
 
@@ -98,7 +98,7 @@ module _ {X L : Type 0} (item : Reader X) (P : X → Part) (S : List Token → T
   unfolding comma_turn
   comma_ends ts rest e b = rw (e, begins_other s.Comma close rest b.0 other b.1) refl
 
-  others_again_by : (n : ℕ) (xs : List X) (ts rest : List Token) → length ts < n → R2 (listed more xs nil) ts rest → Before close rest → turns_at (comma_turn item) more (λ _. nil) faulty n ts ≡ Ok (listed more xs nil, rest)
+  others_again_by : (n : ℕ) (xs : List X) (ts rest : List Token) → length ts < n → Others (listed more xs nil) ts rest → Before close rest → turns_at (comma_turn item) more (λ _. nil) faulty n ts ≡ Ok (listed more xs nil, rest)
   unfolding turns_at
   others_again_by zero xs ts rest lt h b = absurd (omega (arith, lt))
   others_again_by (suc n) [] ts rest lt h b = rw (comma_ends ts rest (none2 ts rest h) b) refl

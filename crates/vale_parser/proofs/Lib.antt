@@ -12,3 +12,4 @@ pub mod Built
 pub mod Loops
 pub mod Numbered
 pub mod Answered
+pub mod Heights

@@ -155,14 +155,14 @@ module _ {X : Type 0} (item : Reader X) (P : X → Part) (takes : Takes item P) 
       (λ is e. given e (λ c ec e. given e (λ x ex e. returned (front (by_turn (λ x. sign s.Comma ▸ P x) (λ _. nothing)) ts) (More x.0, x.1) e (c.1, (c.0, sign_takes s.Comma ts c ec), takes c.1 x ex))))
       (λ is e. returned (front (by_turn (λ x. sign s.Comma ▸ P x) (λ _. nothing)) ts) (End tt, ts) e refl)
 
-  -- R is the items, and R2 those after the first
-  module _ {L : Type 0} (more : X → L → L) (nil : L) (R R2 : L → Part)
-      (first : (x : X) (l : L) (ts mid rest : List Token) → P x ts mid → R2 l mid rest → R (more x l) ts rest)
-      (adds : (x : X) (l : L) (ts mid rest : List Token) → (sign s.Comma ▸ P x) ts mid → R2 l mid rest → R2 (more x l) ts rest)
-      (none : (ts : List Token) → R nil ts ts) (none2 : (ts : List Token) → R2 nil ts ts) where
-    pub others_take : Takes (others_at item more nil) R2
-    others_take ts y e = turns_takes (comma_turn item) more (λ _. nil) faulty (λ x. sign s.Comma ▸ P x) (λ _. nothing) R2 comma_turn_takes adds
-        (λ _ ts rest h. subst (λ (r : List Token). R2 nil ts r) h (none2 ts)) (faulty_takes R2) (enough ts) ts y e
+  -- R is the items, and Others those after the first
+  module _ {L : Type 0} (more : X → L → L) (nil : L) (R Others : L → Part)
+      (first : (x : X) (l : L) (ts mid rest : List Token) → P x ts mid → Others l mid rest → R (more x l) ts rest)
+      (adds : (x : X) (l : L) (ts mid rest : List Token) → (sign s.Comma ▸ P x) ts mid → Others l mid rest → Others (more x l) ts rest)
+      (none : (ts : List Token) → R nil ts ts) (none2 : (ts : List Token) → Others nil ts ts) where
+    pub others_take : Takes (others_at item more nil) Others
+    others_take ts y e = turns_takes (comma_turn item) more (λ _. nil) faulty (λ x. sign s.Comma ▸ P x) (λ _. nothing) Others comma_turn_takes adds
+        (λ _ ts rest h. subst (λ (r : List Token). Others nil ts r) h (none2 ts)) (faulty_takes Others) (enough ts) ts y e
 
     pub commas_take : (close : Sign) → Takes (commas_at close item more nil) R
     commas_take close ts y e = fork (begins close ts) _ _ y e

@@ -4,3 +4,4 @@ pub mod ItemReading
 pub mod Gives
 pub mod Seen
 pub mod Refusal
+pub mod Deeper

@@ -9,6 +9,7 @@ ghost use Rattle.vale_parser.specs.Gives.{Gives, turned};
 ghost use Rattle.vale_syntax.specs.declared.token.Sign.TheVariants as s;
 
 use crate::basic::{bang, begins, purity, sign, word};
+use crate::nesting::block;
 use crate::stop::{Stop, Turn};
 use crate::types::Parser;
 use sqlite_items::Items;
@@ -141,7 +142,7 @@ impl Parser<'_> {
         ensures { Gives (λ x. (view_function x.0, x.1.now)) result (i.function_at self.now.names.now depth tokens.now) }
     {
         let (head, rest) = self.head(depth, tokens)?;
-        let (body, rest) = self.block(depth, rest)?;
+        let (body, rest) = block(self, depth, rest)?;
         Ok((Function { head, body }, rest))
     }
 

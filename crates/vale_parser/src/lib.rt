@@ -3,10 +3,15 @@
 
 mod basic;
 mod build;
+mod forms;
 mod items;
+mod level;
 mod lists;
 mod names;
-mod parser;
+mod nesting;
+mod operands;
+mod operators;
+mod statements;
 mod stop;
 mod types;
 mod whole;

@@ -3,8 +3,9 @@
 ghost use Rattle.std.specs.Prelude.{◌≡◌};
 ghost use Rattle.vale_parser.specs.declared.stop.Stop.TheVariants.{Memory};
 
+use sqlite_items::{Boxed, Items};
 use std::alloc::{AllocError, AllocFailed};
-use vale_syntax::Token;
+use vale_syntax::{Expr, Stmt, Token};
 
 /// Why nothing was read. A fault has the tokens from it on.
 #[derive(Drop)]
@@ -15,6 +16,12 @@ pub enum Stop<'t> {
     /// The first of these tokens opens a level too many.
     TooDeep(&'t [Token]),
 }
+
+/// What was read, and the tokens after it.
+pub type Found<'t, X> = Result<(X, &'t [Token]), Stop<'t>>;
+
+/// The statements of a block, and its last expression where there is one.
+pub type Statements = (Items<Stmt>, Option<Boxed<Expr>>);
 
 /// What a turn of a list finds: an item, or the list's end.
 #[derive(Drop)]

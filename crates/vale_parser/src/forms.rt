@@ -1,0 +1,142 @@
+//! Forms, and blocks.
+
+ghost use Rattle.std.specs.Prelude.{◌≡◌, ◌<◌, ◌-◌, map, option_map};
+ghost use Rattle.vale_syntax.specs.View.{elses_of, view_expr, view_form, view_block, view_else_if};
+ghost use Rattle.vale_parser.specs.Reading as r;
+ghost use Rattle.vale_parser.specs.Deeper.{ReadsExprs, ReadsStmts};
+ghost use Rattle.vale_parser.specs.Gives.{Gives, turned};
+
+use crate::basic::{begins, begins_word, sign, word};
+use crate::build::parallel;
+use crate::level::{Level, Rank};
+use crate::stop::{Found, Statements, Stop, Turn};
+use crate::types::Parser;
+use sqlite_items::{Boxed, Items};
+use vale_syntax::{Block, ElseIf, Expr, Form, Sign, Token, TokenKind, Word};
+
+impl<
+    F: for<'t> Fn(&Parser<'_>, usize, Rank, &'t [Token]) -> Found<'t, Expr>,
+    G: for<'t> Fn(&Parser<'_>, usize, &'t [Token]) -> Found<'t, Statements>,
+> Level<'_, F, G> {
+    #[tactic(auto, unfolding(crate::specs::Reading::bound_at))]
+    fn bound<'t>(&self, depth: usize, tokens: &'t [Token]) -> Found<'t, Option<Boxed<Expr>>>
+        requires exprs { ReadsExprs self.now.depth (F.pre self.now.expr) (F.post self.now.expr) }
+        requires fewer { depth < self.now.depth }
+        ensures { Gives (λ x. (option_map view_expr x.0, x.1.now)) result (r.bound_at (r.inner_of self.now.parser.now.names.now (r.within self.now.parser.now.names.now depth)) tokens.now) }
+    {
+        if !begins(Sign::DotDot, tokens) {
+            return Ok((None, tokens));
+        }
+        let (_, rest) = sign(Sign::DotDot, tokens)?;
+        let (to, rest) = self.expr_below(depth, Rank::Whole, rest)?;
+        Ok((Some(Boxed::new(self.parser.alloc, to)?), rest))
+    }
+
+    /// A block.
+    #[tactic(auto, unfolding(crate::specs::Reading::block_at))]
+    pub fn block<'t>(&self, tokens: &'t [Token]) -> Found<'t, Block>
+        requires exprs { ReadsExprs self.now.depth (F.pre self.now.expr) (F.post self.now.expr) }
+        requires stmts { ReadsStmts self.now.depth (G.pre self.now.stmts) (G.post self.now.stmts) }
+        ensures { Gives (λ x. (view_block x.0, x.1.now)) result (r.block_at self.now.parser.now.names.now (r.within self.now.parser.now.names.now self.now.depth) tokens.now) }
+    {
+        let (at, rest) = sign(Sign::OpenBrace, tokens)?;
+        let deeper = self.parser.below(self.depth, tokens)?;
+        let ((stmts, last), rest) = self.stmts_below(deeper, rest)?;
+        let (_, rest) = sign(Sign::CloseBrace, rest)?;
+        Ok((Block::new(at, stmts, last), rest))
+    }
+
+    #[tactic(auto, unfolding(crate::specs::Reading::else_turn))]
+    fn else_if<'t>(&self, tokens: &'t [Token]) -> Found<'t, Turn<ElseIf, Option<Block>>>
+        requires exprs { ReadsExprs self.now.depth (F.pre self.now.expr) (F.post self.now.expr) }
+        requires stmts { ReadsStmts self.now.depth (G.pre self.now.stmts) (G.post self.now.stmts) }
+        ensures { Gives (λ x. (turned view_else_if (option_map view_block) x.0, x.1.now)) result (r.else_turn self.now.parser.now.names.now (r.within self.now.parser.now.names.now self.now.depth) tokens.now) }
+    {
+        if !begins_word(Word::Else, tokens) {
+            return Ok((Turn::End(None), tokens));
+        }
+        let (_, rest) = word(Word::Else, tokens)?;
+        if !begins_word(Word::If, rest) {
+            let (block, rest) = self.block(rest)?;
+            return Ok((Turn::End(Some(block)), rest));
+        }
+        let (at, inner) = word(Word::If, rest)?;
+        let deeper = self.parser.below(self.depth, rest)?;
+        let (condition, rest) = self.expr_below(deeper, Rank::Whole, inner)?;
+        let (block, rest) = self.block(rest)?;
+        Ok((Turn::More(ElseIf::new(at, condition, block)), rest))
+    }
+
+    fn elses<'t>(&self, tokens: &'t [Token]) -> Found<'t, (Items<ElseIf>, Option<Block>)>
+        requires exprs { ReadsExprs self.now.depth (F.pre self.now.expr) (F.post self.now.expr) }
+        requires stmts { ReadsStmts self.now.depth (G.pre self.now.stmts) (G.post self.now.stmts) }
+        ensures { Gives (λ x. (elses_of (map view_else_if x.0.0) (option_map view_block x.0.1), x.1.now)) result (r.elses_at self.now.parser.now.names.now (r.within self.now.parser.now.names.now self.now.depth) tokens.now) }
+    {
+        let mut items = Items::new(self.parser.alloc);
+        let mut rest = tokens;
+        for _ in 0..tokens.len() + 1 {
+            let (turn, after) = self.else_if(rest)?;
+            match turn {
+                Turn::More(item) => {
+                    items.push(item)?;
+                    rest = after;
+                }
+                Turn::End(last) => return Ok(((items, last), after)),
+            }
+        }
+        Err(Stop::Unexpected(rest))
+    }
+
+    #[tactic(auto, unfolding(crate::specs::Reading::branch_at))]
+    fn branch<'t>(&self, tokens: &'t [Token]) -> Found<'t, Form>
+        requires exprs { ReadsExprs self.now.depth (F.pre self.now.expr) (F.post self.now.expr) }
+        requires stmts { ReadsStmts self.now.depth (G.pre self.now.stmts) (G.post self.now.stmts) }
+        ensures { Gives (λ x. (view_form x.0, x.1.now)) result (r.branch_at self.now.parser.now.names.now (r.within self.now.parser.now.names.now self.now.depth) tokens.now) }
+    {
+        let (at, rest) = word(Word::If, tokens)?;
+        let deeper = self.parser.below(self.depth, tokens)?;
+        let (condition, rest) = self.expr_below(deeper, Rank::Whole, rest)?;
+        let (block, rest) = self.block(rest)?;
+        let ((else_ifs, last), rest) = self.elses(rest)?;
+        Ok((Form::branch(at, condition, block, else_ifs, last), rest))
+    }
+
+    #[tactic(auto, unfolding(crate::specs::Reading::parallel_at))]
+    fn parallel<'t>(&self, tokens: &'t [Token]) -> Found<'t, Form>
+        requires exprs { ReadsExprs self.now.depth (F.pre self.now.expr) (F.post self.now.expr) }
+        requires stmts { ReadsStmts self.now.depth (G.pre self.now.stmts) (G.post self.now.stmts) }
+        ensures { Gives (λ x. (view_form x.0, x.1.now)) result (r.parallel_at self.now.parser.now.names.now (r.within self.now.parser.now.names.now self.now.depth) tokens.now) }
+    {
+        let (at, rest) = word(Word::Parallel, tokens)?;
+        let deeper = self.parser.below(self.depth, tokens)?;
+        let (_, rest) = word(Word::Foreach, rest)?;
+        let (name, rest) = self.parser.name(rest)?;
+        let (_, rest) = word(Word::In, rest)?;
+        let (over, rest) = self.expr_below(deeper, Rank::Whole, rest)?;
+        let (to, rest) = self.bound(deeper, rest)?;
+        let (block, rest) = self.block(rest)?;
+        Ok((parallel(at, name, over, to, block), rest))
+    }
+
+    /// A form.
+    #[tactic(auto, unfolding(crate::specs::Reading::form_at))]
+    pub fn form<'t>(&self, tokens: &'t [Token]) -> Found<'t, Form>
+        requires exprs { ReadsExprs self.now.depth (F.pre self.now.expr) (F.post self.now.expr) }
+        requires stmts { ReadsStmts self.now.depth (G.pre self.now.stmts) (G.post self.now.stmts) }
+        ensures { Gives (λ x. (view_form x.0, x.1.now)) result (r.form_at self.now.parser.now.names.now (r.within self.now.parser.now.names.now self.now.depth) tokens.now) }
+    {
+        let [first, ..] = tokens else {
+            return Err(Stop::Unexpected(tokens));
+        };
+        match &first.kind {
+            TokenKind::Word(Word::If) => self.branch(tokens),
+            TokenKind::Word(Word::Pure) => {
+                let (at, rest) = word(Word::Pure, tokens)?;
+                let (block, rest) = self.block(rest)?;
+                Ok((Form::pure(at, block), rest))
+            }
+            TokenKind::Word(Word::Parallel) => self.parallel(tokens),
+            _ => Err(Stop::Unexpected(tokens)),
+        }
+    }
+}

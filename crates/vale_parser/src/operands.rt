@@ -1,0 +1,248 @@
+//! Operands, and the steps after them.
+
+ghost use Rattle.std.specs.Prelude.{◌≡◌, ◌<◌, ◌-◌, map};
+ghost use Rattle.vale_syntax.specs.Tree as t;
+ghost use Rattle.vale_syntax.specs.View.{listed, exprs_of, steps_of, view_expr, view_step};
+ghost use Rattle.vale_parser.specs.Steps.{with_front};
+ghost use Rattle.vale_parser.specs.Reading as r;
+ghost use Rattle.vale_parser.specs.Deeper.{ReadsExprs, ReadsStmts};
+ghost use Rattle.vale_parser.specs.Gives.{Gives, turned};
+
+use crate::basic::{begins, sign, word};
+use crate::build::stepped;
+use crate::level::{Level, Rank};
+use crate::stop::{Found, Statements, Stop, Turn};
+use crate::types::Parser;
+use sqlite_items::Items;
+use vale_base::Text;
+use vale_syntax::{Expr, Sign, Step, Token, TokenKind, Word};
+
+impl<
+    F: for<'t> Fn(&Parser<'_>, usize, Rank, &'t [Token]) -> Found<'t, Expr>,
+    G: for<'t> Fn(&Parser<'_>, usize, &'t [Token]) -> Found<'t, Statements>,
+> Level<'_, F, G> {
+    #[tactic(auto, unfolding(crate::specs::Reading::comma_turn))]
+    fn another<'t>(&self, depth: usize, tokens: &'t [Token]) -> Found<'t, Turn<Expr, ()>>
+        requires exprs { ReadsExprs self.now.depth (F.pre self.now.expr) (F.post self.now.expr) }
+        requires fewer { depth < self.now.depth }
+        ensures { Gives (λ x. (turned view_expr (λ e. e) x.0, x.1.now)) result (r.comma_turn (r.whole_at self.now.parser.now.names.now (r.within self.now.parser.now.names.now depth)) tokens.now) }
+    {
+        if !begins(Sign::Comma, tokens) {
+            return Ok((Turn::End(()), tokens));
+        }
+        let (_, rest) = sign(Sign::Comma, tokens)?;
+        let (arg, rest) = self.expr_below(depth, Rank::Whole, rest)?;
+        Ok((Turn::More(arg), rest))
+    }
+
+    /// The arguments after these.
+    fn more_args<'t>(
+        &self,
+        depth: usize,
+        args: Items<Expr>,
+        tokens: &'t [Token],
+    ) -> Found<'t, Items<Expr>>
+        requires exprs { ReadsExprs self.now.depth (F.pre self.now.expr) (F.post self.now.expr) }
+        requires fewer { depth < self.now.depth }
+        ensures { Gives (λ x. (exprs_of (map view_expr x.0), x.1.now)) result (with_front (listed t.more_exprs (map view_expr args)) (r.others_at (r.whole_at self.now.parser.now.names.now (r.within self.now.parser.now.names.now depth)) t.more_exprs t.no_exprs tokens.now)) }
+    {
+        let mut items = args;
+        let mut rest = tokens;
+        for _ in 0..tokens.len() + 1 {
+            let (turn, after) = self.another(depth, rest)?;
+            match turn {
+                Turn::More(item) => {
+                    items.push(item)?;
+                    rest = after;
+                }
+                Turn::End(()) => return Ok((items, after)),
+            }
+        }
+        Err(Stop::Unexpected(rest))
+    }
+
+    #[tactic(auto, unfolding(crate::specs::Reading::args_at))]
+    fn args<'t>(&self, depth: usize, tokens: &'t [Token]) -> Found<'t, Items<Expr>>
+        requires exprs { ReadsExprs self.now.depth (F.pre self.now.expr) (F.post self.now.expr) }
+        requires fewer { depth < self.now.depth }
+        ensures { Gives (λ x. (exprs_of (map view_expr x.0), x.1.now)) result (r.args_at self.now.parser.now.names.now (r.within self.now.parser.now.names.now depth) tokens.now) }
+    {
+        let mut args = Items::new(self.parser.alloc);
+        if begins(Sign::CloseParen, tokens) {
+            return Ok((args, tokens));
+        }
+        let (first, rest) = self.expr_below(depth, Rank::Whole, tokens)?;
+        args.push(first)?;
+        self.more_args(depth, args, rest)
+    }
+
+    /// Arguments with their parentheses.
+    #[tactic(auto, unfolding(crate::specs::Reading::arguments_at))]
+    fn arguments<'t>(&self, tokens: &'t [Token]) -> Found<'t, Items<Expr>>
+        requires exprs { ReadsExprs self.now.depth (F.pre self.now.expr) (F.post self.now.expr) }
+        requires stmts { ReadsStmts self.now.depth (G.pre self.now.stmts) (G.post self.now.stmts) }
+        ensures { Gives (λ x. (exprs_of (map view_expr x.0), x.1.now)) result (r.arguments_at self.now.parser.now.names.now (r.within self.now.parser.now.names.now self.now.depth) tokens.now) }
+    {
+        let (_, rest) = sign(Sign::OpenParen, tokens)?;
+        let deeper = self.parser.below(self.depth, tokens)?;
+        let (args, rest) = self.args(deeper, rest)?;
+        let (_, rest) = sign(Sign::CloseParen, rest)?;
+        Ok((args, rest))
+    }
+
+    /// A name, and its arguments where it is called.
+    #[tactic(auto, unfolding(crate::specs::Reading::called_at))]
+    fn called<'t>(&self, tokens: &'t [Token]) -> Found<'t, Expr>
+        requires exprs { ReadsExprs self.now.depth (F.pre self.now.expr) (F.post self.now.expr) }
+        requires stmts { ReadsStmts self.now.depth (G.pre self.now.stmts) (G.post self.now.stmts) }
+        ensures { Gives (λ x. (view_expr x.0, x.1.now)) result (r.called_at self.now.parser.now.names.now (r.within self.now.parser.now.names.now self.now.depth) tokens.now) }
+    {
+        let (name, rest) = self.parser.name(tokens)?;
+        if !begins(Sign::OpenParen, rest) {
+            return Ok((Expr::name(name), rest));
+        }
+        let (args, rest) = self.arguments(rest)?;
+        Ok((Expr::call(name, args), rest))
+    }
+
+    #[tactic(auto, unfolding(crate::specs::Reading::paren_at))]
+    fn paren<'t>(&self, tokens: &'t [Token]) -> Found<'t, Expr>
+        requires exprs { ReadsExprs self.now.depth (F.pre self.now.expr) (F.post self.now.expr) }
+        requires stmts { ReadsStmts self.now.depth (G.pre self.now.stmts) (G.post self.now.stmts) }
+        ensures { Gives (λ x. (view_expr x.0, x.1.now)) result (r.paren_at self.now.parser.now.names.now (r.within self.now.parser.now.names.now self.now.depth) tokens.now) }
+    {
+        let (at, rest) = sign(Sign::OpenParen, tokens)?;
+        let deeper = self.parser.below(self.depth, tokens)?;
+        let (inner, rest) = self.expr_below(deeper, Rank::Whole, rest)?;
+        let (_, rest) = sign(Sign::CloseParen, rest)?;
+        Ok((Expr::paren(self.parser.alloc, at, inner)?, rest))
+    }
+
+    #[tactic(auto, unfolding(crate::specs::Reading::array_at))]
+    fn array<'t>(&self, tokens: &'t [Token]) -> Found<'t, Expr>
+        requires exprs { ReadsExprs self.now.depth (F.pre self.now.expr) (F.post self.now.expr) }
+        requires stmts { ReadsStmts self.now.depth (G.pre self.now.stmts) (G.post self.now.stmts) }
+        ensures { Gives (λ x. (view_expr x.0, x.1.now)) result (r.array_at self.now.parser.now.names.now (r.within self.now.parser.now.names.now self.now.depth) tokens.now) }
+    {
+        let (at, rest) = sign(Sign::OpenBracket, tokens)?;
+        let deeper = self.parser.below(self.depth, tokens)?;
+        let (_, rest) = sign(Sign::CloseBracket, rest)?;
+        let (element, rest) = self.parser.type_expr(deeper, rest)?;
+        let (args, rest) = self.arguments(rest)?;
+        Ok((Expr::array(at, element, args), rest))
+    }
+
+    fn iso<'t>(&self, tokens: &'t [Token]) -> Found<'t, Expr>
+        requires exprs { ReadsExprs self.now.depth (F.pre self.now.expr) (F.post self.now.expr) }
+        requires stmts { ReadsStmts self.now.depth (G.pre self.now.stmts) (G.post self.now.stmts) }
+        ensures { Gives (λ x. (view_expr x.0, x.1.now)) result (r.iso_at self.now.parser.now.names.now (r.within self.now.parser.now.names.now self.now.depth) tokens.now) }
+    {
+        let (at, rest) = word(Word::Iso, tokens)?;
+        let (block, rest) = self.block(rest)?;
+        Ok((Expr::iso(at, block), rest))
+    }
+
+    #[tactic(auto, unfolding(crate::specs::Reading::primary_at))]
+    fn primary<'t>(&self, tokens: &'t [Token]) -> Found<'t, Expr>
+        requires exprs { ReadsExprs self.now.depth (F.pre self.now.expr) (F.post self.now.expr) }
+        requires stmts { ReadsStmts self.now.depth (G.pre self.now.stmts) (G.post self.now.stmts) }
+        ensures { Gives (λ x. (view_expr x.0, x.1.now)) result (r.primary_at self.now.parser.now.names.now (r.within self.now.parser.now.names.now self.now.depth) tokens.now) }
+    {
+        let [first, rest @ ..] = tokens else {
+            return Err(Stop::Unexpected(tokens));
+        };
+        let at = first.at;
+        match &first.kind {
+            TokenKind::Number(value) => Ok((Expr::number(at, *value), rest)),
+            TokenKind::Quote(text) => {
+                let text = Text::from_slice(self.parser.alloc, text.as_slice())?;
+                Ok((Expr::quote(at, text), rest))
+            }
+            TokenKind::Word(Word::True) => Ok((Expr::truth(at, true), rest)),
+            TokenKind::Word(Word::False) => Ok((Expr::truth(at, false), rest)),
+            TokenKind::Name(_) => self.called(tokens),
+            TokenKind::Sign(Sign::OpenParen) => self.paren(tokens),
+            TokenKind::Sign(Sign::OpenBracket) => self.array(tokens),
+            TokenKind::Word(Word::Iso) => self.iso(tokens),
+            _ => {
+                let (form, rest) = self.form(tokens)?;
+                Ok((Expr::form(self.parser.alloc, form)?, rest))
+            }
+        }
+    }
+
+    #[tactic(auto, unfolding(crate::specs::Reading::member_at))]
+    fn member<'t>(&self, tokens: &'t [Token]) -> Found<'t, Turn<Step, ()>>
+        requires exprs { ReadsExprs self.now.depth (F.pre self.now.expr) (F.post self.now.expr) }
+        requires stmts { ReadsStmts self.now.depth (G.pre self.now.stmts) (G.post self.now.stmts) }
+        ensures { Gives (λ x. (turned view_step (λ e. e) x.0, x.1.now)) result (r.member_at self.now.parser.now.names.now (r.within self.now.parser.now.names.now self.now.depth) tokens.now) }
+    {
+        let (at, rest) = sign(Sign::Dot, tokens)?;
+        let (name, rest) = self.parser.name(rest)?;
+        if !begins(Sign::OpenParen, rest) {
+            return Ok((Turn::More(Step::field(at, name.name)), rest));
+        }
+        let (args, rest) = self.arguments(rest)?;
+        Ok((Turn::More(Step::method(at, name.name, args)), rest))
+    }
+
+    #[tactic(auto, unfolding(crate::specs::Reading::index_at))]
+    fn index<'t>(&self, tokens: &'t [Token]) -> Found<'t, Turn<Step, ()>>
+        requires exprs { ReadsExprs self.now.depth (F.pre self.now.expr) (F.post self.now.expr) }
+        requires stmts { ReadsStmts self.now.depth (G.pre self.now.stmts) (G.post self.now.stmts) }
+        ensures { Gives (λ x. (turned view_step (λ e. e) x.0, x.1.now)) result (r.index_at self.now.parser.now.names.now (r.within self.now.parser.now.names.now self.now.depth) tokens.now) }
+    {
+        let (at, rest) = sign(Sign::OpenBracket, tokens)?;
+        let deeper = self.parser.below(self.depth, tokens)?;
+        let (index, rest) = self.expr_below(deeper, Rank::Whole, rest)?;
+        let (_, rest) = sign(Sign::CloseBracket, rest)?;
+        Ok((Turn::More(Step::index(at, index)), rest))
+    }
+
+    #[tactic(auto, unfolding(crate::specs::Reading::step_turn))]
+    fn step<'t>(&self, tokens: &'t [Token]) -> Found<'t, Turn<Step, ()>>
+        requires exprs { ReadsExprs self.now.depth (F.pre self.now.expr) (F.post self.now.expr) }
+        requires stmts { ReadsStmts self.now.depth (G.pre self.now.stmts) (G.post self.now.stmts) }
+        ensures { Gives (λ x. (turned view_step (λ e. e) x.0, x.1.now)) result (r.step_turn self.now.parser.now.names.now (r.within self.now.parser.now.names.now self.now.depth) tokens.now) }
+    {
+        let [first, ..] = tokens else {
+            return Ok((Turn::End(()), tokens));
+        };
+        match &first.kind {
+            TokenKind::Sign(Sign::Dot) => self.member(tokens),
+            TokenKind::Sign(Sign::OpenBracket) => self.index(tokens),
+            _ => Ok((Turn::End(()), tokens)),
+        }
+    }
+
+    fn steps<'t>(&self, tokens: &'t [Token]) -> Found<'t, Items<Step>>
+        requires exprs { ReadsExprs self.now.depth (F.pre self.now.expr) (F.post self.now.expr) }
+        requires stmts { ReadsStmts self.now.depth (G.pre self.now.stmts) (G.post self.now.stmts) }
+        ensures { Gives (λ x. (steps_of (map view_step x.0), x.1.now)) result (r.steps_at self.now.parser.now.names.now (r.within self.now.parser.now.names.now self.now.depth) tokens.now) }
+    {
+        let mut items = Items::new(self.parser.alloc);
+        let mut rest = tokens;
+        for _ in 0..tokens.len() + 1 {
+            let (turn, after) = self.step(rest)?;
+            match turn {
+                Turn::More(item) => {
+                    items.push(item)?;
+                    rest = after;
+                }
+                Turn::End(()) => return Ok((items, after)),
+            }
+        }
+        Err(Stop::Unexpected(rest))
+    }
+
+    #[tactic(auto, unfolding(crate::specs::Reading::postfix_at))]
+    pub fn postfix<'t>(&self, tokens: &'t [Token]) -> Found<'t, Expr>
+        requires exprs { ReadsExprs self.now.depth (F.pre self.now.expr) (F.post self.now.expr) }
+        requires stmts { ReadsStmts self.now.depth (G.pre self.now.stmts) (G.post self.now.stmts) }
+        ensures { Gives (λ x. (view_expr x.0, x.1.now)) result (r.postfix_at self.now.parser.now.names.now (r.within self.now.parser.now.names.now self.now.depth) tokens.now) }
+    {
+        let (base, rest) = self.primary(tokens)?;
+        let (steps, rest) = self.steps(rest)?;
+        Ok((stepped(self.parser.alloc, base, steps)?, rest))
+    }
+}
