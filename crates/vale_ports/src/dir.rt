@@ -17,11 +17,14 @@ pub struct DirShelf<R: Files + Drop> {
 }
 
 impl<R: Files + Drop> DirShelf<R> {
-    ghost use Rattle.std.specs.Prelude.{◌≡◌, IfOk};
+    ghost use Rattle.std.specs.Prelude.{◌≡◌, IfOk, None};
     ghost use Rattle.vale_ports.specs.Shelf.{HasShelfCause, untold};
 
     /// The shelf of the current folder.
-    pub fn new(rt: R) -> Self {
+    pub fn new(rt: R) -> Self
+        ensures faults { result.faults ≡ 0 }
+        ensures last { result.last_fault ≡ None }
+    {
         DirShelf {
             rt,
             faults: 0,

@@ -1,5 +1,5 @@
 // Kinds in memory that fail at the calls that a list names.
-ghost use Rattle.std.specs.Prelude.{◌≡◌, ◌<◌, ◌≤◌, [], Some};
+ghost use Rattle.std.specs.Prelude.{◌≡◌, ◌<◌, ◌≤◌, [], None, Some};
 ghost use Rattle.vale_ports.specs.Faults.{Rose};
 
 use crate::files::first;
@@ -21,7 +21,11 @@ pub struct MemShelf<'a> {
 impl<'a> MemShelf<'a> {
     /// A shelf with these files.
     pub fn new(files: FileList, failing: &'a [u64]) -> Self
-        ensures { result.files ≡ files }
+        ensures files { result.files ≡ files }
+        ensures failing { result.failing.now ≡ failing.now }
+        ensures calls { result.calls ≡ 0 }
+        ensures faults { result.faults ≡ 0 }
+        ensures last { result.last_fault ≡ None }
     {
         MemShelf {
             files,
@@ -102,7 +106,11 @@ impl<'a> MemSink<'a> {
     /// A sink to which nothing was written yet.
     pub fn new(alloc: Global, most: usize, failing: &'a [u64]) -> Self
         requires { 0 < most }
-        ensures { result.bytes.items ≡ [] }
+        ensures bytes { result.bytes.items ≡ [] }
+        ensures most { result.most ≡ most }
+        ensures failing { result.failing.now ≡ failing.now }
+        ensures calls { result.calls ≡ 0 }
+        ensures faults { result.faults ≡ 0 }
     {
         MemSink {
             bytes: Vec::new(alloc),
