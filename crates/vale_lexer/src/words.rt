@@ -84,6 +84,7 @@ fn is_same(text: &[u8], name: &[u8]) -> bool
 }
 
 // The word that a name is, if it isn't too short or too long for one.
+#[tactic(auto, using(crate::proofs::WordLemmas::no_short, crate::proofs::WordLemmas::no_long))]
 fn word_of(name: &[u8]) -> Option<Word>
     ensures { result ≡ word_of name.now }
 {
