@@ -1,5 +1,6 @@
 -- A name is a word exactly where it is that word's text.
-use Rattle.std.proofs.Common.{◌≡◌, ℕ, Bool, true, false, cond, List, [], ◌∷◌, Option, None, Some, refl, sym, ap, ◌∙◌}
+use Rattle.std.proofs.Common.{◌≡◌, ◌≢◌, ℕ, ◌<◌, ◌≤◌, Bool, true, false, cond, List, [], ◌∷◌, length, Option, None, Some, refl, sym, ap, ◌∙◌, inl, inr, arith}
+use Rattle.std.proofs.lemmas.Bool.{cases_Bool}
 use Rattle.std.specs.List.{find}
 use Rattle.std.specs.Str.{bytes_eq}
 use Rattle.std.proofs.lemmas.Slice.Eq.{bytes_eq-Decides}
@@ -42,3 +43,21 @@ by_none name h (Some x) e = absurd (h x (word_found name x e))
 
 pub no_word : (name : List ℕ) → ((x : Word) → name ≡ word_text x → ⊥) → word_of name ≡ None
 no_word name h = by_none name h (word_of name) refl
+
+-- ---- lengths
+
+pub unlike : (text name : List ℕ) → length text ≢ length name → false ≡ bytes_eq text name
+unlike text name apart = elim (cases_Bool (bytes_eq text name)) [
+  | inl e ↦ absurd (apart (ap length ((bytes_eq-Decides text name).0 e)))
+  | inr e ↦ sym e
+]
+
+word_length : (x : Word) → (2 ≤ length (word_text x)) × (length (word_text x) ≤ 9)
+word_length w.Func = (omega arith, omega arith)
+word_length x = (omega arith, omega arith)
+
+pub no_short : (name : List ℕ) → length name < 2 → word_of name ≡ None
+no_short name h = no_word name (λ x e. let long = (word_length x).0 in absurd (omega (arith, h, long, ap length e)))
+
+pub no_long : (name : List ℕ) → 9 < length name → word_of name ≡ None
+no_long name h = no_word name (λ x e. let short = (word_length x).1 in absurd (omega (arith, h, short, ap length e)))

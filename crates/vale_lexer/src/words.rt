@@ -1,11 +1,17 @@
 // The words, and the names that are none.
 ghost use Rattle.std.specs.Prelude.{◌≡◌, IfOk};
+ghost use Rattle.std.specs.Str.{bytes_eq};
 ghost use Rattle.vale_syntax.specs.Bytes.{word_text};
 ghost use Rattle.vale_lexer.specs.Next.{word_of, name_kind};
 
 use std::alloc::Global;
 use vale_base::{Memory, Text};
 use vale_syntax::{TokenKind, Word};
+
+// How many bytes the shortest words have, and the longest.
+const SHORTEST: usize = 2;
+
+const LONGEST: usize = 9;
 
 const WORDS: [Word; 25] = [
     Word::Func,
@@ -67,11 +73,38 @@ fn text_of(word: Word) -> &'static [u8]
     }
 }
 
-#[tactic(auto, unfolding(crate::specs::Next::word_of))]
+// Whether the texts are the same. Two lengths are compared faster than two texts.
+fn is_same(text: &[u8], name: &[u8]) -> bool
+    ensures { result ≡ bytes_eq text.now name.now }
+{
+    if text.len() != name.len() {
+        return false;
+    }
+    text == name
+}
+
+// The word that a name is, if it isn't too short or too long for one.
+#[tactic(auto, using(crate::proofs::WordLemmas::no_short, crate::proofs::WordLemmas::no_long))]
 fn word_of(name: &[u8]) -> Option<Word>
     ensures { result ≡ word_of name.now }
 {
-    WORDS.iter().copied().find(|word| text_of(*word) == name)
+    if name.len() < SHORTEST {
+        return None;
+    }
+    if name.len() > LONGEST {
+        return None;
+    }
+    find_word(name)
+}
+
+#[tactic(auto, unfolding(crate::specs::Next::word_of))]
+fn find_word(name: &[u8]) -> Option<Word>
+    ensures { result ≡ word_of name.now }
+{
+    WORDS
+        .iter()
+        .copied()
+        .find(|word| is_same(text_of(*word), name))
 }
 
 /// The word that a name is, or the name.
