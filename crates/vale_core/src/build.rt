@@ -57,7 +57,13 @@ impl Ty {
 impl Expr {
     /// `set p = e`.
     #[tactic(auto, using(crate::proofs::ViewLaws::of_expr, crate::proofs::ViewLaws::of_set))]
-    pub fn set(alloc: Global, seen: Seen, at: Spot, place: Expr, value: Expr) -> Result<Self, Memory>
+    pub fn set(
+        alloc: Global,
+        seen: Seen,
+        at: Spot,
+        place: Expr,
+        value: Expr,
+    ) -> Result<Self, Memory>
         ensures { IfOk result (λ e. view_expr e ≡ t.expr (view_seen seen) (t.set at (view_expr place) (view_expr value))) }
     {
         let place = Boxed::new(alloc, place)?;
@@ -75,7 +81,13 @@ impl Expr {
     }
 
     #[tactic(auto, using(crate::proofs::ViewLaws::of_expr, crate::proofs::ViewLaws::of_unary))]
-    pub fn unary(alloc: Global, seen: Seen, at: Spot, op: UnaryOp, operand: Expr) -> Result<Self, Memory>
+    pub fn unary(
+        alloc: Global,
+        seen: Seen,
+        at: Spot,
+        op: UnaryOp,
+        operand: Expr,
+    ) -> Result<Self, Memory>
         ensures { IfOk result (λ e. view_expr e ≡ t.expr (view_seen seen) (t.unary at op (view_expr operand))) }
     {
         let node = Node::Unary(at, op, Boxed::new(alloc, operand)?);

@@ -7,7 +7,5 @@ mod tree;
 mod ty;
 
 pub use seen::{Seen, View};
-pub use tree::{
-    Block, Callee, Core, ElseIf, Expr, Form, Function, Item, Link, Node, Step, Stmt,
-};
+pub use tree::{Block, Callee, Core, ElseIf, Expr, Form, Function, Item, Link, Node, Step, Stmt};
 pub use ty::Ty;

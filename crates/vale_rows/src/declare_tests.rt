@@ -25,14 +25,29 @@ fn fault_of(alloc: Global, text: &[u8]) -> Result<(u8, u32, u32), Fail> {
 // Texts with the code, line and column of their fault.
 const TEXTS: [(&str, u8, u32, u32); 14] = [
     ("func main() { }", 0, 0, 0),
-    ("struct S { a! int; } func f(s &S) []S { } func main(input []int) { }", 0, 0, 0),
-    ("func drop(self S) { } func drop(self B) { } struct S { } struct B { } func main() { }", 0, 0, 0),
+    (
+        "struct S { a! int; } func f(s &S) []S { } func main(input []int) { }",
+        0,
+        0,
+        0,
+    ),
+    (
+        "func drop(self S) { } func drop(self B) { } struct S { } struct B { } func main() { }",
+        0,
+        0,
+        0,
+    ),
     ("", 13, 1, 1),
     ("struct A { } struct A { } func main() { }", 10, 1, 21),
     ("func len() { } func main() { }", 10, 1, 6),
     ("func f(x Foo) { } func main() { }", 11, 1, 10),
     ("pure func main() { }", 13, 1, 11),
-    ("func f(x iso []iso S) { } struct S { } func main() { }", 14, 1, 10),
+    (
+        "func f(x iso []iso S) { } struct S { } func main() { }",
+        14,
+        1,
+        10,
+    ),
     ("func drop(x int) { } func main() { }", 15, 1, 6),
     ("struct S { a &imm S; } func main() { }", 16, 1, 14),
     ("func main() { x = []&int(); }", 16, 1, 21),

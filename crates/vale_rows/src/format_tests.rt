@@ -29,7 +29,10 @@ const CANONICAL: &str = "func main() {\n  if true {\n    println(1 + 2);\n  }\n}
 fn a_text_is_formatted_once(rt: HostRuntime) -> Result<(), Fail> {
     for text in ["func main(){if true{println( 1+2 );}}", CANONICAL] {
         let found = formatted(rt.alloc(), text.as_bytes())?;
-        assert!(rt; matches!(found, Ok(bytes) if bytes.as_slice() == CANONICAL.as_bytes()), "{text}");
+        assert!(rt;
+            matches!(found, Ok(bytes) if bytes.as_slice() == CANONICAL.as_bytes()),
+            "{text}"
+        );
     }
     Ok(())
 }

@@ -1,5 +1,5 @@
 -- What the canonical text of a tree says: it is read back as the same tree.
-use Rattle.std.specs.Prelude.{◌≡◌, List}
+use Rattle.std.specs.Prelude.{◌≡◌}
 use Rattle.vale_syntax.specs.declared.token.Tokens.{Tokens}
 use Rattle.vale_syntax.specs.Canon.{canon}
 use Rattle.vale_syntax.specs.Cut.{cut}

@@ -1,7 +1,6 @@
 -- The sites of a typed tree: where the object that a part works on is asked for being alive. They are each method call, each
 -- `len` of an array, each `push` and `pop`, and each field and element step whose base isn't seen directly.
-use Rattle.std.specs.Prelude.{ℕ, ◌+◌, Bool, true, false, List, [], ◌∷◌}
-use Rattle.vale_syntax.specs.declared.built_in.BuiltIn.{BuiltIn}
+use Rattle.std.specs.Prelude.{ℕ, ◌+◌, List, [], ◌∷◌}
 use Rattle.vale_syntax.specs.declared.built_in.BuiltIn.TheVariants.{Len, Push, Pop}
 use Rattle.vale_syntax.specs.Types.{Ty, str, View, direct}
 use Rattle.vale_syntax.specs.Typed.{Callee, built_in, Expr, expr, Node, set, chain, unary, steps, number, quote, truth, name, call, paren, array, iso, form, Exprs, no_exprs, more_exprs, Link, link, Links, no_links, more_links, Step, field, method, index, Steps, no_steps, more_steps, Form, branch, pure, parallel_range, parallel_each, ElseIf, else_if, Elses, no_else, otherwise, more_elses, Block, block, Stmt, declare, destructure, return_nothing, return_value, while, foreach, form_stmt, express, Stmts, no_stmts, last, more_stmts, Function, function_body, Item, impl_item, function_item, Typed, typed, types}

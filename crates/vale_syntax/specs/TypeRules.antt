@@ -1,7 +1,7 @@
 -- The rules of types: a row for each kind of node, its rules in rising order of their codes (docs/LANGUAGE.md, "Types").
 --
 -- A rule that presupposes another of its row isn't asked where that one is broken.
-use Rattle.std.specs.Prelude.{ℕ, Bool, true, false, not, ◌||◌, ◌&&◌, ◌==◌, List, [], ◌∷◌, map, length, Option, Some, None, is_some, is_none, codes, if◌then◌else◌}
+use Rattle.std.specs.Prelude.{ℕ, Bool, true, false, not, ◌||◌, ◌&&◌, ◌==◌, List, [], ◌∷◌, map, length, Option, Some, None, is_some, codes, if◌then◌else◌}
 use Rattle.std.specs.List.{list_all}
 use Rattle.std.specs.Option.{option_and_then, option_map_or}
 use Rattle.vale_syntax.specs.declared.built_in.BuiltIn.{BuiltIn}
@@ -11,10 +11,10 @@ use Rattle.vale_syntax.specs.declared.tree.BinaryOp.{BinaryOp}
 use Rattle.vale_syntax.specs.declared.tree.BinaryOp.TheVariants as o
 use Rattle.vale_syntax.specs.declared.tree.UnaryOp.{UnaryOp}
 use Rattle.vale_syntax.specs.declared.tree.UnaryOp.TheVariants as u
-use Rattle.vale_syntax.specs.Tree.{TypeExpr, Param, param, Head, head, FieldDecl, field_decl, Item}
+use Rattle.vale_syntax.specs.Tree.{Param, param, Head, head, FieldDecl, Item}
 use Rattle.vale_syntax.specs.Judged.{Rules, ◌⇒◌}
 use Rattle.vale_syntax.specs.Declarations.{is_called, field_type, param_type, head_params}
-use Rattle.vale_syntax.specs.Types.{Ty, void, int, bool, str, kind, array, ref, imm, iso, type_of, result_of, same, is_void, is_copy, is_owner, is_owned, object_of, may_be_isolated, View, blind, direct, shared, frozen, seen_object, is_frozen, Seen, a_value, is_loose, Local, is_visible, part_seen, fields_of, methods_of, function_named, fits, fits_argument}
+use Rattle.vale_syntax.specs.Types.{Ty, void, int, bool, str, kind, array, ref, imm, iso, type_of, result_of, same, is_void, is_copy, is_owned, may_be_isolated, View, blind, direct, shared, frozen, seen_object, is_frozen, Seen, a_value, is_loose, Local, is_visible, part_seen, fields_of, methods_of, function_named, fits, fits_argument}
 use Rattle.vale_syntax.specs.Typed.{Callee, built_in, constructor, function}
 
 abbrev pub is_int : Ty → Bool

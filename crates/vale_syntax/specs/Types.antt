@@ -1,10 +1,10 @@
 -- The types that values have, how a step sees what it starts from, and what names stand for (docs/LANGUAGE.md, "Types").
 use Rattle.std.specs.Prelude.{ℕ, Bool, true, false, not, ◌||◌, ◌&&◌, ◌==◌, List, [], ◌∷◌, Option, Some, None, is_some, if◌then◌else◌}
 use Rattle.std.specs.List.{list_any}
-use Rattle.std.specs.Option.{option_map, option_map_or}
+use Rattle.std.specs.Option.{option_map_or}
 use Rattle.vale_syntax.specs.declared.tree.NameAt.{NameAt}
-use Rattle.vale_syntax.specs.Tree.{TypeExpr, int_type, bool_type, str_type, named_type, array_type, ref_type, imm_ref_type, iso_type, Head, head, FieldDecl, field_decl, Item, struct_item, interface_item, impl_item, function_item}
-use Rattle.vale_syntax.specs.Declarations.{field_type, head_name, function_head, leads, iso_holders}
+use Rattle.vale_syntax.specs.Tree.{TypeExpr, int_type, bool_type, str_type, named_type, array_type, ref_type, imm_ref_type, iso_type, Head, FieldDecl, field_decl, Item, struct_item, interface_item, impl_item, function_item}
+use Rattle.vale_syntax.specs.Declarations.{head_name, function_head, leads, iso_holders}
 use Rattle.vale_syntax.specs.Reach.{is_reached}
 
 -- ---- types

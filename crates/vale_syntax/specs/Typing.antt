@@ -115,24 +115,24 @@ module _ (names : List (List ℕ)) (items : List Item) where
     pub expr : Env → Bool → Expr → Judged t.Expr
     expr env as_value (set at p e) =
         node at (λ v. set_rules items (may_be_set v.0) (seen v.0).place (type v.1)) (λ v. t.expr (a_value (set_gives (seen v.0).place)) (t.set at v.0 v.1))
-          (both (expr env false p) (expr env true e))
+        (both (expr env false p) (expr env true e))
     expr env as_value (chain e ls) =
         plain (λ v. t.expr (chain_seen (seen v.0) v.1) (t.chain v.0 v.1))
-          (scoped (expr env true e) (λ a. links env (seen a) ls))
+        (scoped (expr env true e) (λ a. links env (seen a) ls))
     expr env as_value (unary at op e) =
         node at (λ a. unary_rules op (seen a)) (λ a. t.expr (a_value (unary_gives op (seen a))) (t.unary at op a))
-          (expr env (is_value_under op) e)
+        (expr env (is_value_under op) e)
     expr env as_value (steps e ss) =
         plain (λ v. t.expr (steps_seen (seen v.0) v.1) (t.steps v.0 v.1))
-          (scoped (expr env false e) (λ a. steps_from env as_value (name_in e) (seen a) ss))
+        (scoped (expr env false e) (λ a. steps_from env as_value (name_in e) (seen a) ss))
     expr env as_value (number at n) = fine (t.expr (a_value int) (t.number at n))
     expr env as_value (quote at text) = fine (t.expr (a_value str) (t.quote at text))
     expr env as_value (truth at b) = fine (t.expr (a_value bool) (t.truth at b))
     expr env as_value (name n) = leaf n.at (name_rules n env.scope) (named env as_value n (local_of n.name.0 env.scope))
     expr env as_value (call n es) =
         node n.at (λ v. called_rules items (called names items n) (types v))
-          (λ v. t.expr (a_value (called_gives n (called names items n) (types v))) (t.call n (callee (called names items n)) v))
-          (exprs env es)
+        (λ v. t.expr (a_value (called_gives n (called names items n) (types v))) (t.call n (callee (called names items n)) v))
+        (exprs env es)
     expr env as_value (paren at e) = plain (λ a. t.expr (a_value (type a)) (t.paren at a)) (expr env true e)
     expr env as_value (array at x es) =
         node at (λ v. array_rules items (type_of x) (types v)) (λ v. t.expr (a_value (y.array (type_of x))) (t.array at (type_of x) v)) (exprs env es)
@@ -162,29 +162,29 @@ module _ (names : List (List ℕ)) (items : List Item) where
         method_step base at n (methods_seen items base.view) (option_and_then (λ hs. method_named hs n.0) (methods_seen items base.view)) (exprs env es)
     step env as_value local base (index at e) =
         node at (λ a. index_rules as_value base (elements_seen base.view) (type a))
-          (λ a. t.index (part_of base.view (elements_seen base.view)) (index_view local base.view e) at a) (expr env true e)
+        (λ a. t.index (part_of base.view (elements_seen base.view)) (index_view local base.view e) at a) (expr env true e)
 
     pub steps_from : Env → Bool → Option ℕ → Seen → Steps → Judged t.Steps
     steps_from env as_value local base no_steps = fine t.no_steps
     steps_from env as_value local base (more_steps s ss) =
         plain (λ v. t.more_steps v.0 v.1)
-          (scoped (step env (is_used as_value ss) local base s) (λ a. steps_from env as_value None (step_seen a) ss))
+        (scoped (step env (is_used as_value ss) local base s) (λ a. steps_from env as_value None (step_seen a) ss))
 
     -- with the type of its value
     pub in_form : Env → Form → Judged (Ty × t.Form)
     in_form env (branch at c b es) =
         node at (λ v. branch_rules (type v.0 ∷ condition_types v.1.1) (block_type v.1.0) (block_types v.1.1) (has_else v.1.1))
-          (λ v. (block_type v.1.0, t.branch at v.0 v.1.0 v.1.1))
-          (both (expr env true c) (both (in_block env b) (elses env es)))
+        (λ v. (block_type v.1.0, t.branch at v.0 v.1.0 v.1.1))
+        (both (expr env true c) (both (in_block env b) (elses env es)))
     in_form env (pure at b) = plain (λ v. (block_type v, t.pure at v)) (in_block (deeper env) b)
     in_form env (parallel_range at n a e b) =
         node at (λ v. bounds_rules (type v.1.0) (type v.1.1.0))
-          (λ v. (parallel_gives items (block_type v.1.1.1), t.parallel_range at n v.1.0 v.1.1.0 v.1.1.1))
-          (both (new_name env n) (both (expr env true a) (both (expr env true e) (in_block (with_local n int (deeper env)) b))))
+        (λ v. (parallel_gives items (block_type v.1.1.1), t.parallel_range at n v.1.0 v.1.1.0 v.1.1.1))
+        (both (new_name env n) (both (expr env true a) (both (expr env true e) (in_block (with_local n int (deeper env)) b))))
     in_form env (parallel_each at n e b) =
         plain (λ v. (parallel_gives items (block_type v.1), t.parallel_each at n v.0 v.1))
-          (scoped (node at (λ v. consumed_rules (type v.1)) (λ v. v.1) (both (new_name env n) (expr env true e)))
-            (λ a. in_block (with_local n (isolate_of (isolate_in (type a))) (deeper env)) b))
+        (scoped (node at (λ v. consumed_rules (type v.1)) (λ v. v.1) (both (new_name env n) (expr env true e)))
+        (λ a. in_block (with_local n (isolate_of (isolate_in (type a))) (deeper env)) b))
 
     pub in_else_if : Env → ElseIf → Judged t.ElseIf
     in_else_if env (else_if at c b) = plain (λ v. t.else_if at v.0 v.1) (both (expr env true c) (in_block env b))
@@ -211,15 +211,15 @@ module _ (names : List (List ℕ)) (items : List Item) where
     stmt env (declare n e) = node n.at (λ a. declare_rules n env.scope (type a)) (λ a. t.declare n (type a) a) (expr env true e)
     stmt env (destructure at ns e) =
         node at (λ v. destructure_rules (struct_fields items (type v.1)) ns)
-          (λ v. t.destructure at ns (option_map_or field_types (struct_fields items (type v.1)) []) v.1)
-          (both (new_names env ns) (expr env true e))
+        (λ v. t.destructure at ns (option_map_or field_types (struct_fields items (type v.1)) []) v.1)
+        (both (new_names env ns) (expr env true e))
     stmt env (return_nothing at) = leaf at (return_nothing_rules env.gives) (t.return_nothing at)
     stmt env (return_value at e) = node at (λ a. return_value_rules items env.gives (type a)) (λ a. t.return_value at a) (expr env true e)
     stmt env (while at c b) =
         node at (λ v. condition_rules (type v.0)) (λ v. t.while at v.0 v.1) (both (expr env true c) (void_block env b))
     stmt env (foreach at n a e b) =
         node at (λ v. bounds_rules (type v.1.0) (type v.1.1.0)) (λ v. t.foreach at n v.1.0 v.1.1.0 v.1.1.1)
-          (both (new_name env n) (both (expr env true a) (both (expr env true e) (void_block (with_local n int env) b))))
+        (both (new_name env n) (both (expr env true a) (both (expr env true e) (void_block (with_local n int env) b))))
     stmt env (form_stmt f) = node (form_spot f) (λ v. void_rules v.0) (λ v. t.form_stmt v.1) (in_form env f)
     stmt env (express e) = plain (λ v. t.express v) (expr env true e)
 
