@@ -28,11 +28,11 @@ printed_again out within f =
 
 printed_alone : (out : List ℕ) → length out ≤ program_limit → IsFixed out → (a : Answer) → FormatsTo out a → a ≡ formatted out
 printed_alone out within f a (refused_format code at why e) = absurd (not_refused out within f code at why)
-printed_alone out within f a (formats tree reads e) =
-    e ∙ ap formatted (f.only (canon tree) (record { tokens = reads.tokens; tree = tree; cuts = reads.cuts; spelled = reads.spelled; canonical = refl }))
+printed_alone out within f a (formats t reads e) =
+    e ∙ ap formatted (f.only (canon t) (record { tokens = reads.tokens; tree = t; cuts = reads.cuts; spelled = reads.spelled; canonical = refl }))
 
 pub stays_formatted : StaysFormatted
 stays_formatted text out (refused_format code at why e) within = absurd (omega (ap (λ (a : Answer). a.status) e, arith))
-stays_formatted text out (formats tree reads e) within =
-    let f : IsFixed out = formatted_fixed text out (record { tokens = reads.tokens; tree = tree; cuts = reads.cuts; spelled = reads.spelled; canonical = ap (λ (a : Answer). a.out) e }) in
+stays_formatted text out (formats t reads e) within =
+    let f : IsFixed out = formatted_fixed text out (record { tokens = reads.tokens; tree = t; cuts = reads.cuts; spelled = reads.spelled; canonical = ap (λ (a : Answer). a.out) e }) in
     (printed_again out within f, printed_alone out within f)

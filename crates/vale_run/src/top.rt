@@ -18,7 +18,6 @@ const WANT_OF_MEMORY: u8 = 8;
 /// Does what the words ask for (docs/LANGUAGE.md, "The command line" and "Answers"), with the file from the shelf:
 /// `run FILE` writes what the program in it prints to `out`, `fmt FILE` the program's canonical text, and both to `err`
 /// why it was refused or stopped.
-#[tactic(auto, using(crate::proofs::FormattedAgain::stays_formatted))]
 pub fn valec<R: Threads + Sync, H: Shelf, I: Source, O: Sink, E: Sink, G: Gate + Sync>(
     rt: &R,
     alloc: Global,

@@ -1,6 +1,7 @@
 use Rattle.std.proofs.Common.{[], refl, arith, inl, rules}
 use Rattle.vale_run.specs.Headline.{owed, no_read, no_memory}
 use Rattle.vale_run.specs.Owed.{read_fault, memory_text}
+use Rattle.vale_run.proofs.FormattedAgain.{stays_formatted}
 use Rattle.vale_run.proofs.top.valec.Goals as goal
 
 pub returns-in-Ok-clause-headline : goal.returns-in-Ok-clause-headline
@@ -45,3 +46,12 @@ returns-in-Err-ReadFault-clause-headline g c =
             err = c.deliver-in-Err-ReadFault.ensures.err_later;
           };
     }
+
+pub returns-in-Ok-clause-formatted : goal.returns-in-Ok-clause-formatted
+returns-in-Ok-clause-formatted g c = stays_formatted
+
+pub returns-in-Err-Memory-clause-formatted : goal.returns-in-Err-Memory-clause-formatted
+returns-in-Err-Memory-clause-formatted g c = stays_formatted
+
+pub returns-in-Err-ReadFault-clause-formatted : goal.returns-in-Err-ReadFault-clause-formatted
+returns-in-Err-ReadFault-clause-formatted g c = stays_formatted
