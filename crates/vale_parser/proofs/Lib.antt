@@ -13,3 +13,7 @@ pub mod Loops
 pub mod Numbered
 pub mod Answered
 pub mod Heights
+pub mod MoreLevels
+pub mod MoreReads
+pub mod MoreItems
+pub mod OnlyLevels

@@ -177,6 +177,10 @@ abbrev pub tree_of : List (List ℕ) → Result (List Item) Fault → Result Tre
 tree_of names (Ok items) = Ok (tree names items)
 tree_of names (Err f) = Err f
 
+-- a whole program, by the reader with so many levels
+abbrev pub read_at : ℕ → List Token → Result Tree Fault
+read_at levels ts = tree_of (names_in ts) (read_items (items_at (names_in ts) levels ts))
+
 -- a whole program
 unfoldable pub all_of : List Token → Result Tree Fault
 all_of ts = tree_of (names_in ts) (items_of (names_in ts) ts)

@@ -4,4 +4,5 @@ pub mod ItemReading
 pub mod Gives
 pub mod Seen
 pub mod Refusal
+pub mod TooMany
 pub mod Deeper

@@ -8,6 +8,7 @@ ghost use Rattle.vale_syntax.specs.View.{view_item, view_tree};
 ghost use Rattle.vale_parser.specs.ItemReading as i;
 ghost use Rattle.vale_parser.specs.Gives.{Gives};
 ghost use Rattle.vale_parser.specs.Refusal.{spot_at, IsRefusal};
+ghost use Rattle.vale_parser.specs.TooMany.{OpensTooMany};
 
 use crate::names::Names;
 use crate::stop::Stop;
@@ -56,7 +57,7 @@ fn read<'t>(alloc: Global, tokens: &'t [Token]) -> Result<Tree, Stop<'t>>
 }
 
 /// The tree that the tokens spell.
-#[tactic(auto, using(crate::proofs::Answered::is_found, crate::proofs::Answered::is_complete, crate::proofs::Answered::is_none))]
+#[tactic(auto, using(crate::proofs::Answered::is_found, crate::proofs::Answered::is_complete, crate::proofs::Answered::is_none, crate::proofs::OnlyLevels::is_deep))]
 pub fn parse(alloc: Global, tokens: &Tokens) -> Result<Tree, Fail<ParseFault>>
     // What is answered is spelled by the tokens.
     ensures found { IfOk result (λ tree. spells (view_tree tree) tokens.now.list) }
@@ -64,6 +65,8 @@ pub fn parse(alloc: Global, tokens: &Tokens) -> Result<Tree, Fail<ParseFault>>
     ensures complete { (tree : t.Tree) → spells tree tokens.now.list → IsValueUnlessMemory result (λ x. view_tree x ≡ tree) }
     // Which fault it is, by the reader that looks at one token at a time.
     ensures fault { IfFault result (λ f. IsRefusal tokens.now.end (i.all_of tokens.now.list) f) }
+    // Code 6 comes only where the fault's token opens a level too many: a reader that has more levels gets past it.
+    ensures deep { IfFault result (λ f. f.code ≡ 6 → OpensTooMany tokens.now.end tokens.now.list f) }
 {
     let list = tokens.list.as_slice();
     match read(alloc, list) {
