@@ -41,6 +41,57 @@ fn looks_and_ends(alloc: Global) -> Result<Vec<Call>, AllocError> {
     ]?)
 }
 
+// What a reply says, and of an object that is alive its kind.
+fn told(reply: &Reply) -> (u8, u32) {
+    match reply {
+        Reply::Made => MADE,
+        Reply::NoPage => NO_PAGE,
+        Reply::Alive(Kind(kind)) => (ALIVE, *kind),
+        Reply::Dead => DEAD,
+        Reply::Done => DONE,
+    }
+}
+
+const MADE: (u8, u32) = (0, 0);
+
+const NO_PAGE: (u8, u32) = (1, 0);
+
+const ALIVE: u8 = 2;
+
+const DEAD: (u8, u32) = (3, 0);
+
+const DONE: (u8, u32) = (4, 0);
+
+// What the first list is answered.
+const EARLY: [(u8, u32); 7] = [MADE, DONE, MADE, DONE, DONE, MADE, DONE];
+
+// What the second list is answered.
+const LATE: [(u8, u32); 10] = [
+    (ALIVE, 7),
+    (ALIVE, 8),
+    DEAD,
+    (ALIVE, 7),
+    (ALIVE, 7),
+    (ALIVE, 8),
+    DEAD,
+    DEAD,
+    DEAD,
+    MADE,
+];
+
+// Whether these are the replies, one for one.
+fn are_told(replies: &[Reply], wanted: &[(u8, u32)]) -> bool {
+    if replies.len() != wanted.len() {
+        return false;
+    }
+    for (i, reply) in replies.iter().enumerate() {
+        if told(reply) != wanted[i] {
+            return false;
+        }
+    }
+    true
+}
+
 #[test]
 fn a_list_of_calls_is_answered_by_names_that_never_return(rt: HostRuntime) -> Result<(), Fail> {
     let calls = three_objects(rt.alloc())?;
@@ -48,37 +99,8 @@ fn a_list_of_calls_is_answered_by_names_that_never_return(rt: HostRuntime) -> Re
     let Some((early, late)) = replies(rt.alloc(), 3, 2, u64::MAX, calls, later)? else {
         panic!(rt; "the calls may be made")
     };
-    assert!(rt;
-        matches!(
-            early.as_slice(),
-            [
-                Reply::Made,
-                Reply::Done,
-                Reply::Made,
-                Reply::Done,
-                Reply::Done,
-                Reply::Made,
-                Reply::Done,
-            ]
-        )
-    );
-    assert!(rt;
-        matches!(
-            late.as_slice(),
-            [
-                Reply::Alive(Kind(7)),
-                Reply::Alive(Kind(8)),
-                Reply::Dead,
-                Reply::Alive(Kind(7)),
-                Reply::Alive(Kind(7)),
-                Reply::Alive(Kind(8)),
-                Reply::Dead,
-                Reply::Dead,
-                Reply::Dead,
-                Reply::Made,
-            ]
-        )
-    );
+    assert!(rt; are_told(early.as_slice(), &EARLY));
+    assert!(rt; are_told(late.as_slice(), &LATE));
     Ok(())
 }
 
