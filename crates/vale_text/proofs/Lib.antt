@@ -1,1 +1,2 @@
 mod NumeralLemmas
+mod NumeralLaws

@@ -1,5 +1,5 @@
 -- A text is read digit by digit.
-use Rattle.std.proofs.Common.{◌≡◌, ◌∙◌, refl, ℕ, suc, ◌+◌, ◌-◌, ◌*◌, ◌<◌, ◌≤◌, List, [], ◌∷◌, length, get_or, take, Bool, true, ◌&&◌, arith}
+use Rattle.std.proofs.Common.{◌≡◌, ℕ, ◌+◌, ◌-◌, ◌*◌, ◌<◌, ◌≤◌, List, length, get_or, take, true, arith}
 use Rattle.std.specs.Int.{IsInRange}
 use Rattle.std.specs.List.{list_all}
 use Rattle.std.specs.Str.Parse.{digits_value}
@@ -12,7 +12,7 @@ use Rattle.vale_text.specs.Operations.{is_digit}
 pub value_more : (digits : List ℕ) (i : ℕ) → i < length digits → IsInRange 48 57 (get_or digits i 0) → digits_value 10 (take (i + 1) digits) ≡ 10 * digits_value 10 (take i digits) + (get_or digits i 0 - 48)
 value_more digits i inside digit = omega (arith, digits_value_more 10 digits i inside, digit_value_digit (get_or digits i 0) digit)
 
-is_digit_at : (c : ℕ) → 48 ≤ c → c ≤ 57 → is_digit c ≡ true
+pub is_digit_at : (c : ℕ) → 48 ≤ c → c ≤ 57 → is_digit c ≡ true
 is_digit_at c low high = grind (arith, nat_tests)
 
 pub digits_more : (digits : List ℕ) (i : ℕ) → i < length digits → IsInRange 48 57 (get_or digits i 0) → list_all is_digit (take i digits) ≡ true → list_all is_digit (take (i + 1) digits) ≡ true
