@@ -82,16 +82,19 @@ pub fn fits_argument(items: &[Item], is_pure: bool, ty: &Ty, asked: &Ty) -> bool
 pub fn all_fit(items: &[Item], is_pure: bool, args: &[Ty], takes: &[Ty]) -> bool
     ensures { result ≡ all_fit (map view_item items.now) is_pure (map view_ty args.now) (map view_ty takes.now) }
 {
-    match args {
-        [] => takes.is_empty(),
-        [arg, more_args @ ..] => match takes {
-            [] => false,
+    let mut left = takes;
+    for arg in args {
+        match left {
+            [] => return false,
             [taken, more @ ..] => {
-                fits_argument(items, is_pure, arg, taken)
-                    && all_fit(items, is_pure, more_args, more)
+                if !fits_argument(items, is_pure, arg, taken) {
+                    return false;
+                }
+                left = more;
             }
-        },
+        }
     }
+    left.is_empty()
 }
 
 /// Whether each fits the type.

@@ -1,7 +1,10 @@
 //! The phase of types: what type each part of a program has, and the rules that types keep (docs/LANGUAGE.md, "Types").
 #![tactic(auto)]
 
+mod built_in;
 mod fits;
 mod lookup;
 mod seen;
+mod takes;
+mod texts;
 mod ty;
