@@ -4,6 +4,7 @@
 mod built_in;
 mod fits;
 mod lookup;
+mod scope;
 mod seen;
 mod takes;
 mod texts;
