@@ -1,1 +1,4 @@
+pub mod Plain
 pub mod Scope
+pub mod Valued
+pub mod Walk

@@ -4,8 +4,14 @@
 mod built_in;
 mod fits;
 mod lookup;
+mod nodes;
+mod parts;
+mod returns;
 mod scope;
 mod seen;
 mod takes;
+mod taking;
 mod texts;
 mod ty;
+mod valued;
+mod views;

@@ -1,0 +1,88 @@
+// Isolates and parallel loops over their parts: what each is, or its own fault.
+//
+// Whether a block's value may be isolated is told by the caller, which knows what reaches an isolate.
+ghost use Rattle.std.specs.Prelude.{◌≡◌, Ok, List, IfOk};
+ghost use Rattle.vale_syntax.specs.Tree.{Item};
+ghost use Rattle.vale_syntax.specs.Judged.{first, leaf, Gives};
+ghost use Rattle.vale_syntax.specs.Types as y;
+ghost use Rattle.vale_syntax.specs.Types.{a_value, may_be_isolated};
+ghost use Rattle.vale_syntax.specs.Typed as t;
+ghost use Rattle.vale_syntax.specs.Typed.{type, block_type};
+ghost use Rattle.vale_syntax.specs.TypeRules.{iso_rules, bounds_rules, parallel_gives};
+ghost use Rattle.vale_core.specs.View.{view_ty, view_expr, view_block};
+ghost use Rattle.vale_typing.specs.Valued.{view_valued};
+
+use crate::fits::is_int;
+use crate::parts::{block_type, type_in};
+use crate::seen::a_value;
+use crate::valued::Valued;
+use std::alloc::Global;
+use vale_base::{Fail, Memory, Spot};
+use vale_core::{Block, Expr, Form, Ty};
+use vale_syntax::{Fault, NameAt};
+
+/// `iso { }`.
+#[tactic(auto, using(crate::proofs::TyLaws::types))]
+pub fn iso(alloc: Global, may_be_isolated: bool, at: Spot, block: Block) -> Result<Expr, Fail<Fault>>
+    ensures { (items : List Item) → may_be_isolated ≡ y.may_be_isolated items (block_type (view_block block)) → Gives view_expr result (first (leaf at (iso_rules items (block_type (view_block block))) (t.expr (a_value (y.iso (block_type (view_block block)))) (t.iso at (view_block block))))) }
+{
+    if !may_be_isolated {
+        return Err(Fail::Is(Fault { code: 20, at }));
+    }
+    let ty = block_type(&block).copy(alloc)?;
+    let seen = a_value(alloc, Ty::isolate(alloc, ty)?)?;
+    Ok(Expr::iso(seen, at, block))
+}
+
+/// What a parallel loop gives, by the type of its body.
+#[tactic(auto, using(crate::proofs::TyLaws::types))]
+fn parallel_gives(alloc: Global, may_be_isolated: bool, ty: &Ty) -> Result<Ty, Memory>
+    ensures { (items : List Item) → may_be_isolated ≡ y.may_be_isolated items (view_ty ty.now) → IfOk result (λ x. view_ty x ≡ parallel_gives items (view_ty ty.now)) }
+{
+    match ty {
+        Ty::Iso(_) | Ty::Int | Ty::Bool | Ty::Str => Ty::array(alloc, ty.copy(alloc)?),
+        Ty::Void | Ty::Kind(_) | Ty::Array(_) | Ty::Ref(_) | Ty::Imm(_) => {
+            if may_be_isolated {
+                Ty::array(alloc, Ty::isolate(alloc, ty.copy(alloc)?)?)
+            } else {
+                Ok(Ty::Void)
+            }
+        }
+    }
+}
+
+/// `parallel foreach i in a..b { }`.
+pub fn parallel_range(
+    alloc: Global,
+    may_be_isolated: bool,
+    at: Spot,
+    name: NameAt,
+    from: Expr,
+    to: Expr,
+    block: Block,
+) -> Result<Valued, Fail<Fault>>
+    ensures { (items : List Item) → may_be_isolated ≡ y.may_be_isolated items (block_type (view_block block)) → Gives view_valued result (first (leaf at (bounds_rules (type (view_expr from)) (type (view_expr to))) (parallel_gives items (block_type (view_block block)), t.parallel_range at name (view_expr from) (view_expr to) (view_block block)))) }
+{
+    if !(is_int(type_in(&from)) && is_int(type_in(&to))) {
+        return Err(Fail::Is(Fault { code: 20, at }));
+    }
+    let ty = parallel_gives(alloc, may_be_isolated, block_type(&block))?;
+    let form = Form::parallel_range(at, name, from, to, block);
+    Ok(Valued { ty, form })
+}
+
+/// `parallel foreach x in xs { }`.
+pub fn parallel_each(
+    alloc: Global,
+    may_be_isolated: bool,
+    at: Spot,
+    name: NameAt,
+    over: Expr,
+    block: Block,
+) -> Result<Valued, Fail<Fault>>
+    ensures { (items : List Item) → may_be_isolated ≡ y.may_be_isolated items (block_type (view_block block)) → Gives view_valued result (Ok (parallel_gives items (block_type (view_block block)), t.parallel_each at name (view_expr over) (view_block block))) }
+{
+    let ty = parallel_gives(alloc, may_be_isolated, block_type(&block))?;
+    let form = Form::parallel_each(at, name, over, block);
+    Ok(Valued { ty, form })
+}
