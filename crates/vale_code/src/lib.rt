@@ -1,0 +1,16 @@
+//! The code that programs are turned into: its kinds, functions and instructions, and what they mean.
+#![tactic(auto)]
+
+mod code;
+mod func;
+mod instr;
+mod kind;
+mod sequence;
+mod ty;
+
+pub use code::Code;
+pub use func::{Func, Impl};
+pub use instr::Instr;
+pub use kind::{Field, KindInfo, MethodInfo};
+pub use sequence::Sequence;
+pub use ty::Ty;
