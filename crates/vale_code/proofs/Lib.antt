@@ -1,1 +1,5 @@
-mod Examples
+mod ArrayExamples
+mod CallExamples
+mod Codes
+mod NumberExamples
+mod ObjectExamples
