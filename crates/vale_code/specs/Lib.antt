@@ -6,6 +6,7 @@ pub mod Fuel
 pub mod Instructions
 pub mod Kinds
 pub mod Loops
+pub mod Need
 pub mod Parts
 pub mod Registers
 pub mod Run
