@@ -1,6 +1,9 @@
 mod ArrayExamples
 mod CallExamples
 mod Codes
+mod Keeps
+mod Ends
+mod Fits
 mod FreezeExamples
 mod LoopExamples
 mod NumberExamples
