@@ -2,7 +2,7 @@ mod ArrayExamples
 mod CallExamples
 mod Codes
 mod Keeps
-mod Ends
+pub mod Ends
 mod Fits
 mod FreezeExamples
 mod LoopExamples

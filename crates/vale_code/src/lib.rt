@@ -5,6 +5,7 @@ mod code;
 mod func;
 mod instr;
 mod kind;
+pub mod laws;
 mod sequence;
 mod ty;
 
