@@ -1,5 +1,5 @@
 -- Words for the short codes of the examples.
-use Rattle.std.proofs.Common.{ℕ, List, [], ◌∷◌, ◌++◌, Option, Some, None, true}
+use Rattle.std.proofs.Common.{ℕ, List, [], ◌∷◌, ◌++◌, Option, true}
 use Rattle.std.specs.Prelude.{codes}
 use Rattle.vale_base.specs.Outcome.{Outcome, End, Trap}
 use Rattle.vale_base.specs.declared.name.Kind.{Kind}

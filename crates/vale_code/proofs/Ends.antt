@@ -1,9 +1,9 @@
 -- Every run ends.
-use Rattle.std.proofs.Common.{◌≡◌, ℕ, zero, suc, ◌+◌, ◌-◌, ◌*◌, ◌<◌, ◌≤◌, ℤ, List, [], ◌∷◌, ◌++◌, length, Option, Some, None, Bool, true, false, ◌||◌, nat_lt, nat_le, if◌then◌else◌, refl, sym, ap, ◌∙◌, subst, ⊎_elim, arith}
+use Rattle.std.proofs.Common.{◌≡◌, ℕ, zero, suc, ◌+◌, ◌*◌, ◌<◌, ◌≤◌, ℤ, List, [], ◌∷◌, length, Option, Some, None, Bool, true, false, ◌||◌, nat_lt, nat_le, refl, sym, ap, ◌∙◌, subst, ⊎_elim, arith}
 use Rattle.std.specs.Prelude.{slice_get}
 use Rattle.std.proofs.lemmas.Bool.{cases_lt}
 use Rattle.vale_base.specs.Limits.{width_limit}
-use Rattle.vale_base.specs.State.{State, dies, Answer, gives, traps, fails, Given, given, begin, object_of, join_isolate, is_outermost, look, freeze, thaw, born, make, width_of}
+use Rattle.vale_base.specs.State.{State, dies, Answer, gives, traps, fails, Given, begin, object_of, join_isolate, is_outermost, look, freeze, born, make, width_of}
 use Rattle.vale_base.specs.World.{Value, Int, Truth, Text, Own, Ref, Iso, Object}
 use Rattle.vale_base.specs.declared.name.Kind.{Kind}
 use Rattle.vale_base.specs.declared.spot.Spot.{Spot}
@@ -15,14 +15,14 @@ use Rattle.vale_code.proofs.Keeps.{Keeps}
 use Rattle.vale_code.specs.Act.{act, answers, surely, value, values, owner, without_first, act_if, step_of, step_by, loops, call, call_of_object, dispatch, makes, opens, returns, loops_over_numbers, loops_over_array}
 use Rattle.vale_code.specs.Destroy.{destroy, destroy_by, destroy_object, first_owned, Owned, drop_rest, drop_next}
 use Rattle.vale_code.specs.Enter.{Form, enter}
-use Rattle.vale_code.specs.Frames.{Active, Emptying, Iterating, Item, Items, Elements, Frame, Running, Dropping, Looping, Alone, Config, Next, On, Over, on, wrong, trap, next_item, all_items, after_tick}
-use Rattle.vale_code.specs.Fuel.{width, places_from, before_tick, at_top, under_way, at_below, for_tick, fuel}
-use Rattle.vale_code.specs.Instructions.{truth_of, comparison_of, behind, onward, gets, answered, certain, fetch, is_tick, at_place, is_free, jump_by, jump, jump_unless}
+use Rattle.vale_code.specs.Frames.{Active, Emptying, Iterating, Item, Items, Elements, Frame, Running, Dropping, Looping, Alone, Config, Next, On, Over, next_item}
+use Rattle.vale_code.specs.Fuel.{width, places_from, before_tick, at_top, at_below, for_tick, fuel}
+use Rattle.vale_code.specs.Instructions.{truth_of, comparison_of, behind, onward, gets, answered, certain, fetch, is_tick, jump_by, jump, jump_unless}
 use Rattle.vale_code.specs.Kinds.{array_of, method_in, destructor_of, element_type, holds_values, kind_of, result_to}
-use Rattle.vale_code.specs.Loops.{iterate, array_made, gathered, loop_over, loop_goes_on, loop_next, counted_from, loop_begins}
+use Rattle.vale_code.specs.Loops.{iterate, array_made, gathered, loop_goes_on, loop_next, counted_from, loop_begins}
 use Rattle.vale_code.specs.Parts.{Parts}
 use Rattle.vale_code.specs.Run.{Ending, then_go, exec_by, exec, ended_or_wrong, last_state, start, fuel_after, ending_of, EndsIn}
-use Rattle.vale_code.specs.Registers.{Registers, Read, read, put, kept, read_all, give_all, put_all, with_result}
+use Rattle.vale_code.specs.Registers.{Registers, read, put, kept, read_all, give_all, put_all, with_result}
 use Rattle.vale_code.specs.declared.func.Func.{Func}
 use Rattle.vale_code.specs.declared.instr.Instr.{Instr}
 use Rattle.vale_code.specs.declared.instr.Instr.TheVariants as i
@@ -80,8 +80,8 @@ module _ (code : Parts) (below : List Frame) (s : State) where
   array (Some kind) f t same =
       let equal : ticks code t ≡ ticks code s = ap (λ n. n * for_tick code) same in
       fits.after code _ t _ (λ u less.
-          let birth : ticks code (born kind f.done u) ≡ ticks code u = ap (λ n. n * for_tick code) (keeps.birth kind f.done u) in
-          fits.leaves code _ below f.dest _ _ (omega (arith, equal, less, birth)))
+      let birth : ticks code (born kind f.done u) ≡ ticks code u = ap (λ n. n * for_tick code) (keeps.birth kind f.done u) in
+      fits.leaves code _ below f.dest _ _ (omega (arith, equal, less, birth)))
 
   gathers : (item : Option Ty) (f : Iterating) (t : State) → t.left ≡ s.left → Fits code (ticks code s + 1 + at_below code below) (gathered code item f below t)
   gathers None f t same =
@@ -201,12 +201,12 @@ module _ (code : Parts) (last : Config → State) (f : Active) (below : List Fra
     calling : (to g : ℕ) (args : List ℕ) (at : Spot) → Fits code b (call code last f below s to g args at)
     calling to g args at =
         fits.with_a_function code b g s _ (λ form func. fits.called code b form s _ (fits.reads code b (give_all func.params args f.registers) s _ (λ vs regs.
-            enters_over g form func _ (result_to func.result to) vs regs)))
+        enters_over g form func _ (result_to func.result to) vs regs)))
 
     calling_of : (n to g : ℕ) (args : List ℕ) (at : Spot) → Fits code b (call_of_object code last f below s n to g args at)
     calling_of n to g args at =
         fits.with_a_function code b g s _ (λ form func. fits.called code b form s _ (fits.reads code b (give_all (without_first func.params) args f.registers) s _ (λ vs regs.
-            enters_over g form func _ (result_to func.result to) (Ref n ∷ vs) regs)))
+        enters_over g form func _ (result_to func.result to) (Ref n ∷ vs) regs)))
 
     dispatching : (if_dead : Next) (to interface method object : ℕ) (args : List ℕ) (at : Spot) → Fits code b if_dead
         → Fits code b (dispatch code last f below s if_dead to interface method object args at)
@@ -222,13 +222,13 @@ module _ (code : Parts) (last : Config → State) (f : Active) (below : List Fra
     making : (to : ℕ) (kind : Kind) (args : List ℕ) → Fits code b (makes code last f below s to kind args)
     making to kind args =
         fits.either code b (holds_values (kind_of code kind) (length args)) _ _
-            (fits.reads code b (read_all args f.registers) s _ (λ vs regs. fits.after code b s _ (λ t less. certainly_after (Some to) regs t (make kind vs t) less (keeps.makes kind vs t))))
-            (record { less = tt })
+        (fits.reads code b (read_all args f.registers) s _ (λ vs regs. fits.after code b s _ (λ t less. certainly_after (Some to) regs t (make kind vs t) less (keeps.makes kind vs t))))
+        (record { less = tt })
 
     opening : (to : List ℕ) (from : ℕ) → Fits code b (opens code last f below s to from)
     opening to from =
         owned from _ (λ n. fits.choice code b (object_of n s) s _ (λ o. fits.registers code b (put_all to o.values (put f.registers from None)) s _ (λ regs. fits.after code b s _ (λ t less.
-            on_after_tick regs (dies n t) less))))
+        on_after_tick regs (dies n t) less))))
 
     -- ---- parallel loops
 
@@ -237,7 +237,7 @@ module _ (code : Parts) (last : Config → State) (f : Active) (below : List Fra
         → Fits code b (loops code last f below s to items g args regs at t)
     looping to items g args regs at t enough =
         fits.with_a_function code b g t _ (λ form func. fits.iterates code b form t _ (fits.reads code b (give_all (without_first func.params) args regs) t _ (λ vs after.
-            loop_fits code b last _ (behind f after ∷ below) t (omega (arith, enough)))))
+        loop_fits code b last _ (behind f after ∷ below) t (omega (arith, enough)))))
 
     looping_over_numbers : is_tick (Some instr) ≡ false → (to : ℕ) (x y : ℤ) (g : ℕ) (args : List ℕ) (at : Spot)
         → Fits code b (loops_over_numbers code last f below s to x y g args at)
@@ -247,7 +247,7 @@ module _ (code : Parts) (last : Config → State) (f : Active) (below : List Fra
     looping_over_array : (to a g : ℕ) (args : List ℕ) (at : Spot) → Fits code b (loops_over_array code last f below s to a g args at)
     looping_over_array to a g args at =
         owned a _ (λ n. fits.choice code b (object_of n s) s _ (λ o. fits.after code b s _ (λ t less.
-            looping to (Elements o.values) g args (put f.registers a None) at (dies n t) (omega (arith, here, less, some_left)))))
+        looping to (Elements o.values) g args (put f.registers a None) at (dies n t) (omega (arith, here, less, some_left)))))
 
   -- ---- each instruction
 

@@ -1,18 +1,16 @@
 -- What leads on has less fuel than some bound: how this goes through the parts of a step.
-use Rattle.std.proofs.Common.{◌≡◌, ℕ, zero, suc, ◌+◌, ◌-◌, ◌*◌, ◌<◌, ◌≤◌, ℤ, List, [], ◌∷◌, ◌++◌, length, Option, Some, None, Bool, true, false, ◌||◌, nat_lt, nat_le, if◌then◌else◌, refl, sym, ap, ◌∙◌, subst, arith}
+use Rattle.std.proofs.Common.{◌≡◌, ℕ, zero, suc, ◌+◌, ◌*◌, ◌<◌, ◌≤◌, ℤ, List, [], ◌∷◌, length, Option, Some, None, Bool, true, false, if◌then◌else◌, refl, ap, subst, arith}
 use Rattle.std.specs.Prelude.{slice_get}
 use Rattle.std.proofs.lemmas.Option.{slice_get_within}
-use Rattle.vale_base.specs.Outcome.{End}
-use Rattle.vale_base.specs.State.{State, Answer, gives, traps, fails, has_depth, spend, spend_of, Looked, found, dead, nowhere}
+use Rattle.vale_base.specs.State.{State, has_depth, spend_of, Looked, found, dead, nowhere}
 use Rattle.vale_base.specs.World.{Value, Int, Truth, Text, Own, Ref, Iso, Object}
 use Rattle.vale_base.specs.declared.spot.Spot.{Spot}
 use Rattle.vale_base.specs.declared.trap.FrameAt.{FrameAt}
-use Rattle.vale_code.proofs.Keeps.{Keeps}
 use Rattle.vale_code.specs.Act.{on_looked}
-use Rattle.vale_code.specs.Enter.{Form, Plain, Pure, Iteration, Destructor, form_of, weight, begun, ended, outgoing, with_form, with_func, function, enter, if_called, if_iteration, if_destructor, leave_function}
-use Rattle.vale_code.specs.Frames.{Active, Emptying, Iterating, Frame, Running, Dropping, Looping, Alone, Config, Next, On, Over, on, wrong, trap, under, deeper, ticked, after_tick, resume, leave}
+use Rattle.vale_code.specs.Enter.{Form, Plain, Pure, Iteration, Destructor, form_of, weight, begun, ended, with_form, with_func, function, enter, if_called, if_iteration, if_destructor, leave_function}
+use Rattle.vale_code.specs.Frames.{Frame, Running, Dropping, Looping, Alone, Next, On, Over, trap, under, deeper, ticked, after_tick, resume, leave}
 use Rattle.vale_code.specs.Fuel.{width, places_from, before_tick, at_top, under_way, at_below, for_tick, fuel}
-use Rattle.vale_code.specs.Instructions.{behind, onward, with_value, with_read, with_registers, with_owner, with_number, with_truth, with_choice, gets, answered, certain, instruction_in, fetch, is_tick, at_place, is_free, jump_by, jump, jump_unless}
+use Rattle.vale_code.specs.Instructions.{with_value, with_read, with_registers, with_owner, with_number, with_truth, with_choice, instruction_in, fetch, is_tick}
 use Rattle.vale_code.specs.Parts.{Parts}
 use Rattle.vale_code.specs.Registers.{Registers, Read, registers_for}
 use Rattle.vale_code.specs.Sizes.{instructions}
@@ -180,8 +178,8 @@ module _ (code : Parts) where
         → at_below code frames + ticks s < b + (width code + width code) → Fits (enter f form func call dest args frames s)
     enters f form func call dest args frames s room =
         deep (weight form) call.at frames s _ (after s _ (λ t less.
-            let same : ticks (begun form t) ≡ ticks t = ap (λ n. n * for_tick code) (begins form t) in
-            record { less = omega (arith, room, less, same, top_most (Running (record { call = call; function = f; dest = dest; place = 0; registers = registers_for func.registers args }))) }))
+        let same : ticks (begun form t) ≡ ticks t = ap (λ n. n * for_tick code) (begins form t) in
+        record { less = omega (arith, room, less, same, top_most (Running (record { call = call; function = f; dest = dest; place = 0; registers = registers_for func.registers args }))) }))
 
     pub leaves : (frames : List Frame) (to : Option ℕ) (v : Option Value) (s : State) → at_below code frames + ticks s < b → Fits (leave frames to v s)
     leaves [] to v s room = record { less = tt }

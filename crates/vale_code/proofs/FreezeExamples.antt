@@ -1,22 +1,17 @@
 -- What freezes and isolates do, in short codes.
-use Rattle.std.proofs.Common.{◌≡◌, ℕ, ℤ, pos, negsuc, List, [], ◌∷◌, ◌++◌, Option, Some, None, Bool, true, false, refl}
+use Rattle.std.proofs.Common.{◌≡◌, ℕ, pos, List, [], ◌∷◌, ◌++◌, None, refl}
 use Rattle.std.specs.Fmt.{digits}
 use Rattle.std.specs.Prelude.{codes}
-use Rattle.vale_base.specs.Outcome.{Outcome, End, Done, Trap, Cut, Wrong}
-use Rattle.vale_base.specs.State.{Given, no_input, numbers, lines}
-use Rattle.vale_base.specs.declared.spot.Spot.{Spot}
-use Rattle.vale_base.specs.declared.trap.TrapKind.{TrapKind}
-use Rattle.vale_base.specs.declared.trap.TrapKind.TheVariants.{DeadReference, Overflow, DivisionByZero, IndexOutOfRange, ArrayTooLong, TextTooLong, EmptyPop, NotANumber, CallDepth, LoopTooWide}
-use Rattle.vale_code.proofs.Codes.{at, kind, function, main_of, code_of, alone, with_f, field, struct, line, piece, gives, frame, in_main, trap}
+use Rattle.vale_base.specs.Outcome.{Done, Wrong}
+use Rattle.vale_base.specs.State.{no_input}
+use Rattle.vale_base.specs.declared.trap.TrapKind.TheVariants.{DeadReference}
+use Rattle.vale_code.proofs.Codes.{at, kind, function, main_of, code_of, struct, line, piece, gives, in_main, trap}
 use Rattle.vale_code.specs.Parts.{Parts}
 use Rattle.vale_code.specs.Run.{run_code}
 use Rattle.vale_code.specs.declared.func.Func.{Func}
-use Rattle.vale_code.specs.declared.func.Impl.{Impl}
 use Rattle.vale_code.specs.declared.instr.Instr.{Instr}
 use Rattle.vale_code.specs.declared.instr.Instr.TheVariants as i
-use Rattle.vale_code.specs.declared.kind.KindInfo.{KindInfo}
 use Rattle.vale_code.specs.declared.kind.KindInfo.TheVariants as k
-use Rattle.vale_code.specs.declared.ty.Ty.{Ty}
 use Rattle.vale_code.specs.declared.ty.Ty.TheVariants as t
 
 -- code with the struct `S` of a number, of which 7 is in register 0

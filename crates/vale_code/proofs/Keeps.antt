@@ -1,12 +1,12 @@
 -- Single steps spend no ticks.
 use Rattle.std.proofs.Common.{◌≡◌, ℕ, ℤ, pos, negsuc, List, [], ◌∷◌, ◌++◌, length, Option, Some, None, Result, Ok, Err, Bool, true, false, nat_lt, if◌then◌else◌, refl}
-use Rattle.std.specs.Prelude.{slice_get, slice_set}
+use Rattle.std.specs.Prelude.{slice_get}
 use Rattle.vale_base.specs.Limits.{width_limit}
 use Rattle.vale_base.specs.State.{State, Answer, gives, traps, fails, Looked, found, dead, nowhere, on_object, with_object, look, field_in, load, swapped_in, swap, element_in, element_at, element, element_swapped_in, element_swapped_at, swap_element, push, popped, pop, merge, print, print_text, shown, make, born, counted, changed}
 use Rattle.vale_base.specs.World.{Value, Int, Truth, Text, Own, Ref, Iso, Object}
 use Rattle.vale_base.specs.declared.name.Kind.{Kind}
 use Rattle.vale_base.specs.declared.trap.TrapKind.{TrapKind}
-use Rattle.vale_base.specs.declared.trap.TrapKind.TheVariants.{DeadReference, Overflow, DivisionByZero, IndexOutOfRange, ArrayTooLong, TextTooLong, EmptyPop, NotANumber, CallDepth, LoopTooWide}
+use Rattle.vale_base.specs.declared.trap.TrapKind.TheVariants.{DeadReference, ArrayTooLong}
 use Rattle.vale_text.specs.Steps as step
 use Rattle.vale_code.specs.Instructions.{of_living, array_length, text_length}
 

@@ -1,23 +1,19 @@
 -- What parallel loops do, in short codes.
-use Rattle.std.proofs.Common.{◌≡◌, ℕ, ◌+◌, ℤ, pos, negsuc, List, [], ◌∷◌, ◌++◌, Option, Some, None, Bool, true, false, refl}
+use Rattle.std.proofs.Common.{◌≡◌, ℕ, ◌+◌, ℤ, pos, List, [], ◌∷◌, ◌++◌, None, refl}
 use Rattle.std.specs.Fmt.{digits}
 use Rattle.std.specs.Prelude.{codes}
-use Rattle.vale_base.specs.Outcome.{Outcome, End, Done, Trap, Cut, Wrong}
-use Rattle.vale_base.specs.State.{Given, no_input, numbers, lines}
-use Rattle.vale_base.specs.declared.spot.Spot.{Spot}
-use Rattle.vale_base.specs.declared.trap.TrapKind.{TrapKind}
-use Rattle.vale_base.specs.declared.trap.TrapKind.TheVariants.{DeadReference, Overflow, DivisionByZero, IndexOutOfRange, ArrayTooLong, TextTooLong, EmptyPop, NotANumber, CallDepth, LoopTooWide}
-use Rattle.vale_code.proofs.Codes.{at, kind, function, main_of, code_of, alone, with_f, field, struct, line, piece, gives, frame, in_main, trap}
+use Rattle.vale_base.specs.Outcome.{Done, Cut, Wrong}
+use Rattle.vale_base.specs.State.{no_input}
+use Rattle.vale_base.specs.declared.trap.TrapKind.TheVariants.{DivisionByZero, LoopTooWide}
+use Rattle.vale_code.proofs.Codes.{at, kind, function, main_of, code_of, struct, line, piece, gives, frame, in_main, trap}
 use Rattle.vale_code.specs.Need.{need}
 use Rattle.vale_code.specs.Parts.{Parts}
 use Rattle.vale_code.specs.Run.{run_code}
 use Rattle.vale_code.specs.declared.func.Func.{Func}
-use Rattle.vale_code.specs.declared.func.Impl.{Impl}
 use Rattle.vale_code.specs.declared.instr.Instr.{Instr}
 use Rattle.vale_code.specs.declared.instr.Instr.TheVariants as i
 use Rattle.vale_code.specs.declared.kind.KindInfo.{KindInfo}
 use Rattle.vale_code.specs.declared.kind.KindInfo.TheVariants as k
-use Rattle.vale_code.specs.declared.ty.Ty.{Ty}
 use Rattle.vale_code.specs.declared.ty.Ty.TheVariants as t
 
 -- `main` runs a loop of the function `f` over the numbers from one up to another
@@ -46,7 +42,7 @@ divides = function 1 2 (t.Int ∷ []) t.Void 5
 
 traps : run_code (over_numbers [] (pos 0) (pos 8) [] (divides ∷ []) []) no_input 20
     ≡ gives (piece 2 (line (codes "0")) ∷ piece 3 (line (codes "1")) ∷ piece 4 (line (codes "2")) ∷ [])
-      (trap DivisionByZero (at 37) (frame (codes "iteration 2") (at 3) ∷ in_main)) 4
+    (trap DivisionByZero (at 37) (frame (codes "iteration 2") (at 3) ∷ in_main)) 4
 unfolding divides digits
 traps = refl
 

@@ -1,23 +1,16 @@
 -- What the instructions on numbers, truths and texts do, in short codes.
-use Rattle.std.proofs.Common.{◌≡◌, ℕ, ℤ, pos, negsuc, List, [], ◌∷◌, ◌++◌, Option, Some, None, Bool, true, false, refl}
+use Rattle.std.proofs.Common.{◌≡◌, ℕ, ℤ, pos, negsuc, List, [], ◌∷◌, ◌++◌, refl}
 use Rattle.std.specs.Fmt.{digits}
 use Rattle.std.specs.Prelude.{codes}
-use Rattle.vale_base.specs.Outcome.{Outcome, End, Done, Trap, Cut, Wrong}
-use Rattle.vale_base.specs.State.{Given, no_input, numbers, lines}
-use Rattle.vale_base.specs.declared.spot.Spot.{Spot}
+use Rattle.vale_base.specs.Outcome.{Done, Cut, Wrong}
+use Rattle.vale_base.specs.State.{no_input}
 use Rattle.vale_base.specs.declared.trap.TrapKind.{TrapKind}
-use Rattle.vale_base.specs.declared.trap.TrapKind.TheVariants.{DeadReference, Overflow, DivisionByZero, IndexOutOfRange, ArrayTooLong, TextTooLong, EmptyPop, NotANumber, CallDepth, LoopTooWide}
-use Rattle.vale_code.proofs.Codes.{at, kind, function, main_of, code_of, alone, with_f, field, struct, line, piece, gives, frame, in_main, trap}
+use Rattle.vale_base.specs.declared.trap.TrapKind.TheVariants.{Overflow, DivisionByZero, IndexOutOfRange, NotANumber}
+use Rattle.vale_code.proofs.Codes.{at, main_of, alone, line, piece, gives, in_main, trap}
 use Rattle.vale_code.specs.Parts.{Parts}
 use Rattle.vale_code.specs.Run.{run_code}
-use Rattle.vale_code.specs.declared.func.Func.{Func}
-use Rattle.vale_code.specs.declared.func.Impl.{Impl}
 use Rattle.vale_code.specs.declared.instr.Instr.{Instr}
 use Rattle.vale_code.specs.declared.instr.Instr.TheVariants as i
-use Rattle.vale_code.specs.declared.kind.KindInfo.{KindInfo}
-use Rattle.vale_code.specs.declared.kind.KindInfo.TheVariants as k
-use Rattle.vale_code.specs.declared.ty.Ty.{Ty}
-use Rattle.vale_code.specs.declared.ty.Ty.TheVariants as t
 
 -- two numbers, an operation on them, and its result printed
 abbrev of_two : ℤ → ℤ → Instr → Parts
@@ -114,7 +107,8 @@ of_texts s t body = record {
   kinds = [];
   impls = [];
   funcs = main_of (i.Text 0 1 ∷ i.Text 1 2 ∷ body ++ i.Print 2 1 ∷ i.RetVoid ∷ []) ∷ [];
-  main = 0 }
+  main = 0;
+}
 
 joined : prints (of_texts (codes "ab") (codes "c") (i.Join 2 0 1 (at 7) ∷ [])) (codes "abc")
 joined = refl

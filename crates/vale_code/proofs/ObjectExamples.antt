@@ -1,22 +1,17 @@
 -- What the instructions on objects do, in short codes.
-use Rattle.std.proofs.Common.{◌≡◌, ℕ, ℤ, pos, negsuc, List, [], ◌∷◌, ◌++◌, Option, Some, None, Bool, true, false, refl}
+use Rattle.std.proofs.Common.{◌≡◌, ℕ, pos, List, [], ◌∷◌, ◌++◌, Option, Some, None, refl}
 use Rattle.std.specs.Fmt.{digits}
 use Rattle.std.specs.Prelude.{codes}
-use Rattle.vale_base.specs.Outcome.{Outcome, End, Done, Trap, Cut, Wrong}
-use Rattle.vale_base.specs.State.{Given, no_input, numbers, lines}
-use Rattle.vale_base.specs.declared.spot.Spot.{Spot}
-use Rattle.vale_base.specs.declared.trap.TrapKind.{TrapKind}
-use Rattle.vale_base.specs.declared.trap.TrapKind.TheVariants.{DeadReference, Overflow, DivisionByZero, IndexOutOfRange, ArrayTooLong, TextTooLong, EmptyPop, NotANumber, CallDepth, LoopTooWide}
-use Rattle.vale_code.proofs.Codes.{at, kind, function, main_of, code_of, alone, with_f, field, struct, line, piece, gives, frame, in_main, trap}
+use Rattle.vale_base.specs.Outcome.{Done, Cut, Wrong}
+use Rattle.vale_base.specs.State.{no_input}
+use Rattle.vale_base.specs.declared.trap.TrapKind.TheVariants.{DeadReference}
+use Rattle.vale_code.proofs.Codes.{at, kind, function, main_of, code_of, field, struct, line, piece, gives, frame, in_main, trap}
 use Rattle.vale_code.specs.Parts.{Parts}
 use Rattle.vale_code.specs.Run.{run_code}
 use Rattle.vale_code.specs.declared.func.Func.{Func}
-use Rattle.vale_code.specs.declared.func.Impl.{Impl}
 use Rattle.vale_code.specs.declared.instr.Instr.{Instr}
 use Rattle.vale_code.specs.declared.instr.Instr.TheVariants as i
-use Rattle.vale_code.specs.declared.kind.KindInfo.{KindInfo}
 use Rattle.vale_code.specs.declared.kind.KindInfo.TheVariants as k
-use Rattle.vale_code.specs.declared.ty.Ty.{Ty}
 use Rattle.vale_code.specs.declared.ty.Ty.TheVariants as t
 
 -- an object of `S` with the number 7 in register 1, and a reference to it in register 2
@@ -88,19 +83,20 @@ abbrev family : Parts
 family = record {
   texts = codes "main" ∷ codes "Parent" ∷ codes "Child" ∷ codes "drop" ∷ [];
   kinds = k.Struct 1 None (field (t.Own (kind 2)) ∷ [])
-    ∷ k.Struct 2 (Some 1) (field (t.Ref (kind 0)) ∷ [])
-    ∷ k.Array (t.Own (kind 1)) ∷ [];
+      ∷ k.Struct 2 (Some 1) (field (t.Ref (kind 0)) ∷ [])
+      ∷ k.Array (t.Own (kind 1)) ∷ [];
   impls = [];
   funcs = function 0 0 [] t.Void 8
       (i.Make 0 (kind 2) [] ∷ i.Make 1 (kind 0) (0 ∷ [])
       ∷ i.LoadOwn 2 1 0 ∷ i.Borrow 3 1 ∷ i.Make 4 (kind 1) (3 ∷ []) ∷ i.Push 2 4 (at 5)
       ∷ i.Destroy 1 (at 10) ∷ i.RetVoid ∷ [])
-    ∷ function 3 3 (t.Own (kind 1) ∷ []) t.Void 4
+      ∷ function 3 3 (t.Own (kind 1) ∷ []) t.Void 4
       (i.LoadOwn 1 0 0 ∷ i.Load 2 1 0 (at 18) ∷ i.Open (3 ∷ []) 0 ∷ i.RetVoid ∷ [])
-    ∷ [];
-  main = 0 }
+      ∷ [];
+  main = 0;
+}
 
 looks_at_the_dead : run_code family no_input 20
     ≡ gives [] (trap DeadReference (at 18)
-      (frame (codes "drop Child") (at 10) ∷ frame (codes "drop []Child") (at 10) ∷ frame (codes "drop Parent") (at 10) ∷ in_main)) 7
+    (frame (codes "drop Child") (at 10) ∷ frame (codes "drop []Child") (at 10) ∷ frame (codes "drop Parent") (at 10) ∷ in_main)) 7
 looks_at_the_dead = refl

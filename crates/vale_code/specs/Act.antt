@@ -1,8 +1,8 @@
--- What each instruction does (docs/CODE.md, "Instructions").
-use Rattle.std.specs.Prelude.{ℕ, zero, suc, ◌+◌, ℤ, List, [], ◌∷◌, length, Option, Some, None, Bool, true, false, slice_get, nat_le, if◌then◌else◌}
+-- What each instruction does (docs/FORMATS.md, "Instructions").
+use Rattle.std.specs.Prelude.{ℕ, ℤ, List, [], ◌∷◌, length, Option, Some, None, slice_get, nat_le, if◌then◌else◌}
 use Rattle.vale_base.specs.Limits.{width_limit}
 use Rattle.vale_base.specs.Outcome.{Done}
-use Rattle.vale_base.specs.State.{State, Answer, gives, print, make, dies, object_of, name_of, look, Looked, found, dead, nowhere, load, swap, element, swap_element, push, pop, freeze, thaw, merged, kept, cleared, merge, width_of}
+use Rattle.vale_base.specs.State.{State, Answer, print, make, dies, object_of, name_of, look, Looked, found, dead, nowhere, load, swap, element, swap_element, push, pop, freeze, thaw, merged, kept, cleared, merge, width_of}
 use Rattle.vale_base.specs.World.{Value, Int, Truth, Text, Own, Ref, Iso, Object}
 use Rattle.vale_base.specs.declared.name.Kind.{Kind}
 use Rattle.vale_base.specs.declared.spot.Spot.{Spot}
@@ -10,7 +10,7 @@ use Rattle.vale_base.specs.declared.trap.TrapKind.TheVariants.{DeadReference, Lo
 use Rattle.vale_text.specs.Steps as step
 use Rattle.vale_code.specs.Destroy.{destroy, drop_next}
 use Rattle.vale_code.specs.Enter.{Form, function, enter, if_called, if_iteration, leave_function}
-use Rattle.vale_code.specs.Frames.{Active, Items, Numbers, Elements, Frame, Running, Dropping, Looping, Alone, Config, Next, On, Over, on, wrong, trap, deeper, after_tick}
+use Rattle.vale_code.specs.Frames.{Active, Items, Numbers, Elements, Frame, Running, Dropping, Looping, Alone, Config, Next, Over, wrong, trap, deeper, after_tick}
 use Rattle.vale_code.specs.Instructions.{truth_of, comparison_of, copied, moved, borrowed, leading, of_living, array_length, text_length, behind, onward, with_value, with_read, with_registers, with_owner, with_number, with_truth, with_choice, gets, answered, certain, fetch, jump, jump_unless}
 use Rattle.vale_code.specs.Kinds.{kind_of, text_at, holds_values, method_in, result_to}
 use Rattle.vale_code.specs.Loops.{loop_begins, loop_next}
@@ -68,19 +68,19 @@ module _ (code : Parts) (last : Config → State) (f : Active) (below : List Fra
   abbrev pub call : ℕ → ℕ → List ℕ → Spot → Next
   call to g args at =
       function code g s (λ form func.
-          if_called form s (with_read (give_all func.params args f.registers) s (λ vs regs. called g form func to at vs regs)))
+      if_called form s (with_read (give_all func.params args f.registers) s (λ vs regs. called g form func to at vs regs)))
 
   -- a method is called of the object of a name
   abbrev pub call_of_object : ℕ → ℕ → ℕ → List ℕ → Spot → Next
   call_of_object n to g args at =
       function code g s (λ form func.
-          if_called form s (with_read (give_all (without_first func.params) args f.registers) s (λ vs regs. called g form func to at (Ref n ∷ vs) regs)))
+      if_called form s (with_read (give_all (without_first func.params) args f.registers) s (λ vs regs. called g form func to at (Ref n ∷ vs) regs)))
 
   -- the function is found by the kind of the object
   abbrev pub dispatch : Next → ℕ → ℕ → ℕ → ℕ → List ℕ → Spot → Next
   dispatch if_dead to interface method object args at =
       value object (λ v. on_looked (look v s) s if_dead (λ n o.
-          with_choice (method_in code.impls interface method o.kind) s (λ g. call_of_object n to g args at)))
+      with_choice (method_in code.impls interface method o.kind) s (λ g. call_of_object n to g args at)))
 
   abbrev pub returns : Option Value → Next
   returns v = function code f.function s (λ form func. leave_function form f.dest v below s)
@@ -97,17 +97,17 @@ module _ (code : Parts) (last : Config → State) (f : Active) (below : List Fra
   abbrev pub opens : List ℕ → ℕ → Next
   opens to from =
       owner from (λ n. with_choice (object_of n s) s (λ o.
-          with_registers (put_all to o.values (put f.registers from None)) s (λ regs. after_tick s (λ t. onward f regs below (dies n t)))))
+      with_registers (put_all to o.values (put f.registers from None)) s (λ regs. after_tick s (λ t. onward f regs below (dies n t)))))
 
   -- ---- parallel loops
 
   abbrev pub loops : ℕ → Items → ℕ → List ℕ → Registers → Spot → State → Next
   loops to items g args regs at t =
       function code g t (λ form func.
-          if_iteration form t (with_read (give_all (without_first func.params) args regs) t (λ vs after.
-              loop_begins code last
-                  (record { function = g; at = at; dest = result_to func.result to; captured = vs; items = items; next = 0; done = []; quiet = t.quiet })
-                  (behind f after ∷ below) t)))
+      if_iteration form t (with_read (give_all (without_first func.params) args regs) t (λ vs after.
+      loop_begins code last
+      (record { function = g; at = at; dest = result_to func.result to; captured = vs; items = items; next = 0; done = []; quiet = t.quiet })
+      (behind f after ∷ below) t)))
 
   abbrev pub loops_over_numbers : ℕ → ℤ → ℤ → ℕ → List ℕ → Spot → Next
   loops_over_numbers to a b g args at =
@@ -117,7 +117,7 @@ module _ (code : Parts) (last : Config → State) (f : Active) (below : List Fra
   abbrev pub loops_over_array : ℕ → ℕ → ℕ → List ℕ → Spot → Next
   loops_over_array to array g args at =
       owner array (λ n. with_choice (object_of n s) s (λ o.
-          after_tick s (λ t. loops to (Elements o.values) g args (put f.registers array None) at (dies n t))))
+      after_tick s (λ t. loops to (Elements o.values) g args (put f.registers array None) at (dies n t))))
 
   -- ---- the instructions
 

@@ -3,7 +3,7 @@ use Rattle.std.specs.Prelude.{ℕ, List, [], ◌∷◌, Option, Some, None}
 use Rattle.vale_base.specs.State.{State, object_of, dies, join_isolate, drop_frame}
 use Rattle.vale_base.specs.World.{Value, Own, Iso, Object}
 use Rattle.vale_base.specs.declared.spot.Spot.{Spot}
-use Rattle.vale_code.specs.Enter.{Form, function, enter, if_destructor}
+use Rattle.vale_code.specs.Enter.{function, enter, if_destructor}
 use Rattle.vale_code.specs.Frames.{Frame, Dropping, Emptying, Next, on, wrong, deeper, after_tick, leave}
 use Rattle.vale_code.specs.Kinds.{kind_text, destructor_of}
 use Rattle.vale_code.specs.Parts.{Parts}
@@ -13,10 +13,10 @@ use Rattle.vale_code.specs.Parts.{Parts}
 abbrev pub destroy_by : Parts → Option ℕ → ℕ → Object → Spot → List Frame → State → Next
 destroy_by code (Some f) n o at frames s =
     function code f s (λ form func.
-        if_destructor form s (enter f form func (drop_frame (kind_text code o.kind) at) None (Own n ∷ []) frames s))
+    if_destructor form s (enter f form func (drop_frame (kind_text code o.kind) at) None (Own n ∷ []) frames s))
 destroy_by code None n o at frames s =
     deeper 1 at frames s (after_tick s (λ t.
-        on (Dropping (record { call = drop_frame (kind_text code o.kind) at; rest = o.values })) frames (dies n t)))
+    on (Dropping (record { call = drop_frame (kind_text code o.kind) at; rest = o.values })) frames (dies n t)))
 
 abbrev pub destroy_object : Parts → Option Object → ℕ → Spot → List Frame → State → Next
 destroy_object code None n at frames s = wrong s

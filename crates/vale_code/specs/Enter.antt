@@ -1,5 +1,5 @@
 -- How functions are entered and left.
-use Rattle.std.specs.Prelude.{ℕ, zero, suc, List, [], ◌∷◌, Option, Some, None, slice_get}
+use Rattle.std.specs.Prelude.{ℕ, zero, suc, List, Option, Some, None, slice_get}
 use Rattle.vale_base.specs.State.{State, freeze, freeze_iteration, thaw, thaw_iteration, end_of_pure, end_of_isolate, isolated}
 use Rattle.vale_base.specs.World.{Value}
 use Rattle.vale_base.specs.declared.trap.FrameAt.{FrameAt}
@@ -60,7 +60,7 @@ function code f s go = with_func (slice_get code.funcs f) s go
 abbrev pub enter : ℕ → Form → Func → FrameAt → Option ℕ → List Value → List Frame → State → Next
 enter f form func call dest args frames s =
     deeper (weight form) call.at frames s (after_tick s (λ t.
-        on (Running (record { call = call; function = f; dest = dest; place = 0; registers = registers_for func.registers args })) frames (begun form t)))
+    on (Running (record { call = call; function = f; dest = dest; place = 0; registers = registers_for func.registers args })) frames (begun form t)))
 
 -- these forms are called
 abbrev pub if_called : Form → State → Next → Next

@@ -1,5 +1,5 @@
 -- How many steps a run can still make: more than it makes.
-use Rattle.std.specs.Prelude.{ℕ, suc, ◌+◌, ◌-◌, ◌*◌, List, [], ◌∷◌, length, Bool, true, false, if◌then◌else◌}
+use Rattle.std.specs.Prelude.{ℕ, suc, ◌+◌, ◌-◌, ◌*◌, List, [], ◌∷◌, Bool, true, false}
 use Rattle.vale_code.specs.Frames.{Frame, Running, Dropping, Looping, Alone, Config}
 use Rattle.vale_code.specs.Instructions.{fetch, is_tick}
 use Rattle.vale_code.specs.Parts.{Parts}

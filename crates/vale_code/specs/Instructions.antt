@@ -1,14 +1,13 @@
 -- What instructions do that are no calls: they go on in the same function, trap, or have no rule.
-use Rattle.std.specs.Prelude.{ℕ, zero, suc, ◌+◌, ℤ, pos, List, [], ◌∷◌, length, Option, Some, None, Bool, true, false, slice_get, nat_lt, nat_le, ◌||◌, if◌then◌else◌}
-use Rattle.vale_base.specs.State.{State, Answer, gives, traps, fails, with_object, name_of}
-use Rattle.vale_base.specs.World.{Value, Int, Truth, Text, Own, Ref, Iso}
+use Rattle.std.specs.Prelude.{ℕ, zero, suc, ◌+◌, ℤ, pos, List, ◌∷◌, length, Option, Some, None, Bool, true, false, slice_get, nat_lt, ◌||◌}
+use Rattle.vale_base.specs.State.{State, Answer, gives, traps, fails, with_object}
+use Rattle.vale_base.specs.World.{Value, Int, Truth, Own, Ref, Iso}
 use Rattle.vale_base.specs.declared.spot.Spot.{Spot}
-use Rattle.vale_base.specs.declared.trap.TrapKind.{TrapKind}
-use Rattle.vale_base.specs.declared.trap.TrapKind.TheVariants.{DeadReference, Overflow, DivisionByZero, IndexOutOfRange, ArrayTooLong, TextTooLong, EmptyPop, NotANumber, CallDepth, LoopTooWide}
+use Rattle.vale_base.specs.declared.trap.TrapKind.TheVariants.{DeadReference}
 use Rattle.vale_text.specs.Steps.{Comparison, equal, not_equal, less, less_equal, greater, greater_equal, on_text}
 use Rattle.vale_code.specs.Frames.{Active, Frame, Running, Next, on, wrong, trap, after_tick}
 use Rattle.vale_code.specs.Parts.{Parts}
-use Rattle.vale_code.specs.Registers.{Registers, Read, put, kept, with_result}
+use Rattle.vale_code.specs.Registers.{Registers, Read, put, with_result}
 use Rattle.vale_code.specs.declared.func.Func.{Func}
 use Rattle.vale_code.specs.declared.instr.Instr.{Instr}
 use Rattle.vale_code.specs.declared.instr.Instr.TheVariants as i

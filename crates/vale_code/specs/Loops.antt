@@ -3,18 +3,17 @@ use Rattle.std.specs.Prelude.{ℕ, ◌+◌, List, [], ◌∷◌, Option, Some, N
 use Rattle.vale_base.specs.State.{State, born, alone, loop_counted, is_outermost, iteration_frame}
 use Rattle.vale_base.specs.World.{Value, Own, next_name}
 use Rattle.vale_base.specs.declared.name.Kind.{Kind}
-use Rattle.vale_code.specs.Enter.{Form, function, enter, if_iteration}
-use Rattle.vale_code.specs.Frames.{Frame, Looping, Alone, Iterating, Items, Item, Config, Next, On, Over, on, wrong, after_tick, leave, next_item, all_items}
+use Rattle.vale_code.specs.Enter.{function, enter, if_iteration}
+use Rattle.vale_code.specs.Frames.{Frame, Looping, Alone, Iterating, Item, Config, Next, On, Over, on, wrong, after_tick, leave, next_item, all_items}
 use Rattle.vale_code.specs.Kinds.{array_of, element_type}
 use Rattle.vale_code.specs.Parts.{Parts}
-use Rattle.vale_code.specs.declared.func.Func.{Func}
 use Rattle.vale_code.specs.declared.ty.Ty.{Ty}
 
 -- iteration k of a loop begins with its item, over these frames
 abbrev pub iterate : Parts → Iterating → ℕ → Value → List Frame → State → Next
 iterate code f k item frames s =
     function code f.function s (λ form func.
-        if_iteration form s (enter f.function form func (iteration_frame k f.at) (Some 0) (item ∷ f.captured) frames s))
+    if_iteration form s (enter f.function form func (iteration_frame k f.at) (Some 0) (item ∷ f.captured) frames s))
 
 abbrev pub array_made : Option Kind → Iterating → List Frame → State → Next
 array_made None f below s = wrong s

@@ -10,7 +10,6 @@ use Rattle.vale_code.specs.Frames.{Config, Next, On, Over, wrong, after_tick}
 use Rattle.vale_code.specs.Fuel.{fuel}
 use Rattle.vale_code.specs.Kinds.{text_at}
 use Rattle.vale_code.specs.Parts.{Parts}
-use Rattle.vale_code.specs.declared.func.Func.{Func}
 use Rattle.vale_code.specs.declared.ty.Ty.{Ty}
 use Rattle.vale_code.specs.declared.ty.Ty.TheVariants as t
 
@@ -68,8 +67,8 @@ if_plain _ s go = wrong s
 abbrev pub start : Parts → Given → ℕ → Next
 start code input ticks =
     function code code.main (begin ticks) (λ form func.
-        if_plain form (begin ticks) (with_input func.params (given input) (begin ticks) (λ args s.
-            enter code.main form func (function_frame (text_at code func.name) first_spot) None args [] s)))
+    if_plain form (begin ticks) (with_input func.params (given input) (begin ticks) (λ args s.
+    enter code.main form func (function_frame (text_at code func.name) first_spot) None args [] s)))
 
 abbrev pub fuel_after : Parts → Next → ℕ
 fuel_after code (On c) = suc (fuel code c)

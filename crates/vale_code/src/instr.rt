@@ -1,7 +1,7 @@
 use crate::Sequence;
 use vale_base::{Kind, Spot};
 
-/// An instruction (docs/CODE.md, "Instructions"). `to` is the register that is written; it isn't where the result is
+/// An instruction (docs/FORMATS.md, "Instructions"). `to` is the register that is written; it isn't where the result is
 /// void. `func`, `field`, `method` and `text` are numbers, and `target` is a place in the function.
 #[derive(Drop)]
 pub enum Instr {
