@@ -1,1 +1,3 @@
 mod MeaningTexts
+mod StateLaws
+mod WorldLaws
