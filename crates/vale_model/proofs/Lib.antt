@@ -1,3 +1,5 @@
 mod MeaningTexts
+mod RunLaws
 mod StateLaws
+mod TreeLaws
 mod WorldLaws

@@ -43,8 +43,8 @@ abbrev pub GoesOn : {A : Type 0} → State → Result A → Type 0
 GoesOn s r = Later s (state_in r) × IsCutRight r
 
 -- it does from every state with fewer ticks left than this
-abbrev pub AlwaysGoesOn : {A : Type 0} → ℕ → Run A → Type 0
-AlwaysGoesOn n m = (calls : Calls) (l : Locals) (s : State) → s.left < n → GoesOn s (m calls l s)
+pub record AlwaysGoesOn {A : Type 0} (n : ℕ) (m : Run A) : Type 0 where
+  pub from : (calls : Calls) (l : Locals) (s : State) → s.left < n → GoesOn s (m calls l s)
 
 -- so does a single step
 abbrev pub StepGoesOn : State → Answer → Type 0
