@@ -1,3 +1,4 @@
+pub mod MeaningLaws
 mod MeaningTexts
 mod RunLaws
 mod StateLaws
