@@ -49,6 +49,19 @@ step code c = step_by code (last_state code) c
 abbrev pub exec : Parts → ℕ → Config → Option Ending
 exec code n c = exec_by code (last_state code) n c
 
+abbrev pub go_on : Next → (Config → Next) → Next
+go_on (On c) go = go c
+go_on (Over end v s) go = Over end v s
+
+-- what so many steps lead to
+abbrev pub steps : Parts → ℕ → Config → Next
+steps code zero c = On c
+steps code (suc n) c = go_on (step code c) (steps code n)
+
+abbrev pub state_in : Next → State
+state_in (On c) = c.state
+state_in (Over end v s) = s
+
 -- ---- the start
 
 abbrev pub first_spot : Spot

@@ -14,6 +14,9 @@ pub use code::Code;
 pub use func::{Func, Impl};
 pub use instr::Instr;
 pub use kind::{Field, KindInfo, MethodInfo};
-pub use laws::{code_is_small, run_ends};
+pub use laws::{
+    code_is_small, cut_where_no_tick_is_left, names_never_return, run_ends, stamps_rise,
+    ticks_stay_within,
+};
 pub use sequence::Sequence;
 pub use ty::Ty;
