@@ -128,7 +128,7 @@ module _ (code : Parts) (below : List Frame) (s : State) where
       iterates code s one_more f f.next item.first (Looping (record f { items = item.rest; next = f.next + 1 }) ∷ below) s (laws.later_refl s) (omega arith)
 
   pub loops_on : (f : Iterating) → Fits code s one_more (loop_next code f below s)
-  loops_on f = goes_on (next_item f.items f.next) f
+  loops_on f = goes_on (next_item f.items) f
 
 -- ---- instructions
 

@@ -1,8 +1,8 @@
 -- What is under way when code runs, and what a step leads to.
-use Rattle.std.specs.Prelude.{ℕ, zero, suc, ◌+◌, ℤ, List, [], ◌∷◌, ◌++◌, Option, Some, None, Bool, if◌then◌else◌}
+use Rattle.std.specs.Prelude.{ℕ, zero, suc, ◌+◌, ℤ, pos, ◌+ℤ◌, List, [], ◌∷◌, ◌++◌, Option, Some, None, Bool, if◌then◌else◌}
 use Rattle.vale_base.specs.Outcome.{End, Done, Cut, Wrong}
-use Rattle.vale_base.specs.State.{State, Calls, index_of, has_depth, spend, trap_under}
-use Rattle.vale_base.specs.World.{Value}
+use Rattle.vale_base.specs.State.{State, Calls, has_depth, spend, trap_under}
+use Rattle.vale_base.specs.World.{Value, Int}
 use Rattle.vale_base.specs.declared.spot.Spot.{Spot}
 use Rattle.vale_base.specs.declared.trap.FrameAt.{FrameAt}
 use Rattle.vale_base.specs.declared.trap.TrapKind.{TrapKind}
@@ -22,7 +22,7 @@ pub record Emptying : Type 0 where
   pub call : FrameAt
   pub rest : List Value
 
--- what the iterations that haven't begun get: numbers from the first number of the loop on, or values
+-- what the iterations that haven't begun get: so many numbers from one on, or values
 pub data Items : Type 0 where
   Numbers : ℤ → ℕ → Items
   Elements : List Value → Items
@@ -104,17 +104,17 @@ pub record Item : Type 0 where
   pub first : Value
   pub rest : Items
 
-abbrev pub next_item : Items → ℕ → Option Item
-next_item (Numbers a zero) k = None
-next_item (Numbers a (suc more)) k = Some (record { first = index_of a k; rest = Numbers a more })
-next_item (Elements []) k = None
-next_item (Elements (v ∷ vs)) k = Some (record { first = v; rest = Elements vs })
+abbrev pub next_item : Items → Option Item
+next_item (Numbers x zero) = None
+next_item (Numbers x (suc more)) = Some (record { first = Int x; rest = Numbers (x +ℤ pos 1) more })
+next_item (Elements []) = None
+next_item (Elements (v ∷ vs)) = Some (record { first = v; rest = Elements vs })
 
-abbrev pub numbers_from : ℤ → ℕ → ℕ → List Value
-numbers_from a zero k = []
-numbers_from a (suc more) k = index_of a k ∷ numbers_from a more (k + 1)
+abbrev pub numbers_from : ℕ → ℤ → List Value
+numbers_from zero x = []
+numbers_from (suc more) x = Int x ∷ numbers_from more (x +ℤ pos 1)
 
--- what all iterations from number k on get
-abbrev pub all_items : Items → ℕ → List Value
-all_items (Numbers a more) k = numbers_from a more k
-all_items (Elements vs) k = vs
+-- what all iterations get
+abbrev pub all_items : Items → List Value
+all_items (Numbers x more) = numbers_from more x
+all_items (Elements vs) = vs

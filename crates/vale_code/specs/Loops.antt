@@ -33,7 +33,7 @@ loop_goes_on code (Some item) f below s = iterate code f f.next item.first (Loop
 
 -- the next iteration of a loop, or its end
 abbrev pub loop_next : Parts → Iterating → List Frame → State → Next
-loop_next code f below s = loop_goes_on code (next_item f.items f.next) f below s
+loop_next code f below s = loop_goes_on code (next_item f.items) f below s
 
 -- ---- each iteration by itself
 
@@ -48,7 +48,7 @@ alone_after code last f below s k (item ∷ items) =
     state_after last (iterate code f k item (Alone None ∷ below) (alone s)) ∷ alone_after code last f below s (k + 1) items
 
 abbrev pub counted_from : Bool → Parts → (Config → State) → Iterating → List Frame → State → State
-counted_from true code last f below s = loop_counted (alone_after code last f below s 0 (all_items f.items 0)) s
+counted_from true code last f below s = loop_counted (alone_after code last f below s 0 (all_items f.items)) s
 counted_from false code last f below s = s
 
 -- A loop begins over the frames that go on after it. One that is no part of an iteration counts what each of its iterations
