@@ -1,6 +1,7 @@
 mod ArrayExamples
 mod CallExamples
 mod Codes
+mod DepthExamples
 pub mod Ends
 mod Fits
 mod FreezeExamples

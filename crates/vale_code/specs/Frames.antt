@@ -1,5 +1,5 @@
 -- What is under way when code runs, and what a step leads to.
-use Rattle.std.specs.Prelude.{ℕ, zero, suc, ◌+◌, ℤ, pos, ◌+ℤ◌, List, [], ◌∷◌, ◌++◌, Option, Some, None, Bool, if◌then◌else◌}
+use Rattle.std.specs.Prelude.{ℕ, zero, suc, ℤ, pos, ◌+ℤ◌, List, [], ◌∷◌, ◌++◌, Option, Some, None, Bool, if◌then◌else◌}
 use Rattle.vale_base.specs.Outcome.{End, Done, Cut, Wrong}
 use Rattle.vale_base.specs.State.{State, Calls, has_depth, spend, trap_under}
 use Rattle.vale_base.specs.World.{Value, Int}

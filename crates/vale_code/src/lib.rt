@@ -8,6 +8,8 @@ mod kind;
 mod laws;
 mod sequence;
 mod sizes;
+#[cfg(test)]
+mod tests;
 mod ty;
 
 pub use code::Code;
