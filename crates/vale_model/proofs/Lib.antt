@@ -1,5 +1,7 @@
 pub mod MeaningLaws
 mod MeaningTexts
+mod Programs
+mod RuleTexts
 mod RunLaws
 mod StateLaws
 mod TreeLaws
