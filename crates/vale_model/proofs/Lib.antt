@@ -1,4 +1,6 @@
 pub mod MeaningLaws
 mod MeaningTexts
+mod Programs
+mod RuleTexts
 mod RunLaws
 mod TreeLaws

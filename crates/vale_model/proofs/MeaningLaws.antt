@@ -1,22 +1,21 @@
 -- What holds of whole runs: by induction on the ticks.
-use Rattle.std.proofs.Common.{◌≡◌, ℕ, zero, suc, ◌+◌, ◌≤◌, ◌<◌, List, [], ◌∷◌, ◌++◌, Option, Some, None, refl, sym, ap, ◌∙◌, subst, arith}
+use Rattle.std.proofs.Common.{◌≡◌, ℕ, zero, suc, ◌≤◌, List, [], ◌∷◌, Option, Some, None, refl, sym, ◌∙◌, subst, arith}
 use Rattle.std.specs.Prelude.{slice_get}
-use Rattle.vale_base.specs.Outcome.{End, Done, Trap, Cut, Wrong, Outcome}
+use Rattle.vale_base.specs.Outcome.{Done, Trap, Cut, Wrong}
 use Rattle.vale_base.specs.State.{State, Calls, begin, Given, given, main_frame}
 use Rattle.vale_base.specs.World.{Value}
 use Rattle.vale_base.specs.declared.spot.Spot.{Spot}
 use Rattle.vale_base.specs.declared.trap.FrameAt.{FrameAt}
-use Rattle.vale_base.specs.declared.piece.Piece.{Piece}
 use Rattle.vale_syntax.specs.Declarations.{head_params}
 use Rattle.vale_syntax.specs.Types.{Ty}
 use Rattle.vale_syntax.specs.Typed.{Expr, Block, block, Function, function_body, Typed}
 use Rattle.vale_model.specs.Parts.{Parts, parts_of, param_names, main_of}
-use Rattle.vale_model.specs.Runs.{Locals, Result, goes, returned, ended, Run, ◌>>=◌, nothing, tick, valued, choose, under}
-use Rattle.vale_model.specs.Destruction.{Again, drop_values, leave}
-use Rattle.vale_model.specs.Expressions.{block_run, expr_run, called, made}
+use Rattle.vale_model.specs.Runs.{Locals, Result, goes, returned, ended, Run, ◌>>=◌, nothing, tick, valued, under}
+use Rattle.vale_model.specs.Destruction.{Again, drop_values}
+use Rattle.vale_model.specs.Expressions.{block_run, expr_run, made}
 use Rattle.vale_model.specs.Loops.{state_in}
 use Rattle.vale_model.specs.Meaning.{bound, back_to, body_run, with_bound, function_run, turn_run, level, main_run, main_takes, with_input, run_of, outcome_of, meaning}
-use Rattle.vale_text.specs.Later.{StampsRise, NameLater, Later, EndsRight}
+use Rattle.vale_text.specs.Later.{StampsRise, NameLater}
 use Rattle.vale_model.specs.Later.{GoesOn, AlwaysGoesOn}
 use Rattle.vale_model.proofs.RunLaws.{bind_goes, nothing_goes, wrong_goes, tick_goes, under_goes, valued_goes, choose_goes}
 use Rattle.vale_model.proofs.TreeLaws.{Follows, leave_goes, drop_values_goes, called_goes, made_goes, expr_goes, block_goes}

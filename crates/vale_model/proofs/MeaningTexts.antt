@@ -1,83 +1,13 @@
 -- What whole programs do, by computation: what they print and at which tick, how they end, and the ticks that they spend. A program
 -- stands here as its tree.
-use Rattle.std.proofs.Common.{◌≡◌, ℕ, List, [], ◌∷◌, ◌++◌, Option, Some, None, refl}
-use Rattle.std.specs.Prelude.{true, false, codes, pos, ◌==◌, ◌&&◌, if◌then◌else◌}
-use Rattle.std.specs.Fmt.{decimal, signed_decimal}
-use Rattle.vale_base.specs.Outcome.{Outcome, End, Done, Trap, Cut, Wrong}
-use Rattle.vale_base.specs.State.{Given, no_input, numbers, lines}
-use Rattle.vale_base.specs.declared.piece.Piece.{Piece}
-use Rattle.vale_base.specs.declared.spot.Spot.{Spot}
-use Rattle.vale_base.specs.declared.trap.FrameAt.{FrameAt}
-use Rattle.vale_base.specs.declared.trap.TrapKind.{TrapKind}
-use Rattle.vale_base.specs.declared.trap.TrapKind.TheVariants.{Overflow, DivisionByZero, DeadReference, IndexOutOfRange, ArrayTooLong, TextTooLong, EmptyPop, NotANumber, CallDepth, LoopTooWide}
-use Rattle.vale_syntax.specs.declared.tree.NameAt.{NameAt}
-use Rattle.vale_syntax.specs.declared.tree.BinaryOp.TheVariants.{Or, And, Equal, NotEqual, Less, LessEqual, Greater, GreaterEqual, Add, Sub, Mul, Div, Rem}
-use Rattle.vale_syntax.specs.declared.tree.UnaryOp.TheVariants.{Minus, Not, Borrow, Merge}
-use Rattle.vale_syntax.specs.Judged.{Judged, fine, faulty}
-use Rattle.vale_syntax.specs.Typing.{typed}
-use Rattle.vale_syntax.specs.Typed.{Typed}
-use Rattle.vale_syntax.specs.Tree.{int_type, bool_type, str_type, named_type, array_type, ref_type, imm_ref_type, iso_type, set, chain, unary, steps, number, quote, truth, name, call, paren, array, iso, form, no_exprs, more_exprs, link, no_links, more_links, field, method, index, no_steps, more_steps, branch, pure, parallel_range, parallel_each, else_if, no_else, otherwise, more_elses, block, declare, destructure, return_nothing, return_value, while, foreach, form_stmt, express, no_stmts, last, more_stmts, param, head, function, field_decl, Item, struct_item, interface_item, impl_item, function_item, Tree, tree}
-use Rattle.vale_model.specs.Meaning.{meaning}
-
--- ---- nodes, with their lines and columns
-
-abbrev at : ℕ → ℕ → Spot
-at line column = record { line = line; col = column }
-
--- the name of a number
-abbrev n : ℕ → ℕ → ℕ → NameAt
-n k line column = record { name = record { 0 = k }; at = at line column }
-
--- where a block begins and ends
-record Brace : Type 0 where
-  opens : Spot
-  closes : Spot
-
-abbrev brace : ℕ → ℕ → ℕ → ℕ → Brace
-brace a b c d = record { opens = at a b; closes = at c d }
-
-abbrev closing : List Brace → Spot → Spot
-closing [] s = s
-closing (x ∷ xs) s = if (x.opens.line == s.line) && (x.opens.col == s.col) then x.closes else closing xs s
-
-record Program : Type 0 where
-  tree : Tree
-  braces : List Brace
-
--- ---- outcomes
-
-abbrev run_typed : Judged Typed → (Spot → Spot) → Given → ℕ → Option Outcome
-run_typed (fine program) ends input ticks = Some (meaning program ends input ticks)
-run_typed (faulty f fs) ends input ticks = None
-
--- what the program does, where its types are lawful
-abbrev run_on : Program → Given → ℕ → Option Outcome
-run_on p input ticks = run_typed (typed p.tree) (closing p.braces) input ticks
-
-abbrev run : Program → ℕ → Option Outcome
-run p ticks = run_on p no_input ticks
-
-abbrev piece : ℕ → List ℕ → Piece
-piece tick bytes = record { tick = tick; bytes = bytes }
-
-abbrev frame : List ℕ → ℕ → ℕ → FrameAt
-frame what line column = record { what = what; at = at line column }
-
-abbrev in_main : FrameAt
-in_main = frame (codes "main") 1 1
-
-abbrev done : ℕ → List Piece → Option Outcome
-done ticks pieces = Some (record { pieces = pieces; end = Done; ticks = ticks })
-
-abbrev cut : ℕ → List Piece → Option Outcome
-cut ticks pieces = Some (record { pieces = pieces; end = Cut; ticks = ticks })
-
-abbrev trapped : ℕ → List Piece → TrapKind → Spot → List FrameAt → Option Outcome
-trapped ticks pieces kind at frames = Some (record { pieces = pieces; end = Trap (record { kind = kind; at = at; frames = frames; more = 0 }); ticks = ticks })
-
--- a number and a line feed
-abbrev line : ℕ → List ℕ
-line z = signed_decimal (pos z) ++ 10 ∷ []
+use Rattle.std.proofs.Common.{◌≡◌, [], ◌∷◌, ◌++◌, Some, None, refl}
+use Rattle.std.specs.Prelude.{true, false, codes, pos}
+use Rattle.std.specs.Fmt.{decimal}
+use Rattle.vale_base.specs.declared.trap.TrapKind.TheVariants.{Overflow, DivisionByZero, DeadReference}
+use Rattle.vale_syntax.specs.declared.tree.BinaryOp.TheVariants.{Or, Equal, Greater, Add, Sub, Div}
+use Rattle.vale_syntax.specs.declared.tree.UnaryOp.TheVariants.{Borrow, Merge}
+use Rattle.vale_syntax.specs.Tree.{int_type, named_type, array_type, ref_type, imm_ref_type, iso_type, set, chain, unary, steps, number, truth, name, call, paren, array, iso, form, no_exprs, more_exprs, link, no_links, more_links, field, index, no_steps, more_steps, branch, parallel_range, parallel_each, no_else, block, declare, destructure, return_value, while, foreach, express, no_stmts, last, more_stmts, param, head, function, field_decl, struct_item, function_item, tree}
+use Rattle.vale_model.proofs.Programs.{at, n, brace, Program, run, piece, frame, in_main, done, cut, trapped, line}
 
 -- func main() { println(1 + 2); }
 abbrev a_sum : Program

@@ -1,19 +1,18 @@
 -- Every part of a program goes on as runs do: by induction on the ticks left, and then on the tree.
-use Rattle.std.proofs.Common.{◌≡◌, ℕ, zero, suc, ◌+◌, ◌≤◌, ◌<◌, ℤ, pos, List, [], ◌∷◌, Option, Some, None, Bool, true, false, refl, sym, ap, ◌∙◌, subst, arith, ◌==◌}
+use Rattle.std.proofs.Common.{◌≡◌, ℕ, zero, suc, ◌+◌, ◌<◌, ℤ, pos, List, [], ◌∷◌, Option, Some, None, Bool, true, false, refl, arith}
 use Rattle.std.specs.Prelude.{nat_lt, if◌then◌else◌, ◌+ℤ◌}
 use Rattle.vale_base.specs.Limits.{width_limit}
-use Rattle.vale_base.specs.Outcome.{End}
-use Rattle.vale_base.specs.State.{State, Calls, Answer, gives, traps, fails, spend, has_depth, Looked, found, dead, nowhere, look, lent, print, make, dies, join_isolate, object_of, drop_frame, freeze, thaw, freeze_iteration, thaw_iteration, RegionEnd, end_of_pure, end_of_isolate, isolated, iteration_frame, is_outermost, alone, loop_counted, counting_as, width_of, load, element, swap, swap_element, len, push, pop, merge}
+use Rattle.vale_base.specs.State.{State, Calls, Answer, gives, traps, fails, spend, has_depth, lent, make, dies, object_of, freeze_iteration, thaw_iteration, end_of_isolate, isolated, iteration_frame, is_outermost, loop_counted, counting_as, width_of}
 use Rattle.vale_base.specs.World.{Value, Int, Truth, Text, Own, Ref, Iso, Object}
 use Rattle.vale_base.specs.declared.spot.Spot.{Spot}
 use Rattle.vale_base.specs.declared.trap.FrameAt.{FrameAt}
 use Rattle.vale_base.specs.declared.trap.TrapKind.{TrapKind}
 use Rattle.vale_base.specs.declared.trap.TrapKind.TheVariants.{CallDepth, LoopTooWide}
-use Rattle.vale_model.specs.Runs.{Locals, Result, goes, returned, ended, Run, then_do, ◌>>=◌, give, nothing, wrong, trap, answered, step, change, ticked, tick, deep, under, the_value, valued, choose, held_by, with_held, read, move, exchange, outer, innermost, while_waits}
+use Rattle.vale_model.specs.Runs.{Locals, Result, goes, returned, ended, Run, then_do, ◌>>=◌, give, nothing, wrong, trap, answered, step, change, ticked, tick, deep, under, the_value, valued, choose, held_by, with_held, read, move, exchange, outer, while_waits}
 use Rattle.vale_model.specs.Loops.{number_in, turns, in_region, iteration, collected, in_order, state_in, each_alone, loop, indices, numbered, emptied, taken_apart, loop_value}
 use Rattle.vale_text.specs.Later.{Later, StepGoesOn}
-use Rattle.vale_model.specs.Later.{GoesOn, IsCutRight, AlwaysGoesOn}
-use Rattle.vale_text.proofs.StateLaws.{later_refl, later_trans, Spent, spend_of_later, none_left, dies_later, freeze_later, freeze_iteration_later, thaw_later, thaw_iteration_later, join_isolate_later, loop_counted_later, counting_as_later, make_goes}
+use Rattle.vale_model.specs.Later.{GoesOn, AlwaysGoesOn}
+use Rattle.vale_text.proofs.StateLaws.{later_refl, later_trans, spend_of_later, none_left, dies_later, freeze_iteration_later, thaw_iteration_later, loop_counted_later, counting_as_later, make_goes}
 use Rattle.vale_syntax.specs.Types.{Ty, array}
 use Rattle.vale_syntax.specs.Types as y
 use Rattle.vale_model.specs.Parts.{Parts, kind_of}

@@ -1,6 +1,6 @@
 -- Every expression, statement and block goes on as runs do, where what it does after a tick does.
-use Rattle.std.proofs.Common.{◌≡◌, ℕ, zero, suc, ◌<◌, ℤ, pos, List, [], ◌∷◌, Option, Some, None, Bool, true, false, refl, arith}
-use Rattle.vale_base.specs.State.{State, Answer, Looked, found, dead, nowhere, look, load, element, swap, swap_element, len, push, pop, make, merge, print, freeze, thaw, RegionEnd, end_of_pure, end_of_isolate, isolated, function_frame, method_frame, width_of, dies, drop_frame, join_isolate, object_of}
+use Rattle.std.proofs.Common.{ℕ, suc, pos, List, [], ◌∷◌, Option, Some, None, Bool, true, false}
+use Rattle.vale_base.specs.State.{State, Looked, found, dead, nowhere, look, load, element, swap, swap_element, len, push, pop, make, merge, print, freeze, thaw, RegionEnd, end_of_pure, end_of_isolate, isolated, function_frame, method_frame, width_of, dies, drop_frame, join_isolate, object_of}
 use Rattle.vale_base.specs.World.{Value, Int, Truth, Text, Own, Ref, Iso, Object}
 use Rattle.vale_base.specs.declared.spot.Spot.{Spot}
 use Rattle.vale_base.specs.declared.trap.FrameAt.{FrameAt}
@@ -16,14 +16,14 @@ use Rattle.vale_syntax.specs.declared.tree.UnaryOp.{UnaryOp}
 use Rattle.vale_syntax.specs.declared.tree.UnaryOp.TheVariants.{Minus, Not, Borrow, Merge}
 use Rattle.vale_syntax.specs.Types.{Ty, void, seen_object}
 use Rattle.vale_syntax.specs.Types as y
-use Rattle.vale_syntax.specs.Typed.{Callee, built_in, constructor, function, Expr, expr, Node, set, chain, unary, steps, number, quote, truth, name, call, paren, array, iso, form, Exprs, no_exprs, more_exprs, Link, link, Links, no_links, more_links, Step, field, method, index, Steps, no_steps, more_steps, Form, branch, pure, parallel_range, parallel_each, ElseIf, else_if, Elses, no_else, otherwise, more_elses, Block, block, Stmt, declare, destructure, return_nothing, return_value, while, foreach, form_stmt, express, Stmts, no_stmts, last, more_stmts, Function}
-use Rattle.vale_model.specs.Parts.{Parts, name_text, is_pure, function_named, method_of, field_place, kind_of, type_of_kind, kind_text}
-use Rattle.vale_model.specs.Runs.{Locals, Local, Result, goes, returned, ended, Run, then_do, ◌>>=◌, give, nothing, wrong, trap, step, change, tick, deep, valued, choose, read, move, exchange, while_waits, innermost, outer}
+use Rattle.vale_syntax.specs.Typed.{Callee, built_in, constructor, function, Expr, expr, Node, set, chain, unary, steps, number, quote, truth, name, call, paren, array, iso, form, Exprs, no_exprs, more_exprs, link, Links, no_links, more_links, Step, field, method, index, Steps, no_steps, more_steps, Form, branch, pure, parallel_range, parallel_each, else_if, Elses, no_else, otherwise, more_elses, Block, block, Stmt, declare, destructure, return_nothing, return_value, while, foreach, form_stmt, express, Stmts, no_stmts, last, more_stmts, Function}
+use Rattle.vale_model.specs.Parts.{name_text, is_pure, function_named, method_of, field_place, kind_of, type_of_kind, kind_text}
+use Rattle.vale_model.specs.Runs.{Locals, goes, returned, Run, ◌>>=◌, give, nothing, step, change, tick, deep, valued, read, move, exchange, while_waits, innermost, outer}
 use Rattle.vale_model.specs.Destruction.{Again, destructor_in, destroyed_by, destroyed, destroy, drop, drop_values, drop_locals, leave, with_local, with_locals}
-use Rattle.vale_model.specs.Loops.{number_in, turns, loop, numbered, taken_apart, loop_value, state_in}
+use Rattle.vale_model.specs.Loops.{number_in, loop, numbered, taken_apart}
 use Rattle.vale_model.specs.Expressions.{plus, operated, link_run, unary_run, called_by, called, dispatched_to, dispatched_on, dispatched, built_in_run, made, callee_run, on_place, frozen_run, expr_spot, numbers_of, expr_run, node_run, exprs_run, links_run, step_run, steps_run, set_run, set_steps, set_step, form_run, iteration_body, elses_run, block_run, stmts_run, stmt_run}
-use Rattle.vale_text.specs.Later.{Later, StepGoesOn}
-use Rattle.vale_model.specs.Later.{GoesOn, AlwaysGoesOn}
+use Rattle.vale_text.specs.Later.{StepGoesOn}
+use Rattle.vale_model.specs.Later.{AlwaysGoesOn}
 use Rattle.vale_text.proofs.StateLaws.{later_refl, dies_later, freeze_later, thaw_later, join_isolate_later, print_goes, make_goes, load_goes, swap_goes, element_goes, swap_element_goes, len_goes, push_goes, pop_goes, merge_goes, ints_goes, join_goes, slice_goes, byte_goes, text_of_goes, is_number_goes, number_goes, opposite_goes, compare_goes}
 use Rattle.vale_model.proofs.RunLaws.{then_goes, bind_goes, give_goes, nothing_goes, wrong_goes, trap_goes, step_goes, change_goes, tick_goes, deep_goes, valued_goes, choose_goes, read_goes, move_goes, exchange_goes, while_waits_goes, number_in_goes, turns_goes, loop_goes, numbered_goes, taken_apart_goes, loop_value_goes}
 
@@ -276,7 +276,9 @@ module _ (again : Again) (n : ℕ) (follows : Follows again n) where
 
     steps_goes : (v : Value) (ss : Steps) → AlwaysGoesOn (suc n) (steps_run again v ss)
     steps_goes v no_steps = give_goes (suc n) (Some v)
-    steps_goes v (more_steps x xs) = bind_goes (suc n) (valued (step_run again v x)) _ (valued_goes (suc n) (step_run again v x) (step_goes_on v x)) (λ w. steps_goes w xs)
+    steps_goes v (more_steps x no_steps) = step_goes_on v x
+    steps_goes v (more_steps x (more_steps z zs)) =
+        bind_goes (suc n) (valued (step_run again v x)) _ (valued_goes (suc n) (step_run again v x) (step_goes_on v x)) (λ w. steps_goes w (more_steps z zs))
 
     set_goes : (new : Value) (q : Expr) → AlwaysGoesOn (suc n) (set_run again new q)
     set_goes new (expr x (name k moved)) = bind_goes (suc n) (exchange k.name.0 new) _ (exchange_goes (suc n) k.name.0 new) (λ old. give_goes (suc n) (Some old))

@@ -1,8 +1,7 @@
 -- What the expressions, statements and blocks of a program do, from left to right: a rule for each of them.
-use Rattle.std.specs.Prelude.{ℕ, ℤ, pos, Bool, true, false, List, [], ◌∷◌, map, Option, Some, None}
+use Rattle.std.specs.Prelude.{ℕ, Bool, true, false, List, [], ◌∷◌, Option, Some, None}
 use Rattle.vale_base.specs.State.{State, Answer, fails, Looked, found, dead, nowhere, look, load, element, swap, swap_element, len, push, pop, make, merge, print, freeze, thaw, RegionEnd, end_of_pure, end_of_isolate, isolated, function_frame, method_frame, width_of}
 use Rattle.vale_base.specs.World.{Value, Int, Truth, Text, Ref}
-use Rattle.vale_base.specs.declared.name.Name.{Name}
 use Rattle.vale_base.specs.declared.spot.Spot.{Spot}
 use Rattle.vale_base.specs.declared.trap.FrameAt.{FrameAt}
 use Rattle.vale_base.specs.declared.trap.TrapKind.TheVariants.{DeadReference}
@@ -16,9 +15,9 @@ use Rattle.vale_syntax.specs.declared.tree.UnaryOp.{UnaryOp}
 use Rattle.vale_syntax.specs.declared.tree.UnaryOp.TheVariants.{Minus, Not, Borrow, Merge}
 use Rattle.vale_syntax.specs.Types.{Ty, void, View, seen_object}
 use Rattle.vale_syntax.specs.Types as y
-use Rattle.vale_syntax.specs.Typed.{Callee, built_in, constructor, function, Expr, expr, Node, set, chain, unary, steps, number, quote, truth, name, call, paren, array, iso, form, Exprs, no_exprs, more_exprs, Link, link, Links, no_links, more_links, Step, field, method, index, Steps, no_steps, more_steps, Form, branch, pure, parallel_range, parallel_each, ElseIf, else_if, Elses, no_else, otherwise, more_elses, Block, block, Stmt, declare, destructure, return_nothing, return_value, while, foreach, form_stmt, express, Stmts, no_stmts, last, more_stmts, Function}
-use Rattle.vale_model.specs.Parts.{Parts, name_text, is_pure, function_named, method_of, field_place, kind_of, type_of_kind}
-use Rattle.vale_model.specs.Runs.{Result, Run, ◌>>=◌, give, nothing, wrong, trap, step, change, tick, deep, valued, choose, read, move, exchange, while_waits}
+use Rattle.vale_syntax.specs.Typed.{Callee, built_in, constructor, function, Expr, expr, Node, set, chain, unary, steps, number, quote, truth, name, call, paren, array, iso, form, Exprs, no_exprs, more_exprs, link, Links, no_links, more_links, Step, field, method, index, Steps, no_steps, more_steps, Form, branch, pure, parallel_range, parallel_each, else_if, Elses, no_else, otherwise, more_elses, Block, block, Stmt, declare, destructure, return_nothing, return_value, while, foreach, form_stmt, express, Stmts, no_stmts, last, more_stmts, Function}
+use Rattle.vale_model.specs.Parts.{name_text, is_pure, function_named, method_of, field_place, kind_of, type_of_kind}
+use Rattle.vale_model.specs.Runs.{Run, ◌>>=◌, give, nothing, wrong, trap, step, change, tick, deep, valued, choose, read, move, exchange, while_waits}
 use Rattle.vale_model.specs.Destruction.{Again, drop, leave, with_local, with_locals}
 use Rattle.vale_model.specs.Loops.{number_in, turns, loop, numbered, taken_apart, loop_value}
 
@@ -243,8 +242,10 @@ abbrev mutual
     vs ← exprs_run again es
     dispatched again at (seen_object view) n.0 v vs
 
+  -- the last step may be a call that gives nothing
   pub steps_run : Again → Value → Steps → Run (Option Value)
   steps_run again v no_steps = give (Some v)
+  steps_run again v (more_steps x no_steps) = step_run again v x
   steps_run again v (more_steps x xs) = do
     w ← valued (step_run again v x)
     steps_run again w xs

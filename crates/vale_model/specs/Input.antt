@@ -1,6 +1,6 @@
 -- The input of a run: what its bytes are for the parameter of `main`, or the place at which they are unlawful (docs/LANGUAGE.md,
 -- "Input").
-use Rattle.std.specs.Prelude.{ℕ, zero, suc, ◌+◌, ℤ, Bool, ◌||◌, ◌==◌, nat_lt, List, [], ◌∷◌, length, Option, Some, None, Result, Ok, Err, if◌then◌else◌}
+use Rattle.std.specs.Prelude.{ℕ, suc, ℤ, Bool, ◌||◌, ◌==◌, nat_lt, List, [], ◌∷◌, length, Result, Ok, Err, if◌then◌else◌}
 use Rattle.vale_base.specs.Limits.{input_limit, width_limit, text_limit}
 use Rattle.vale_base.specs.State.{Given, no_input, numbers, lines}
 use Rattle.vale_base.specs.declared.trap.TrapKind.{TrapKind}

@@ -2,7 +2,7 @@
 -- fresh region.
 use Rattle.std.specs.Prelude.{ℕ, zero, suc, ◌+◌, nat_lt, ℤ, pos, ◌+ℤ◌, List, [], ◌∷◌, Option, Some, None, if◌then◌else◌}
 use Rattle.vale_base.specs.Limits.{width_limit}
-use Rattle.vale_base.specs.State.{State, Calls, iteration_frame, make, dies, object_of, freeze_iteration, thaw_iteration, end_of_isolate, isolated, width_of, index_of, is_outermost, alone, loop_counted, counting_as}
+use Rattle.vale_base.specs.State.{State, Calls, iteration_frame, make, dies, object_of, freeze_iteration, thaw_iteration, end_of_isolate, isolated, width_of, is_outermost, alone, loop_counted, counting_as}
 use Rattle.vale_base.specs.World.{Value, Int, Own, Object}
 use Rattle.vale_base.specs.declared.spot.Spot.{Spot}
 use Rattle.vale_base.specs.declared.trap.TrapKind.TheVariants.{LoopTooWide}

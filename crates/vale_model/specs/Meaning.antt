@@ -1,7 +1,7 @@
 -- What a program means: the outcome of its `main` (docs/LANGUAGE.md, "Running").
 use Rattle.std.specs.Prelude.{ℕ, zero, suc, List, [], ◌∷◌, Option, Some, None}
-use Rattle.vale_base.specs.Outcome.{End, Done, Cut, Outcome}
-use Rattle.vale_base.specs.State.{State, begin, main_frame, outcome, Given, given, make}
+use Rattle.vale_base.specs.Outcome.{Done, Cut, Outcome}
+use Rattle.vale_base.specs.State.{begin, main_frame, outcome, Given, given}
 use Rattle.vale_base.specs.World.{Value}
 use Rattle.vale_base.specs.declared.spot.Spot.{Spot}
 use Rattle.vale_base.specs.declared.trap.FrameAt.{FrameAt}
@@ -11,9 +11,9 @@ use Rattle.vale_syntax.specs.Types.{Ty, void, type_of}
 use Rattle.vale_syntax.specs.Typed.{Expr, Block, block, Function, function_body, Typed}
 use Rattle.vale_model.specs.Parts.{Parts, parts_of, param_names, main_of}
 use Rattle.vale_model.specs.Kinds.{head_of}
-use Rattle.vale_model.specs.Runs.{Local, Locals, Result, goes, returned, ended, Run, then_do, ◌>>=◌, nothing, wrong, tick, valued, choose, under}
+use Rattle.vale_model.specs.Runs.{Locals, Result, goes, returned, ended, Run, ◌>>=◌, nothing, wrong, tick, valued, choose, under}
 use Rattle.vale_model.specs.Destruction.{Again, drop_values, leave}
-use Rattle.vale_model.specs.Expressions.{block_run, expr_run, callee_run, called, made}
+use Rattle.vale_model.specs.Expressions.{block_run, expr_run, called, made}
 
 -- ---- functions
 

@@ -1,14 +1,11 @@
 -- What the meaning of a program looks up in it.
-use Rattle.std.specs.Prelude.{ℕ, zero, suc, ◌+◌, Bool, true, false, ◌&&◌, ◌||◌, ◌==◌, List, [], ◌∷◌, ◌++◌, map, flat_map, Option, Some, None, codes, bytes_eq, slice_get, slice_index_or, if◌then◌else◌}
-use Rattle.std.specs.List.{list_any}
+use Rattle.std.specs.Prelude.{ℕ, suc, Bool, false, ◌&&◌, ◌==◌, List, [], ◌∷◌, ◌++◌, flat_map, Option, Some, None, codes, slice_get, slice_index_or, if◌then◌else◌}
 use Rattle.vale_base.specs.declared.name.Kind.{Kind}
-use Rattle.vale_base.specs.declared.name.Name.{Name}
 use Rattle.vale_base.specs.declared.spot.Spot.{Spot}
-use Rattle.vale_syntax.specs.declared.tree.NameAt.{NameAt}
-use Rattle.vale_syntax.specs.Tree.{Param, param, Head, head, FieldDecl, field_decl, TypeExpr, named_type}
-use Rattle.vale_syntax.specs.Declarations.{is_called, head_name, head_params, param_type, field_type}
-use Rattle.vale_syntax.specs.Types.{Ty, void, int, bool, str, kind, array, ref, imm, iso, type_of, result_of, same, View, seen_object}
-use Rattle.vale_syntax.specs.Typed.{Function, function_body, Item, struct_item, interface_item, impl_item, function_item, Typed, typed, Block}
+use Rattle.vale_syntax.specs.Tree.{Param, param, Head, head, FieldDecl, field_decl, named_type}
+use Rattle.vale_syntax.specs.Declarations.{is_called, head_name, head_params}
+use Rattle.vale_syntax.specs.Types.{Ty, void, int, bool, str, kind, array, ref, imm, iso, same, View, seen_object}
+use Rattle.vale_syntax.specs.Typed.{Function, Item, struct_item, impl_item, function_item, Typed, typed}
 use Rattle.vale_model.specs.Kinds.{kinds_of, head_of}
 
 -- the texts of its names, its items, its kinds, and where the block that begins at a spot has its closing brace

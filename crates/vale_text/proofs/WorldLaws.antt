@@ -1,6 +1,6 @@
 -- What becomes of names: each change of a world gives new names only at its end, and lets none come to life again.
-use Rattle.std.proofs.Common.{◌≡◌, ◌⊎◌, inl, inr, ℕ, zero, suc, List, [], ◌∷◌, ◌++◌, Option, Some, None, Bool, true, false, refl, sym, ap, ◌∙◌, subst, map, arith}
-use Rattle.std.specs.Prelude.{slice_get, slice_set, if◌then◌else◌}
+use Rattle.std.proofs.Common.{◌≡◌, inl, inr, ℕ, zero, suc, [], ◌∷◌, Option, Some, None, Bool, true, false, refl, sym, ◌∙◌, subst}
+use Rattle.std.specs.Prelude.{slice_get, if◌then◌else◌}
 use Rattle.vale_base.specs.World.{World, Object, Region, region_eq, moved, relabelled, unless_of, cleared}
 use Rattle.vale_base.specs.World as w
 use Rattle.vale_text.specs.Later.{NameLater}
