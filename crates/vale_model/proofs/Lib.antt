@@ -1,3 +1,4 @@
+mod LongerLaws
 pub mod MeaningLaws
 mod MeaningTexts
 mod Programs

@@ -4,7 +4,6 @@ use Rattle.std.specs.Prelude.{slice_get}
 use Rattle.vale_base.specs.Outcome.{Done, Trap, Cut, Wrong}
 use Rattle.vale_base.specs.State.{State, Calls, begin, Given, given, main_frame}
 use Rattle.vale_base.specs.World.{Value}
-use Rattle.vale_base.specs.declared.spot.Spot.{Spot}
 use Rattle.vale_base.specs.declared.trap.FrameAt.{FrameAt}
 use Rattle.vale_syntax.specs.Declarations.{head_params}
 use Rattle.vale_syntax.specs.Types.{Ty}
@@ -33,7 +32,7 @@ with_bound_goes n (Some k) m h = record { from = λ calls l s lt. back_goes s l 
 
 module _ (again : Again) (n : ℕ) (follows : Follows again n) where
   body_goes : (b : Block) → AlwaysGoesOn (suc n) (body_run again b)
-  body_goes (block at x ss) = bind_goes (suc n) (block_run again (block at x ss)) _ (block_goes again n follows (block at x ss)) (λ v. leave_goes again n follows (Option Value) (again.parts.closing at) v)
+  body_goes (block at end x ss) = bind_goes (suc n) (block_run again (block at end x ss)) _ (block_goes again n follows (block at end x ss)) (λ v. leave_goes again n follows (Option Value) end v)
 
   pub function_goes : (f : Function) (vs : List Value) (frame : FrameAt) → AlwaysGoesOn (suc n) (function_run again f vs frame)
   function_goes (function_body h b) vs frame = with_bound_goes (suc n) (bound (param_names (head_params h)) vs []) (under frame (body_run again b)) (under_goes (suc n) frame (body_run again b) (body_goes b))
@@ -99,15 +98,15 @@ rise : (ticks : ℕ) (r : Result (Option Value)) → GoesOn (begin ticks) r → 
 rise ticks r h =
     subst (λ ps. StampsRise 0 ps (outcome_of r).ticks) (sym (outcome_pieces r ∙ h.0.pieces)) (subst (StampsRise 0 h.0.printed) (sym (outcome_ticks r)) h.0.stamps)
 
-module _ (program : Typed) (closing : Spot → Spot) (input : Given) (ticks : ℕ) where
-  pub ticks_within : (meaning program closing input ticks).ticks ≤ ticks
-  ticks_within = within ticks (run_of (parts_of program closing) input ticks) (run_goes (parts_of program closing) input ticks)
+module _ (program : Typed) (input : Given) (ticks : ℕ) where
+  pub ticks_within : (meaning program input ticks).ticks ≤ ticks
+  ticks_within = within ticks (run_of (parts_of program) input ticks) (run_goes (parts_of program) input ticks)
 
-  pub cut_spends_all : (meaning program closing input ticks).end ≡ Cut → (meaning program closing input ticks).ticks ≡ ticks
-  cut_spends_all = spends_all ticks (run_of (parts_of program closing) input ticks) (run_goes (parts_of program closing) input ticks)
+  pub cut_spends_all : (meaning program input ticks).end ≡ Cut → (meaning program input ticks).ticks ≡ ticks
+  cut_spends_all = spends_all ticks (run_of (parts_of program) input ticks) (run_goes (parts_of program) input ticks)
 
-  pub stamps_rise : StampsRise 0 (meaning program closing input ticks).pieces (meaning program closing input ticks).ticks
-  stamps_rise = rise ticks (run_of (parts_of program closing) input ticks) (run_goes (parts_of program closing) input ticks)
+  pub stamps_rise : StampsRise 0 (meaning program input ticks).pieces (meaning program input ticks).ticks
+  stamps_rise = rise ticks (run_of (parts_of program) input ticks) (run_goes (parts_of program) input ticks)
 
 pub names_stay : (p : Parts) (ticks : ℕ) (b : Block) (calls : Calls) (l : Locals) (s : State) → s.left ≤ ticks → (name : ℕ) → NameLater (slice_get s.world name) (slice_get (state_in (block_run (level p ticks) b calls l s)).world name)
 names_stay p ticks b calls l s few name = ((block_goes (level p ticks) ticks (level_follows p ticks) b).from calls l s (omega (arith, few))).0.names name

@@ -1,6 +1,6 @@
 -- Programs as trees, and what is told of their runs.
 use Rattle.std.proofs.Common.{ℕ, zero, suc, List, [], ◌∷◌, ◌++◌, Option, Some, None}
-use Rattle.std.specs.Prelude.{codes, pos, ◌==◌, ◌&&◌, if◌then◌else◌}
+use Rattle.std.specs.Prelude.{codes, pos}
 use Rattle.std.specs.Fmt.{signed_decimal}
 use Rattle.vale_base.specs.Outcome.{Outcome, Done, Trap, Cut}
 use Rattle.vale_base.specs.State.{Given, no_input, live}
@@ -27,33 +27,17 @@ at line column = record { line = line; col = column }
 abbrev pub n : ℕ → ℕ → ℕ → NameAt
 n k line column = record { name = record { 0 = k }; at = at line column }
 
--- where a block begins and ends
-pub record Brace : Type 0 where
-  pub opens : Spot
-  pub closes : Spot
-
-abbrev pub brace : ℕ → ℕ → ℕ → ℕ → Brace
-brace a b c d = record { opens = at a b; closes = at c d }
-
-abbrev pub closing : List Brace → Spot → Spot
-closing [] s = s
-closing (x ∷ xs) s = if (x.opens.line == s.line) && (x.opens.col == s.col) then x.closes else closing xs s
-
-pub record Program : Type 0 where
-  pub tree : Tree
-  pub braces : List Brace
-
 -- ---- outcomes
 
-abbrev pub run_typed : Judged Typed → (Spot → Spot) → Given → ℕ → Option Outcome
-run_typed (fine program) ends input ticks = Some (meaning program ends input ticks)
-run_typed (faulty f fs) ends input ticks = None
+abbrev pub run_typed : Judged Typed → Given → ℕ → Option Outcome
+run_typed (fine program) input ticks = Some (meaning program input ticks)
+run_typed (faulty f fs) input ticks = None
 
 -- what the program does, where its types are lawful
-abbrev pub run_on : Program → Given → ℕ → Option Outcome
-run_on p input ticks = run_typed (typed p.tree) (closing p.braces) input ticks
+abbrev pub run_on : Tree → Given → ℕ → Option Outcome
+run_on p input ticks = run_typed (typed p) input ticks
 
-abbrev pub run : Program → ℕ → Option Outcome
+abbrev pub run : Tree → ℕ → Option Outcome
 run p ticks = run_on p no_input ticks
 
 abbrev pub piece : ℕ → List ℕ → Piece
@@ -87,17 +71,17 @@ times zero f fs = fs
 times (suc k) f fs = f ∷ times k f fs
 
 -- how many objects live in the end
-abbrev pub live_typed : Judged Typed → (Spot → Spot) → Given → ℕ → Option ℕ
-live_typed (fine program) ends input ticks = Some (live (state_in (run_of (parts_of program ends) input ticks)).world)
-live_typed (faulty f fs) ends input ticks = None
+abbrev pub live_typed : Judged Typed → ℕ → Option ℕ
+live_typed (fine program) ticks = Some (live (state_in (run_of (parts_of program) no_input ticks)).world)
+live_typed (faulty f fs) ticks = None
 
-abbrev pub live_after : Program → ℕ → Option ℕ
-live_after p ticks = live_typed (typed p.tree) (closing p.braces) no_input ticks
+abbrev pub live_after : Tree → ℕ → Option ℕ
+live_after p ticks = live_typed (typed p) ticks
 
-abbrev pub need_typed : Judged Typed → (Spot → Spot) → ℕ → ℕ → Option ℕ
-need_typed (fine program) ends ticks first = Some (need program ends no_input ticks first)
-need_typed (faulty f fs) ends ticks first = None
+abbrev pub need_typed : Judged Typed → ℕ → ℕ → Option ℕ
+need_typed (fine program) ticks first = Some (need program no_input ticks first)
+need_typed (faulty f fs) ticks first = None
 
 -- what it needs, with this first generation
-abbrev pub need_of : Program → ℕ → ℕ → Option ℕ
-need_of p ticks first = need_typed (typed p.tree) (closing p.braces) ticks first
+abbrev pub need_of : Tree → ℕ → ℕ → Option ℕ
+need_of p ticks first = need_typed (typed p) ticks first

@@ -323,7 +323,7 @@ module _ (again : Again) (n : ℕ) (follows : Follows again n) where
         (λ vs. loop_value_goes n again.parts at x vs)))
 
     body_goes : (k : NameAt) (first : Value) (b : Block) → AlwaysGoesOn (suc n) (iteration_body again k first b)
-    body_goes k first (block at x ss) = with_local_goes (again.parts.closing at) k.name.0 first (stmts_run again (again.parts.closing at) ss) (stmts_goes (again.parts.closing at) ss)
+    body_goes k first (block at end x ss) = with_local_goes end k.name.0 first (stmts_run again end ss) (stmts_goes end ss)
 
     elses_goes : (es : Elses) → AlwaysGoesOn (suc n) (elses_run again es)
     elses_goes no_else = nothing_goes (suc n)
@@ -331,7 +331,7 @@ module _ (again : Again) (n : ℕ) (follows : Follows again n) where
     elses_goes (more_elses (else_if at c b) es) = bind_goes (suc n) (valued (expr_run again c)) _ (valued_goes (suc n) (expr_run again c) (expr_goes c)) (λ v. choose_goes (suc n) v (block_run again b) (elses_run again es) (block_goes b) (elses_goes es))
 
     pub block_goes : (b : Block) → AlwaysGoesOn (suc n) (block_run again b)
-    block_goes (block at x ss) = stmts_goes (again.parts.closing at) ss
+    block_goes (block at end x ss) = stmts_goes end ss
 
     stmts_goes : (end : Spot) (ss : Stmts) → AlwaysGoesOn (suc n) (stmts_run again end ss)
     stmts_goes end no_stmts = nothing_goes (suc n)

@@ -297,8 +297,7 @@ abbrev mutual
 
   -- an iteration's block, with its number or its isolate as a local
   pub iteration_body : Again → NameAt → Value → Block → Run (Option Value)
-  iteration_body again n first (block at x ss) =
-      with_local again (again.parts.closing at) n.name.0 first (stmts_run again (again.parts.closing at) ss)
+  iteration_body again n first (block at end x ss) = with_local again end n.name.0 first (stmts_run again end ss)
 
   pub elses_run : Again → Elses → Run (Option Value)
   elses_run again no_else = nothing
@@ -308,7 +307,7 @@ abbrev mutual
     choose v (block_run again b) (elses_run again es)
 
   pub block_run : Again → Block → Run (Option Value)
-  block_run again (block at x ss) = stmts_run again (again.parts.closing at) ss
+  block_run again (block at end x ss) = stmts_run again end ss
 
   -- A declared local lives for the rest of its block, which ends at this spot: what the block gives is evaluated before it is
   -- dropped.

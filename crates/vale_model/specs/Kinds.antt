@@ -78,7 +78,7 @@ abbrev mutual
   elses_arrays (more_elses e es) = else_if_arrays e ++ elses_arrays es
 
   pub block_arrays : Block → List Ty
-  block_arrays (block at x ss) = stmts_arrays ss
+  block_arrays (block at end x ss) = stmts_arrays ss
 
   pub stmts_arrays : Stmts → List Ty
   stmts_arrays no_stmts = []

@@ -3,7 +3,6 @@ use Rattle.std.specs.Prelude.{ℕ, zero, suc, List, [], ◌∷◌, Option, Some,
 use Rattle.vale_base.specs.Outcome.{Done, Cut, Outcome}
 use Rattle.vale_base.specs.State.{begin, main_frame, outcome, Given, given}
 use Rattle.vale_base.specs.World.{Value}
-use Rattle.vale_base.specs.declared.spot.Spot.{Spot}
 use Rattle.vale_base.specs.declared.trap.FrameAt.{FrameAt}
 use Rattle.vale_syntax.specs.Tree.{Param, param}
 use Rattle.vale_syntax.specs.Declarations.{head_params}
@@ -31,9 +30,9 @@ back_to l (ended end s) = ended end s
 
 -- A body that comes to its end returns nothing there.
 abbrev pub body_run : Again → Block → Run (Option Value)
-body_run again (block at x ss) = do
-  v ← block_run again (block at x ss)
-  leave again (again.parts.closing at) v
+body_run again (block at end x ss) = do
+  v ← block_run again (block at end x ss)
+  leave again end v
 
 abbrev pub with_bound : Option Locals → Run (Option Value) → Run (Option Value)
 with_bound None m = wrong
@@ -96,5 +95,5 @@ outcome_of (returned v s) = outcome Done s
 outcome_of (ended end s) = outcome end s
 
 -- the outcome of the program on its input, with so many ticks to spend
-abbrev pub meaning : Typed → (Spot → Spot) → Given → ℕ → Outcome
-meaning program closing input ticks = outcome_of (run_of (parts_of program closing) input ticks)
+abbrev pub meaning : Typed → Given → ℕ → Outcome
+meaning program input ticks = outcome_of (run_of (parts_of program) input ticks)

@@ -2,7 +2,6 @@
 -- counted by itself, and those whose slots are used up.
 use Rattle.std.specs.Prelude.{ℕ, ◌+◌, ◌-◌, ◌/◌, ◌^◌, nat_lt, if◌then◌else◌}
 use Rattle.vale_base.specs.State.{State, Given}
-use Rattle.vale_base.specs.declared.spot.Spot.{Spot}
 use Rattle.vale_syntax.specs.Typed.{Typed}
 use Rattle.vale_model.specs.Parts.{parts_of}
 use Rattle.vale_model.specs.Loops.{state_in}
@@ -16,5 +15,5 @@ abbrev pub need_of : ℕ → ℕ → State → ℕ
 need_of first ticks s = s.most + spoiled first ticks s.made
 
 -- the frames that suffice the program on its input, with so many ticks, where every slot begins at this generation
-abbrev pub need : Typed → (Spot → Spot) → Given → ℕ → ℕ → ℕ
-need program closing input ticks first = need_of first ticks (state_in (run_of (parts_of program closing) input ticks))
+abbrev pub need : Typed → Given → ℕ → ℕ → ℕ
+need program input ticks first = need_of first ticks (state_in (run_of (parts_of program) input ticks))

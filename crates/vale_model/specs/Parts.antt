@@ -1,22 +1,20 @@
 -- What the meaning of a program looks up in it.
 use Rattle.std.specs.Prelude.{ℕ, suc, Bool, false, ◌&&◌, ◌==◌, List, [], ◌∷◌, ◌++◌, flat_map, Option, Some, None, codes, slice_get, slice_index_or, if◌then◌else◌}
 use Rattle.vale_base.specs.declared.name.Kind.{Kind}
-use Rattle.vale_base.specs.declared.spot.Spot.{Spot}
 use Rattle.vale_syntax.specs.Tree.{Param, param, Head, head, FieldDecl, field_decl, named_type}
 use Rattle.vale_syntax.specs.Declarations.{is_called, head_name, head_params}
 use Rattle.vale_syntax.specs.Types.{Ty, void, int, bool, str, kind, array, ref, imm, iso, same, View, seen_object}
 use Rattle.vale_syntax.specs.Typed.{Function, Item, struct_item, impl_item, function_item, Typed, typed}
 use Rattle.vale_model.specs.Kinds.{kinds_of, head_of}
 
--- the texts of its names, its items, its kinds, and where the block that begins at a spot has its closing brace
+-- the texts of its names, its items and its kinds
 pub record Parts : Type 0 where
   pub names : List (List ℕ)
   pub items : List Item
   pub kinds : List Ty
-  pub closing : Spot → Spot
 
-abbrev pub parts_of : Typed → (Spot → Spot) → Parts
-parts_of (typed names items) closing = record { names = names; items = items; kinds = kinds_of items; closing = closing }
+abbrev pub parts_of : Typed → Parts
+parts_of (typed names items) = record { names = names; items = items; kinds = kinds_of items }
 
 abbrev pub name_text : Parts → ℕ → List ℕ
 name_text p n = slice_index_or p.names n []

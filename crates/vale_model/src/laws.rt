@@ -3,7 +3,6 @@
 ghost use Rattle.std.specs.Prelude.{◌≡◌, ◌≤◌, ℕ, slice_get};
 ghost use Rattle.vale_base.specs.Outcome.{Cut};
 ghost use Rattle.vale_base.specs.State.{State, Calls, Given};
-ghost use Rattle.vale_base.specs.declared.spot.Spot.{Spot};
 ghost use Rattle.vale_syntax.specs.Typed.{Typed, Block};
 ghost use Rattle.vale_model.specs.Expressions.{block_run};
 ghost use Rattle.vale_text.specs.Later.{StampsRise, NameLater};
@@ -14,21 +13,21 @@ ghost use Rattle.vale_model.specs.Runs.{Locals};
 
 /// A run spends no more ticks than it may.
 pub fn ticks_stay_within()
-    ensures { (program : Typed) (closing : Spot → Spot) (input : Given) (ticks : ℕ)
-        → (meaning program closing input ticks).ticks ≤ ticks }
+    ensures { (program : Typed) (input : Given) (ticks : ℕ)
+        → (meaning program input ticks).ticks ≤ ticks }
 {}
 
 /// A run that is cut has spent all its ticks.
 pub fn cut_where_no_tick_is_left()
-    ensures { (program : Typed) (closing : Spot → Spot) (input : Given) (ticks : ℕ)
-        → (meaning program closing input ticks).end ≡ Cut
-        → (meaning program closing input ticks).ticks ≡ ticks }
+    ensures { (program : Typed) (input : Given) (ticks : ℕ)
+        → (meaning program input ticks).end ≡ Cut
+        → (meaning program input ticks).ticks ≡ ticks }
 {}
 
 /// No piece is stamped earlier than the one before it, and none later than the end.
 pub fn stamps_rise()
-    ensures { (program : Typed) (closing : Spot → Spot) (input : Given) (ticks : ℕ)
-        → StampsRise 0 (meaning program closing input ticks).pieces (meaning program closing input ticks).ticks }
+    ensures { (program : Typed) (input : Given) (ticks : ℕ)
+        → StampsRise 0 (meaning program input ticks).pieces (meaning program input ticks).ticks }
 {}
 
 /// Whatever a block of a program does: a name whose object died never has one again, and a name that was given is

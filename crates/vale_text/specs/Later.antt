@@ -36,3 +36,7 @@ abbrev pub StepGoesOn : State → Answer → Type 0
 StepGoesOn s (gives v t) = Later s t
 StepGoesOn s (traps kind) = Unit {0}
 StepGoesOn s fails = Unit {0}
+
+-- the second list begins with the first
+abbrev pub Begins : List Piece → List Piece → Type 0
+Begins ps qs = (more : List Piece) × (qs ≡ ps ++ more)
