@@ -29,11 +29,11 @@ steps_later code (suc n) c = at (step code c) (step_less code (last_state code) 
     at (Over end v s) fit next = fit.later
 
 -- an ending that a run comes to from a state
-record EndsLater (s : State) (e : Ending) : Type 0 where
-  later : Later s e.state
-  right : EndsRight e.end e.state
+pub record EndsLater (s : State) (e : Ending) : Type 0 where
+  pub later : Later s e.state
+  pub right : EndsRight e.end e.state
 
-exec_later : (code : Parts) (n : ℕ) (c : Config) (e : Ending) → exec code n c ≡ Some e → EndsLater c.state e
+pub exec_later : (code : Parts) (n : ℕ) (c : Config) (e : Ending) → exec code n c ≡ Some e → EndsLater c.state e
 exec_later code zero c e h = absurd (cc)
 exec_later code (suc n) c e h = at (step code c) (step_less code (last_state code) c) h (λ d g. exec_later code n d e g)
   where

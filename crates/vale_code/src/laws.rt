@@ -1,9 +1,9 @@
 //! What holds of every run of every code: laws of the definitions, each the contract of a function that does nothing.
 
-ghost use Rattle.std.specs.Prelude.{◌≡◌, ◌≤◌, ℕ, slice_get};
+ghost use Rattle.std.specs.Prelude.{◌≡◌, ◌≢◌, ◌≤◌, ℕ, slice_get};
 ghost use Rattle.vale_base.specs.Outcome.{Cut};
 ghost use Rattle.vale_base.specs.State.{Given};
-ghost use Rattle.vale_text.specs.Later.{StampsRise, NameLater};
+ghost use Rattle.vale_text.specs.Later.{Begins, StampsRise, NameLater};
 ghost use Rattle.vale_code.specs.Frames.{Config};
 ghost use Rattle.vale_code.specs.Parts.{Parts};
 ghost use Rattle.vale_code.specs.Run.{Ending, EndsIn, ending_of, run_code, steps, state_in};
@@ -47,4 +47,13 @@ pub fn stamps_rise()
 pub fn names_never_return()
     ensures { (code : Parts) (n : ℕ) (c : Config) (name : ℕ)
         → NameLater (slice_get c.state.world name) (slice_get (state_in (steps code n c)).world name) }
+{}
+
+/// A run with more ticks does the same: what it prints begins with what the other printed, and where the other wasn't
+/// cut it gives the same.
+pub fn more_ticks_go_on()
+    ensures front { (code : Parts) (input : Given) (fewer more : ℕ) → fewer ≤ more
+        → Begins (run_code code input fewer).pieces (run_code code input more).pieces }
+    ensures same { (code : Parts) (input : Given) (fewer more : ℕ) → fewer ≤ more
+        → (run_code code input fewer).end ≢ Cut → run_code code input more ≡ run_code code input fewer }
 {}
