@@ -1,4 +1,5 @@
 mod LongerLaws
+mod LongerSteps
 pub mod MeaningLaws
 mod MeaningTexts
 mod Programs
