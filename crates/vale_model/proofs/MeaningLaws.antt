@@ -25,7 +25,7 @@ back_goes s l (goes v k t) h = h
 back_goes s l (returned v t) h = h
 back_goes s l (ended end t) h = h
 
-with_bound_goes : (n : ℕ) (k : Option Locals) (m : Run (Option Value)) → AlwaysGoesOn n m → AlwaysGoesOn n (with_bound k m)
+pub with_bound_goes : (n : ℕ) (k : Option Locals) (m : Run (Option Value)) → AlwaysGoesOn n m → AlwaysGoesOn n (with_bound k m)
 with_bound_goes n None m h = wrong_goes n
 with_bound_goes n (Some k) m h = record { from = λ calls l s lt. back_goes s l (m calls k s) (h.from calls k s lt) }
 

@@ -5,7 +5,7 @@ ghost use Rattle.vale_base.specs.Outcome.{Cut};
 ghost use Rattle.vale_base.specs.State.{State, Calls, Given};
 ghost use Rattle.vale_syntax.specs.Typed.{Typed, Block};
 ghost use Rattle.vale_model.specs.Expressions.{block_run};
-ghost use Rattle.vale_model.specs.Later.{StampsRise, NameLater};
+ghost use Rattle.vale_model.specs.Later.{StampsRise, NameLater, Begins};
 ghost use Rattle.vale_model.specs.Loops.{state_in};
 ghost use Rattle.vale_model.specs.Meaning.{level, meaning};
 ghost use Rattle.vale_model.specs.Parts.{Parts};
@@ -36,4 +36,13 @@ pub fn names_never_return()
     ensures { (parts : Parts) (ticks : ℕ) (block : Block) (calls : Calls) (locals : Locals) (s : State)
         → s.left ≤ ticks → (name : ℕ)
         → NameLater (slice_get s.world name) (slice_get (state_in (block_run (level parts ticks) block calls locals s)).world name) }
+{}
+
+/// With more ticks a run prints what it printed, and goes on from there; one that wasn't cut is the same.
+pub fn more_ticks_go_further()
+    ensures printed { (program : Typed) (input : Given) (fewer more : ℕ) → fewer ≤ more
+        → Begins (meaning program input fewer).pieces (meaning program input more).pieces }
+    ensures same { (program : Typed) (input : Given) (fewer more : ℕ) → fewer ≤ more
+        → ((meaning program input fewer).end ≡ Cut → ⊥)
+        → meaning program input more ≡ meaning program input fewer }
 {}
