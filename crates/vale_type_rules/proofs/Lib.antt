@@ -1,1 +1,4 @@
+pub mod PartLaws
+pub mod ReturnLaws
+pub mod TakeLaws
 pub mod TyLaws

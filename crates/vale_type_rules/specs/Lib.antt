@@ -1,3 +1,4 @@
 pub mod Index
+pub mod Plain
 pub mod Scope
 pub mod Table

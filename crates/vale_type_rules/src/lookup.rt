@@ -1,6 +1,7 @@
 // What names stand for.
 ghost use Rattle.std.specs.Prelude.{◌≡◌, map, option_map};
 ghost use Rattle.std.specs.List.{list_any};
+ghost use Rattle.std.specs.Option.{option_and_then};
 ghost use Rattle.vale_syntax.specs.View.{view_item, view_field, view_head};
 ghost use Rattle.vale_syntax.specs.Types.{fields_of, field_named, methods_of, method_named, function_named, is_impl};
 ghost use Rattle.vale_type_rules.specs.Table.{items_of};
@@ -98,11 +99,31 @@ impl Table {
         fields_among(self.items(), name)
     }
 
+    /// The field of this name of a struct.
+    pub fn field(&self, of: Name, name: Name) -> Option<&FieldDecl>
+        ensures { option_map (λ f. view_field f.now) result ≡ option_and_then (λ fs. field_named fs name.0) (fields_of (items_of self.now) of.0) }
+    {
+        match self.fields_of(of) {
+            None => None,
+            Some(fields) => field_named(fields, name),
+        }
+    }
+
     /// The heads of an interface's methods.
     pub fn methods_of(&self, name: Name) -> Option<&[Head]>
         ensures { option_map (λ hs. map view_head hs.now) result ≡ methods_of (items_of self.now) name.0 }
     {
         methods_among(self.items(), name)
+    }
+
+    /// The head of the method of this name of an interface.
+    pub fn method(&self, of: Name, name: Name) -> Option<&Head>
+        ensures { option_map (λ h. view_head h.now) result ≡ option_and_then (λ hs. method_named hs name.0) (methods_of (items_of self.now) of.0) }
+    {
+        match self.methods_of(of) {
+            None => None,
+            Some(heads) => method_named(heads, name),
+        }
     }
 
     /// The head of a function.
