@@ -45,6 +45,14 @@ elses_by_parts (e ∷ es) end = ap (λ b. else_if_returns e && b) (elses_by_part
 pub if_by_parts : (at : Spot) (c : Expr) (b : Block) (es : List ElseIf) (o : Option Block) → form_returns (view_form (f.If at c b es o)) ≡ (block_returns (view_block b) && (each_returns (map view_else_if es) && elses_return (else_end (option_map view_block o))))
 if_by_parts at c b es o = ap form_returns (v.of_if at c b es o) ∙ ap (λ x. block_returns (view_block b) && x) (elses_by_parts (map view_else_if es) (else_end (option_map view_block o)))
 
+and_true : (a b c : Bool) → true ≡ a → true ≡ b → c ≡ (a && (b && c))
+and_true a b c e f = rw (← e, ← f) refl
+
+-- where the blocks before the last return, the last decides
+pub if_ends : (at : Spot) (c : Expr) (b : Block) (es ds : List ElseIf) (o : Option Block) (r : Bool) → ds ≡ es → true ≡ block_returns (view_block b) → true ≡ each_returns (map view_else_if ds) → r ≡ elses_return (else_end (option_map view_block o)) → r ≡ form_returns (view_form (f.If at c b es o))
+if_ends at c b es ds o r same first each last =
+    last ∙ and_true (block_returns (view_block b)) (each_returns (map view_else_if es)) (elses_return (else_end (option_map view_block o))) first (each ∙ ap (λ x. each_returns (map view_else_if x)) same) ∙ sym (if_by_parts at c b es o)
+
 pub ruleset forms = (if_by_parts, v.of_pure, v.of_parallel_range, v.of_parallel_each)
 
 pub ruleset exprs = (v.of_set, v.of_chain, v.of_unary, v.of_steps, v.of_number, v.of_quote, v.of_truth, v.of_name, v.of_call, v.of_paren, v.of_array, v.of_iso, v.of_form)
