@@ -1,15 +1,13 @@
 -- Whether a block or an `if` returns, part by part.
 use Rattle.std.proofs.Common.{◌≡◌, List, [], ◌∷◌, refl, ap, ◌∙◌, rules, sym}
-use Rattle.std.specs.Prelude.{Bool, true, false, ◌||◌, ◌&&◌, Option, None, Some, map, option_map}
-use Rattle.std.specs.List.{list_all}
+use Rattle.std.specs.Prelude.{Bool, true, false, ◌||◌, ◌&&◌, Option, None, map, option_map}
 use Rattle.vale_base.specs.declared.spot.Spot.{Spot}
 use Rattle.vale_syntax.specs.declared.tree.Expr.{Expr, the_lemmas}
-use Rattle.vale_syntax.specs.declared.tree.Stmt.{Stmt}
 use Rattle.vale_syntax.specs.declared.tree.Block.{Block, out-Block}
 use Rattle.vale_syntax.specs.declared.tree.ElseIf.{ElseIf, out-ElseIf}
 use Rattle.vale_syntax.specs.declared.tree.Form.TheVariants as f
 use Rattle.vale_syntax.specs.Tree as t
-use Rattle.vale_syntax.specs.View.{listed, view_expr, view_form, view_stmt, view_block, view_else_if, elses_of, else_end, stmts_of, last_end}
+use Rattle.vale_syntax.specs.View.{listed, view_expr, view_form, view_stmt, view_block, view_else_if, else_end, stmts_of, last_end}
 use Rattle.vale_syntax.specs.Returns.{block_returns, stmts_return, stmt_returns, form_returns, elses_return, else_if_returns}
 use Rattle.vale_syntax.proofs.ViewLaws as v
 use Rattle.vale_type_rules.specs.Plain.{each_returns}

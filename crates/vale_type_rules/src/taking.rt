@@ -30,8 +30,8 @@ pub fn takes(local: Name, as_value: bool, expr: &Expr) -> bool
                 || takes(local, true, value.get())
         }
         Expr::Chain(first, links) => {
-            let in_first = takes(local, true, first.get());
             let in_links = links_take(local, links.as_slice());
+            let in_first = takes(local, true, first.get());
             in_first || in_links
         }
         Expr::Unary(_, UnaryOp::Borrow, operand) => takes(local, false, operand.get()),
@@ -39,8 +39,8 @@ pub fn takes(local: Name, as_value: bool, expr: &Expr) -> bool
         Expr::Unary(_, UnaryOp::Not, operand) => takes(local, true, operand.get()),
         Expr::Unary(_, UnaryOp::Merge, operand) => takes(local, true, operand.get()),
         Expr::Steps(base, steps) => {
-            let in_base = takes(local, false, base.get());
             let in_steps = steps_take(local, steps.as_slice());
+            let in_base = takes(local, false, base.get());
             in_base || in_steps
         }
         Expr::Number(..) | Expr::Quote(..) | Expr::Truth(..) => false,
@@ -109,9 +109,9 @@ fn form_takes(local: Name, form: &Form) -> bool
 {
     match form {
         Form::If(_, condition, block, else_ifs, otherwise) => {
+            let in_else_ifs = else_ifs_take(local, else_ifs.as_slice());
             let in_condition = takes(local, true, condition);
             let in_block = block_takes(local, block);
-            let in_else_ifs = else_ifs_take(local, else_ifs.as_slice());
             let in_else = else_takes(local, otherwise);
             in_condition || (in_block || (in_else_ifs || in_else))
         }
