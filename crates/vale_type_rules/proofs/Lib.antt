@@ -1,3 +1,4 @@
+pub mod IndexLaws
 pub mod PartLaws
 pub mod ReturnLaws
 pub mod TakeLaws

@@ -1,5 +1,5 @@
 -- The locals that a scope has.
-use Rattle.std.specs.Prelude.{List, [], ◌∷◌, Option, Some, None}
+use Rattle.std.specs.Prelude.{List, [], ◌∷◌}
 use Rattle.vale_core.specs.View.{view_ty}
 use Rattle.vale_syntax.specs.Types as y
 use Rattle.vale_type_rules.specs.declared.scope.Local.{Local}
@@ -17,8 +17,3 @@ framed (l ∷ ls) outer = framed ls (view_local l ∷ outer)
 abbrev pub locals : Scope → List y.Local
 locals Outside = []
 locals (Frame' ls p outer) = framed ls.now (locals outer)
-
--- the first where there is one, else the second
-abbrev pub or_else : {A : Type 0} → Option A → Option A → Option A
-or_else None y = y
-or_else (Some x) y = Some x

@@ -4,8 +4,11 @@
 
 mod built_in;
 mod fitting;
+mod impls;
+mod index;
 mod lookup;
 mod parts;
+mod places;
 mod returns;
 mod scope;
 mod seen;

@@ -3,7 +3,8 @@ ghost use Rattle.std.specs.Prelude.{◌≡◌, ◌==◌, ◌&&◌, option_map, L
 ghost use Rattle.vale_syntax.specs.Types as y;
 ghost use Rattle.vale_syntax.specs.Types.{local_of, local_seen, is_movable, is_visible};
 ghost use Rattle.vale_core.specs.View.{view_ty, view_seen};
-ghost use Rattle.vale_type_rules.specs.Scope.{view_local, framed, locals, or_else};
+ghost use Rattle.vale_type_rules.specs.Scope.{view_local, framed, locals};
+ghost use Rattle.vale_type_rules.specs.Plain.{or_else};
 
 use crate::seen::{as_frozen, view_here};
 use crate::ty::object_of;
