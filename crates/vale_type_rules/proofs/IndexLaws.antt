@@ -26,14 +26,14 @@ choose false f at r here there e g = g
 
 -- what stands at the first place of a name, where the whole list goes on so from this place
 module _ {X A : Type 0} (key : X → Option ℕ) (make : X → Option A) (find : List X → ℕ → Option A)
-  (at_end : (n : ℕ) → None ≡ find [] n) (at_more : (x : X) (xs : List X) (n : ℕ) → (if is_name (key x) n then make x else find xs n) ≡ find (x ∷ xs) n) where
+    (at_end : (n : ℕ) → None ≡ find [] n) (at_more : (x : X) (xs : List X) (n : ℕ) → (if is_name (key x) n then make x else find xs n) ≡ find (x ∷ xs) n) where
   found_from : (all : List X) (at : ℕ) (xs : List X) (n : ℕ) → ((i : ℕ) → slice_get xs i ≡ slice_get all (at + i)) → option_and_then (λ i. option_and_then make (slice_get all i)) (place_from at (map key xs) n) ≡ find xs n
   found_from all at [] n same = at_end n
   found_from all at (x ∷ xs) n same =
       let here : slice_get all at ≡ Some x = (let e : at ≡ at + 0 = omega arith in ap (slice_get all) e) ∙ sym (same 0) in
       let later : (i : ℕ) → slice_get xs i ≡ slice_get all ((at + 1) + i) = λ i. (let e : at + suc i ≡ (at + 1) + i = omega arith in same (suc i) ∙ ap (slice_get all) e) in
       choose (is_name (key x) n) (λ i. option_and_then make (slice_get all i)) at (place_from (at + 1) (map key xs) n) (make x) (find xs n)
-          (ap (option_and_then make) here) (found_from all (at + 1) xs n later)
+      (ap (option_and_then make) here) (found_from all (at + 1) xs n later)
       ∙ at_more x xs n
 
   found : (xs : List X) (n : ℕ) → option_and_then (λ i. option_and_then make (slice_get xs i)) (place_from 0 (map key xs) n) ≡ find xs n
@@ -103,8 +103,12 @@ field_at_place : (items : List Item) (place : Option ℕ) (n : ℕ) → option_a
 field_at_place items None n = refl
 field_at_place items (Some at) n = field_of_item (slice_get items at) n
 
-pub field_of_struct : (items : List Item) (m n : ℕ) → option_and_then (λ at. field_at items at n) (place_from 0 (map struct_key items) m) ≡ option_and_then (λ fs. field_named fs n) (fields_of items m)
+field_of_struct : (items : List Item) (m n : ℕ) → option_and_then (λ at. field_at items at n) (place_from 0 (map struct_key items) m) ≡ option_and_then (λ fs. field_named fs n) (fields_of items m)
 field_of_struct items m n = field_at_place items (place_from 0 (map struct_key items) m) n ∙ ap (option_and_then (λ fs. field_named fs n)) (fields_found items m)
+
+-- the field that a struct's place leads to
+pub field_there : (items : List Item) (m n : ℕ) (place : Option ℕ) (f : Option FieldDecl) → place ≡ place_from 0 (map struct_key items) m → f ≡ option_and_then (λ at. field_at items at n) place → f ≡ option_and_then (λ fs. field_named fs n) (fields_of items m)
+field_there items m n place f there is = is ∙ ap (option_and_then (λ at. field_at items at n)) there ∙ field_of_struct items m n
 
 method_of_item : (o : Option Item) (n : ℕ) → option_and_then (λ hs. option_and_then (slice_get hs) (place_from 0 (option_map_or member_keys o []) n)) (option_and_then methods_in o) ≡ option_and_then (λ hs. method_named hs n) (option_and_then methods_in o)
 method_of_item None n = refl
@@ -117,8 +121,12 @@ method_at_place : (items : List Item) (place : Option ℕ) (n : ℕ) → option_
 method_at_place items None n = refl
 method_at_place items (Some at) n = method_of_item (slice_get items at) n
 
-pub method_of_interface : (items : List Item) (m n : ℕ) → option_and_then (λ at. method_at items at n) (place_from 0 (map interface_key items) m) ≡ option_and_then (λ hs. method_named hs n) (methods_of items m)
+method_of_interface : (items : List Item) (m n : ℕ) → option_and_then (λ at. method_at items at n) (place_from 0 (map interface_key items) m) ≡ option_and_then (λ hs. method_named hs n) (methods_of items m)
 method_of_interface items m n = method_at_place items (place_from 0 (map interface_key items) m) n ∙ ap (option_and_then (λ hs. method_named hs n)) (methods_found items m)
+
+-- the method that an interface's place leads to
+pub method_there : (items : List Item) (m n : ℕ) (place : Option ℕ) (h : Option Head) → place ≡ place_from 0 (map interface_key items) m → h ≡ option_and_then (λ at. method_at items at n) place → h ≡ option_and_then (λ hs. method_named hs n) (methods_of items m)
+method_there items m n place h there is = is ∙ ap (option_and_then (λ at. method_at items at n)) there ∙ method_of_interface items m n
 
 -- ---- the members of the items, one item after another
 

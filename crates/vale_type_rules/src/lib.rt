@@ -22,7 +22,6 @@ mod views;
 
 pub use built_in::{arity, built_in_gives, takes_arguments};
 pub use fitting::{all_fit, each_fits, fits, is_bool, is_int};
-pub use lookup::{field_named, method_named};
 pub use parts::{
     block_type, chain_seen, link_seen, may_be_set, seen_of, step_seen, steps_seen, type_in,
     types_in,

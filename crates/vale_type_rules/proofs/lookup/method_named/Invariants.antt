@@ -1,8 +1,0 @@
-use Rattle.std.proofs.Common.{◌≡◌, map, drop}
-use Rattle.vale_syntax.specs.View.{view_head}
-use Rattle.vale_syntax.specs.Types.{method_named}
-use Rattle.vale_type_rules.proofs.lookup.method_named.Given as goal
-
--- the heads that are left give what all of them give
-abbrev pub invariant-loop-head : goal.invariant-loop-head
-invariant-loop-head l = method_named (map view_head (drop l.head-index l.heads)) l.name.0 ≡ method_named (map view_head l.heads) l.name.0
