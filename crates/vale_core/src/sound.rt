@@ -8,5 +8,5 @@ use crate::tree::Core;
 #[derive(Drop)]
 pub struct Sound {
     pub core: Core,
-    pub ghost is_sound: { IsSound (view_core core) },
+    pub ghost is_sound: { ∥ IsSound (view_core core) ∥₁ },
 }
