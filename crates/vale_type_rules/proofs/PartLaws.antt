@@ -1,13 +1,12 @@
 -- What is known of a typed part, by how it is made.
-use Rattle.std.proofs.Common.{◌≡◌, List, [], ◌∷◌, refl, ap, ◌∙◌, rules}
-use Rattle.std.specs.Prelude.{Bool, true, Option, None, Some}
+use Rattle.std.proofs.Common.{◌≡◌, List, [], ◌∷◌, refl, ap, rules}
+use Rattle.std.specs.Prelude.{true, Option, None, Some}
 use Rattle.vale_core.specs.declared.tree.ElseIf.{ElseIf, out-ElseIf}
 use Rattle.vale_core.specs.declared.tree.Form.{the_lemmas}
 use Rattle.vale_core.specs.declared.tree.Expr.{Expr, out-Expr}
 use Rattle.vale_core.specs.declared.tree.Block.{Block, out-Block}
 use Rattle.vale_syntax.specs.Typed as t
 use Rattle.vale_core.specs.declared.tree.Link.{Link, out-Link}
-use Rattle.vale_core.specs.declared.tree.Stmt.{Stmt}
 use Rattle.vale_syntax.specs.View.{listed}
 use Rattle.vale_syntax.specs.Typed.{Steps, no_steps, more_steps, seen, block_type, link_seen, stmts_type, step_may_be_set, last_may_be_set, condition_types, has_else, may_be_set}
 use Rattle.vale_type_rules.specs.Plain.{last_or}

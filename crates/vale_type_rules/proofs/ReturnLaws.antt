@@ -1,15 +1,13 @@
 -- Whether a block or an `if` returns, part by part.
 use Rattle.std.proofs.Common.{◌≡◌, List, [], ◌∷◌, refl, ap, ◌∙◌, rules, sym}
-use Rattle.std.specs.Prelude.{Bool, true, false, ◌||◌, ◌&&◌, Option, None, Some, map, option_map}
-use Rattle.std.specs.List.{list_all}
+use Rattle.std.specs.Prelude.{Bool, true, false, ◌||◌, ◌&&◌, Option, None, map, option_map}
 use Rattle.vale_base.specs.declared.spot.Spot.{Spot}
 use Rattle.vale_syntax.specs.declared.tree.Expr.{Expr, the_lemmas}
-use Rattle.vale_syntax.specs.declared.tree.Stmt.{Stmt}
 use Rattle.vale_syntax.specs.declared.tree.Block.{Block, out-Block}
 use Rattle.vale_syntax.specs.declared.tree.ElseIf.{ElseIf, out-ElseIf}
 use Rattle.vale_syntax.specs.declared.tree.Form.TheVariants as f
 use Rattle.vale_syntax.specs.Tree as t
-use Rattle.vale_syntax.specs.View.{listed, view_expr, view_form, view_stmt, view_block, view_else_if, elses_of, else_end, stmts_of, last_end}
+use Rattle.vale_syntax.specs.View.{listed, view_expr, view_form, view_stmt, view_block, view_else_if, else_end, stmts_of, last_end}
 use Rattle.vale_syntax.specs.Returns.{block_returns, stmts_return, stmt_returns, form_returns, elses_return, else_if_returns}
 use Rattle.vale_syntax.proofs.ViewLaws as v
 use Rattle.vale_type_rules.specs.Plain.{each_returns}
@@ -44,6 +42,14 @@ elses_by_parts (e ∷ es) end = ap (λ b. else_if_returns e && b) (elses_by_part
 
 pub if_by_parts : (at : Spot) (c : Expr) (b : Block) (es : List ElseIf) (o : Option Block) → form_returns (view_form (f.If at c b es o)) ≡ (block_returns (view_block b) && (each_returns (map view_else_if es) && elses_return (else_end (option_map view_block o))))
 if_by_parts at c b es o = ap form_returns (v.of_if at c b es o) ∙ ap (λ x. block_returns (view_block b) && x) (elses_by_parts (map view_else_if es) (else_end (option_map view_block o)))
+
+and_true : (a b c : Bool) → true ≡ a → true ≡ b → c ≡ (a && (b && c))
+and_true a b c e f = rw (← e, ← f) refl
+
+-- where the blocks before the last return, the last decides
+pub if_ends : (at : Spot) (c : Expr) (b : Block) (es ds : List ElseIf) (o : Option Block) (r : Bool) → ds ≡ es → true ≡ block_returns (view_block b) → true ≡ each_returns (map view_else_if ds) → r ≡ elses_return (else_end (option_map view_block o)) → r ≡ form_returns (view_form (f.If at c b es o))
+if_ends at c b es ds o r same first each last =
+    last ∙ and_true (block_returns (view_block b)) (each_returns (map view_else_if es)) (elses_return (else_end (option_map view_block o))) first (each ∙ ap (λ x. each_returns (map view_else_if x)) same) ∙ sym (if_by_parts at c b es o)
 
 pub ruleset forms = (if_by_parts, v.of_pure, v.of_parallel_range, v.of_parallel_each)
 

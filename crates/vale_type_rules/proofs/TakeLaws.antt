@@ -1,6 +1,6 @@
 -- Whether a part takes a local away, by its own parts.
-use Rattle.std.proofs.Common.{◌≡◌, ℕ, List, [], ◌∷◌, refl, ap, ◌∙◌, rules}
-use Rattle.std.specs.Prelude.{Bool, true, false, ◌||◌, Option, None, Some, map, option_map}
+use Rattle.std.proofs.Common.{◌≡◌, ℕ, List, [], ◌∷◌, refl, ap, ◌∙◌, rules, sym}
+use Rattle.std.specs.Prelude.{Bool, true, false, ◌||◌, Option, None, map, option_map}
 use Rattle.vale_base.specs.declared.spot.Spot.{Spot}
 use Rattle.vale_syntax.specs.declared.tree.Expr.{Expr, the_lemmas}
 use Rattle.vale_syntax.specs.declared.tree.Block.{Block, out-Block}
@@ -38,8 +38,19 @@ module _ (n : ℕ) where
   elses_by_parts [] end = refl
   elses_by_parts (e ∷ es) end = ap (λ b. else_if_takes n e || b) (elses_by_parts es end) ∙ or_or (else_if_takes n e) (elses_take n (listed t.more_elses es t.no_else)) (elses_take n end)
 
-  pub if_by_parts : (at : Spot) (c : Expr) (b : Block) (es : List ElseIf) (o : Option Block) → form_takes n (view_form (f.If at c b es o)) ≡ (takes n true (view_expr c) || (block_takes n (view_block b) || (elses_take n (elses_of (map view_else_if es) None) || elses_take n (else_end (option_map view_block o)))))
-  if_by_parts at c b es o = ap (form_takes n) (v.of_if at c b es o) ∙ ap (λ x. takes n true (view_expr c) || (block_takes n (view_block b) || x)) (elses_by_parts (map view_else_if es) (else_end (option_map view_block o)))
+  branch_by_parts : (at : Spot) (c : t.Expr) (b : t.Block) (es : List t.ElseIf) (o : Option t.Block) → form_takes n (t.branch at c b (elses_of es o)) ≡ (((takes n true c || block_takes n b) || elses_take n (elses_of es None)) || elses_take n (else_end o))
+  branch_by_parts at c b es o = ap (λ x. (takes n true c || block_takes n b) || x) (elses_by_parts es (else_end o)) ∙ or_or (takes n true c || block_takes n b) (elses_take n (elses_of es None)) (elses_take n (else_end o))
+
+  pub if_by_parts : (at : Spot) (c : Expr) (b : Block) (es : List ElseIf) (o : Option Block) → form_takes n (view_form (f.If at c b es o)) ≡ (((takes n true (view_expr c) || block_takes n (view_block b)) || elses_take n (elses_of (map view_else_if es) None)) || elses_take n (else_end (option_map view_block o)))
+  if_by_parts at c b es o = ap (form_takes n) (v.of_if at c b es o) ∙ branch_by_parts at (view_expr c) (view_block b) (map view_else_if es) (option_map view_block o)
+
+  or_false : (a b d e : Bool) → false ≡ a → false ≡ b → false ≡ d → e ≡ (((a || b) || d) || e)
+  or_false a b d e f g h = rw (← f, ← g, ← h) refl
+
+  -- where no part before the last takes the local away, the last decides
+  pub if_ends : (at : Spot) (c : Expr) (b : Block) (es ds : List ElseIf) (o : Option Block) (r : Bool) → ds ≡ es → false ≡ takes n true (view_expr c) → false ≡ block_takes n (view_block b) → false ≡ elses_take n (elses_of (map view_else_if ds) None) → r ≡ elses_take n (else_end (option_map view_block o)) → r ≡ form_takes n (view_form (f.If at c b es o))
+  if_ends at c b es ds o r same first second each last =
+      last ∙ or_false (takes n true (view_expr c)) (block_takes n (view_block b)) (elses_take n (elses_of (map view_else_if es) None)) (elses_take n (else_end (option_map view_block o))) first second (each ∙ ap (λ x. elses_take n (elses_of (map view_else_if x) None)) same) ∙ sym (if_by_parts at c b es o)
 
 pub ruleset forms = (if_by_parts, v.of_pure, v.of_parallel_range, v.of_parallel_each)
 

@@ -21,7 +21,8 @@ pub use built_in::{arity, built_in_gives, takes_arguments};
 pub use fitting::{all_fit, each_fits, fits, is_bool, is_int};
 pub use lookup::{field_named, method_named};
 pub use parts::{
-    block_type, chain_seen, link_seen, may_be_set, seen_of, step_seen, steps_seen, type_in, types_in,
+    block_type, chain_seen, link_seen, may_be_set, seen_of, step_seen, steps_seen, type_in,
+    types_in,
 };
 pub use returns::block_returns;
 pub use scope::{Local, Scope, is_movable, is_visible, local_of, local_seen};
@@ -30,9 +31,7 @@ pub use seen::{
     seen_object, value_view, view_here,
 };
 pub use signature::{field_types, method_takes, needs_frozen, param_types};
-pub use steps::{
-    elements_seen, field_seen, fields_seen, method_seen, methods_seen, struct_fields,
-};
+pub use steps::{elements_seen, field_seen, fields_seen, method_seen, methods_seen, struct_fields};
 pub use table::Table;
 pub use taking::takes;
 pub use texts::built_in_named;

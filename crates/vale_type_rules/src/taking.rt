@@ -30,14 +30,18 @@ pub fn takes(local: Name, as_value: bool, expr: &Expr) -> bool
                 || takes(local, true, value.get())
         }
         Expr::Chain(first, links) => {
-            takes(local, true, first.get()) || links_take(local, links.as_slice())
+            let in_links = links_take(local, links.as_slice());
+            let in_first = takes(local, true, first.get());
+            in_first || in_links
         }
         Expr::Unary(_, UnaryOp::Borrow, operand) => takes(local, false, operand.get()),
         Expr::Unary(_, UnaryOp::Minus, operand) => takes(local, true, operand.get()),
         Expr::Unary(_, UnaryOp::Not, operand) => takes(local, true, operand.get()),
         Expr::Unary(_, UnaryOp::Merge, operand) => takes(local, true, operand.get()),
         Expr::Steps(base, steps) => {
-            takes(local, false, base.get()) || steps_take(local, steps.as_slice())
+            let in_steps = steps_take(local, steps.as_slice());
+            let in_base = takes(local, false, base.get());
+            in_base || in_steps
         }
         Expr::Number(..) | Expr::Quote(..) | Expr::Truth(..) => false,
         Expr::Name(name) => as_value && name.name.0 == local.0,
@@ -105,11 +109,11 @@ fn form_takes(local: Name, form: &Form) -> bool
 {
     match form {
         Form::If(_, condition, block, else_ifs, otherwise) => {
-            if takes(local, true, condition) || block_takes(local, block) {
-                true
-            } else {
-                else_ifs_take(local, else_ifs.as_slice()) || else_takes(local, otherwise)
-            }
+            let in_else_ifs = else_ifs_take(local, else_ifs.as_slice());
+            let in_condition = takes(local, true, condition);
+            let in_block = block_takes(local, block);
+            let in_else = else_takes(local, otherwise);
+            in_condition || (in_block || (in_else_ifs || in_else))
         }
         Form::Pure(_, block) => block_takes(local, block),
         Form::ParallelRange(_, _, from, to, block) => {
