@@ -1,4 +1,5 @@
 pub mod Faults
 pub mod Limits
 pub mod Outcome
+pub mod State
 pub mod World

@@ -157,5 +157,5 @@ of_form_stmt z = search (rules, the_lemmas)
 pub of_express : (z : Expr) → view_stmt (m.Express z) ≡ t.express (view_expr z)
 of_express z = search (rules, the_lemmas)
 
-pub of_block : (at : Spot) (w : Ty) (ms : List Stmt) (z : Option Expr) → view_block (roll-Block (record { at = at; ty = w; stmts = ms; last = z })) ≡ t.block at (view_ty w) (stmts_of (map view_stmt ms) (option_map view_expr z))
-of_block at w ms z = search (rules, the_lemmas)
+pub of_block : (at end : Spot) (w : Ty) (ms : List Stmt) (z : Option Expr) → view_block (roll-Block (record { at = at; end = end; ty = w; stmts = ms; last = z })) ≡ t.block at end (view_ty w) (stmts_of (map view_stmt ms) (option_map view_expr z))
+of_block at end w ms z = search (rules, the_lemmas)

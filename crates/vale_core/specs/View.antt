@@ -128,7 +128,7 @@ stmt_step (Stmt-F.«Stmt::Form» f) = t.form_stmt f
 stmt_step (Stmt-F.Express e) = t.express e
 
 abbrev pub block_step : Over Block-F → t.Block
-block_step b = t.block b.at (view_ty b.ty) (stmts_of b.stmts b.last)
+block_step b = t.block b.at b.end (view_ty b.ty) (stmts_of b.stmts b.last)
 
 abbrev pub else_if_step : Over ElseIf-F → t.ElseIf
 else_if_step e = t.else_if e.at e.condition e.block

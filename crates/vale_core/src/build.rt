@@ -341,11 +341,12 @@ impl Stmt {
 
 impl Block {
     #[tactic(auto, using(crate::proofs::ViewLaws::of_block))]
-    pub fn new(at: Spot, ty: Ty, stmts: Items<Stmt>, last: Option<Boxed<Expr>>) -> Self
-        ensures { view_block result ≡ t.block at (view_ty ty) (stmts_of (map view_stmt stmts) (option_map view_expr last)) }
+    pub fn new(at: Spot, end: Spot, ty: Ty, stmts: Items<Stmt>, last: Option<Boxed<Expr>>) -> Self
+        ensures { view_block result ≡ t.block at end (view_ty ty) (stmts_of (map view_stmt stmts) (option_map view_expr last)) }
     {
         Block {
             at,
+            end,
             ty,
             stmts,
             last,

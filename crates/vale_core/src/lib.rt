@@ -3,9 +3,11 @@
 
 mod build;
 mod seen;
+mod sound;
 mod tree;
 mod ty;
 
 pub use seen::{Seen, View};
+pub use sound::Sound;
 pub use tree::{Block, Callee, Core, ElseIf, Expr, Form, Function, Item, Link, Node, Step, Stmt};
 pub use ty::Ty;

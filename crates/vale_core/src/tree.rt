@@ -46,6 +46,7 @@ pub enum Callee {
 #[derive(Drop)]
 pub struct Block {
     pub at: Spot,
+    pub end: Spot,
     pub ty: Ty,
     pub stmts: Items<Stmt>,
     pub last: Option<Boxed<Expr>>,

@@ -141,7 +141,7 @@ module _ (names : List (List ℕ)) where
     elses_known d (more_elses x es) = both (else_if_known d x) (elses_known d es)
 
     block_known : (d : ℕ) (b : Block) → Knows (IsBlock names d b) (NamedBlock (length names) b)
-    block_known d (block at ss) = then (first (inner (λ d. stmts_known d ss) d))
+    block_known d (block at end ss) = then (first (inner (λ d. stmts_known d ss) d))
 
     stmts_known : (d : ℕ) (ss : Stmts) → Knows (AreStmts names d ss) (NamedStmts (length names) ss)
     stmts_known d no_stmts = nothing_known _

@@ -68,7 +68,7 @@ module _ (count : ℕ) where
     NamedElses (more_elses x es) = NamedElseIf x × NamedElses es
 
     pub NamedBlock : Block → Type 0
-    NamedBlock (block at ss) = NamedStmts ss
+    NamedBlock (block at end ss) = NamedStmts ss
 
     pub NamedStmts : Stmts → Type 0
     NamedStmts no_stmts = Unit {0}

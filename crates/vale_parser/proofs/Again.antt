@@ -108,8 +108,8 @@ module _ (names : List (List ℕ)) where
 
     pub block_again : Again (block_at names o) (IsBlock names d) Any
     unfolding block_at
-    block_again (block at xs) ts rest (m, h, (m2, g, (at2, h2))) q = rw (sign_again s.OpenBrace at ts m h) (opening _ _ d o full (λ d. AreStmts names d xs) m m2 g
-        (λ l i law p. rw (law.stmts xs m m2 p (rest, (at2, h2)), sign_again s.CloseBrace at2 m2 rest h2) refl))
+    block_again (block at end xs) ts rest (m, h, (m2, g, h2)) q = rw (sign_again s.OpenBrace at ts m h) (opening _ _ d o full (λ d. AreStmts names d xs) m m2 g
+        (λ l i law p. rw (law.stmts xs m m2 p (rest, (end, h2)), sign_again s.CloseBrace end m2 rest h2) refl))
 
     else_adds : (x : ElseIf) (es : Elses) (ts mid rest : List Token) → IsElseIf names d x ts mid → AreElses names d es mid rest → NoElse rest → else_turn names o ts ≡ Ok (More x, mid)
     unfolding else_turn

@@ -357,13 +357,13 @@ module _ (names : List (List ℕ)) where
   -- ---- what a block begins with, and what may follow a form
 
   pub block_stops : (r d : ℕ) (b : Block) (ts rest : List Token) → IsBlock names d b ts rest → Stops r ts
-  block_stops r d (block at xs) ts rest (m, h, g) = rw h (refl, tt)
+  block_stops r d (block at end xs) ts rest (m, h, g) = rw h (refl, tt)
 
   pub block_no_if : (d : ℕ) (b : Block) (ts rest : List Token) → IsBlock names d b ts rest → begins_word w.If ts ≡ false
-  block_no_if d (block at xs) ts rest (m, h, g) = rw h refl
+  block_no_if d (block at end xs) ts rest (m, h, g) = rw h refl
 
   pub block_no_dots : (d : ℕ) (b : Block) (ts rest : List Token) → IsBlock names d b ts rest → begins s.DotDot ts ≡ false
-  block_no_dots d (block at xs) ts rest (m, h, g) = rw h refl
+  block_no_dots d (block at end xs) ts rest (m, h, g) = rw h refl
 
   expr_no_else : (r d : ℕ) (e : Expr) (ts rest : List Token) → IsExpr names r d e ts rest → NoElse ts
   expr_no_else r d e ts rest h = let f = first r d e ts rest h in rw f.is (starts_no_else f.t.kind f.starts)

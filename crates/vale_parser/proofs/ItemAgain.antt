@@ -172,7 +172,7 @@ module _ (names : List (List ℕ)) where
   shorter_signature d x ts rest (m, h, (at, g)) = omega (arith, shorter_head d x ts m h, ap length g)
 
   block_ends : (d : ℕ) (b : Block) (ts rest : List Token) → IsBlock names d b ts rest → HeadEnds ts
-  block_ends d (block at xs) ts rest (m, h, g) = rw h refl
+  block_ends d (block at end xs) ts rest (m, h, g) = rw h refl
 
   function_again : (d : ℕ) (x : Function) (ts rest : List Token) → IsFunction names d x ts rest → function_at names d ts ≡ Ok (x, rest)
   unfolding function_at

@@ -174,7 +174,7 @@ module _ (names : List (List ℕ)) where
 
   pub block_grows : (x : Two) (ts : List Token) → Grows x.strict ts (block_at names x.less ts) (block_at names x.more ts)
   unfolding block_at
-  block_grows x ts = sign_opens s.OpenBrace x.strict ts (λ a lt. deeper x ts a.1 lt (λ i j h. step (h.stmts a.1) (λ e. sign_then s.CloseBrace x.strict e.1 (λ c lt2. done x.strict (block a.0 e.0) c.1))) (λ j h. step (h.stmts a.1) (λ e. sign_then s.CloseBrace false e.1 (λ c lt2. done false (block a.0 e.0) c.1))))
+  block_grows x ts = sign_opens s.OpenBrace x.strict ts (λ a lt. deeper x ts a.1 lt (λ i j h. step (h.stmts a.1) (λ e. sign_then s.CloseBrace x.strict e.1 (λ c lt2. done x.strict (block a.0 c.0 e.0) c.1))) (λ j h. step (h.stmts a.1) (λ e. sign_then s.CloseBrace false e.1 (λ c lt2. done false (block a.0 c.0 e.0) c.1))))
 
   else_by_grows : (x : Two) (ts : List Token) (is : Bool) → Grows x.strict ts (else_by names x.less ts is) (else_by names x.more ts is)
   else_by_grows x ts true = word_opens w.If x.strict ts (λ a lt. deeper x ts a.1 lt (λ i j h. step (h.whole a.1) (λ c. step (block_grows x c.1) (λ d. done x.strict (More (else_if a.0 c.0 d.0)) d.1))) (λ j h. step (h.whole a.1) (λ c. step (block_grows (itself x) c.1) (λ d. done false (More (else_if a.0 c.0 d.0)) d.1))))

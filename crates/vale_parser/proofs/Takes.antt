@@ -159,8 +159,8 @@ module _ (names : List (List ℕ)) where
 
     pub block_takes : Takes (block_at names o) (IsBlock names d)
     unfolding block_at
-    block_takes ts y e = given e (λ a ea e. opened _ d o law e (λ l i dl law e. given e (λ xs exs e. given e (λ c ec e. returned (front (IsBlock names d) ts) (block a.0 xs.0, c.1) e
-        (a.1, sign_takes s.OpenBrace ts a ea, (xs.1, in_deeper d l (λ d. AreStmts names d xs.0) a.1 xs.1 dl (law.stmts a.1 xs exs), (c.0, sign_takes s.CloseBrace xs.1 c ec)))))))
+    block_takes ts y e = given e (λ a ea e. opened _ d o law e (λ l i dl law e. given e (λ xs exs e. given e (λ c ec e. returned (front (IsBlock names d) ts) (block a.0 c.0 xs.0, c.1) e
+        (a.1, sign_takes s.OpenBrace ts a ea, (xs.1, in_deeper d l (λ d. AreStmts names d xs.0) a.1 xs.1 dl (law.stmts a.1 xs exs), sign_takes s.CloseBrace xs.1 c ec))))))
 
     abbrev IsElse : Turn ElseIf (Option Block) → Part
     IsElse = by_turn (IsElseIf names d) (λ b. AreElses names d (else_end b))

@@ -247,7 +247,7 @@ module _ (names : List (List ℕ)) where
     inside o ts (λ i. do
       xs ← i.stmts opening.1
       close ← sign_at s.CloseBrace xs.1
-      Ok (block opening.0 xs.0, close.1))
+      Ok (block opening.0 close.0 xs.0, close.1))
 
   -- after `else`
   abbrev pub else_by : Option Inner → List Token → Bool → Read (Turn ElseIf (Option Block))

@@ -42,8 +42,8 @@ impl<
         let (at, rest) = sign(Sign::OpenBrace, tokens)?;
         let deeper = self.parser.below(self.depth, tokens)?;
         let ((stmts, last), rest) = self.stmts_below(deeper, rest)?;
-        let (_, rest) = sign(Sign::CloseBrace, rest)?;
-        Ok((Block::new(at, stmts, last), rest))
+        let (end, rest) = sign(Sign::CloseBrace, rest)?;
+        Ok((Block::new(at, end, stmts, last), rest))
     }
 
     #[tactic(auto, unfolding(crate::specs::Reading::else_turn))]

@@ -27,7 +27,7 @@ abbrev both : t.Expr → t.Expr → t.Expr
 both e f = t.chain e (t.more_links (t.link at b.And f) t.no_links)
 
 abbrev block : t.Stmts → t.Block
-block ss = t.block at ss
+block ss = t.block at at ss
 
 abbrev then : t.Stmt → t.Stmts → t.Stmts
 then x xs = t.more_stmts x xs

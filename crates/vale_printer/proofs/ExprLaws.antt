@@ -18,7 +18,7 @@ of_link x = search (rules, the_lemmas)
 pub of_else_if : (x : ElseIf) → view_else_if x ≡ t.else_if (out-ElseIf x).at (view_expr (out-ElseIf x).condition) (view_block (out-ElseIf x).block)
 of_else_if x = search (rules, the_lemmas)
 
-pub of_block : (x : Block) → view_block x ≡ t.block (out-Block x).at (stmts_of (map view_stmt (out-Block x).stmts) (option_map view_expr (out-Block x).last))
+pub of_block : (x : Block) → view_block x ≡ t.block (out-Block x).at (out-Block x).end (stmts_of (map view_stmt (out-Block x).stmts) (option_map view_expr (out-Block x).last))
 of_block x = search (rules, the_lemmas)
 
 module _ (names : List (List ℕ)) (d : ℕ) where

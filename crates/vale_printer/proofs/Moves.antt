@@ -164,7 +164,7 @@ module _ (to : Spot → Spot) where
       elses_move d (more_elses x es) = seq (else_if_moves d x) (elses_move d es)
 
       block_moves : (d : ℕ) (b : Block) → Moves (IsBlock names d b) (IsBlock names d (moved_block to b))
-      block_moves d (block at ss) = seq (puts (k.Sign s.OpenBrace) at) (seq (inner (λ d. stmts_move d ss) d) (marks s.CloseBrace))
+      block_moves d (block at end ss) = seq (puts (k.Sign s.OpenBrace) at) (seq (inner (λ d. stmts_move d ss) d) (puts (k.Sign s.CloseBrace) end))
 
       stmts_move : (d : ℕ) (ss : Stmts) → Moves (AreStmts names d ss) (AreStmts names d (moved_stmts to ss))
       stmts_move d no_stmts = nothings

@@ -268,7 +268,7 @@ module _ (names : List (List ℕ)) where
     elses_neat d (more_elses x es) = seq (else_if_neat d x) (elses_soft d es) (elses_neat d es)
 
     block_neat : (d : ℕ) (b : Block) → Neat (lay_block names d b)
-    block_neat d (block at ss) = free (line_behind d (free (marks s.OpenBrace refl) (stmts_neat (suc d) ss))) (neat (marks s.CloseBrace refl))
+    block_neat d (block at end ss) = free (line_behind d (free (marks s.OpenBrace refl) (stmts_neat (suc d) ss))) (neat (marks s.CloseBrace refl))
 
     stmts_neat : (d : ℕ) (ss : Stmts) → Neat (lay_stmts names d ss)
     stmts_neat d no_stmts = nothings

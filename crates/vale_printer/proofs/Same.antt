@@ -131,7 +131,7 @@ module _ (names : List (List ℕ)) (numbered : (text : List ℕ) (n : ℕ) → n
     elses_lay d i (more_elses x es) = seq (else_if_lays d i x) (elses_lay d i es)
 
     block_lays : (d i : ℕ) (b : Block) → Lays (lay_block names i b) (IsBlock names d b)
-    block_lays d i (block at ss) = re (seq (behind (lines i) (seq (puts (k.Sign s.OpenBrace) at) (inner (λ d. stmts_lay d (suc i) ss) d))) (marks s.CloseBrace))
+    block_lays d i (block at end ss) = re (seq (behind (lines i) (seq (puts (k.Sign s.OpenBrace) at) (inner (λ d. stmts_lay d (suc i) ss) d))) (puts (k.Sign s.CloseBrace) end))
 
     stmts_lay : (d i : ℕ) (ss : Stmts) → Lays (lay_stmts names i ss) (AreStmts names d ss)
     stmts_lay d i no_stmts = nothings

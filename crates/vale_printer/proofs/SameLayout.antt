@@ -106,7 +106,7 @@ module _ (to : Spot → Spot) where
       elses_same d (more_elses x es) = rw (else_if_same d x, elses_same d es) refl
 
       block_same : (d : ℕ) (b : Block) → lay_block names d (moved_block to b) ≡ lay_block names d b
-      block_same d (block at ss) = rw (stmts_same (suc d) ss) refl
+      block_same d (block at end ss) = rw (stmts_same (suc d) ss) refl
 
       stmts_same : (d : ℕ) (ss : Stmts) → lay_stmts names d (moved_stmts to ss) ≡ lay_stmts names d ss
       stmts_same d no_stmts = refl

@@ -53,7 +53,7 @@ printlns_of names (last e) = None
 printlns_of names (more_stmts s ss) = with_first (println_of names s) (printlns_of names ss)
 
 abbrev pub body_of : List (List ℕ) → Block → Option (List Println)
-body_of names (block at ss) = printlns_of names ss
+body_of names (block at end ss) = printlns_of names ss
 
 -- a `main` that isn't pure, takes nothing and gives nothing
 abbrev pub is_main : List (List ℕ) → Head → Bool

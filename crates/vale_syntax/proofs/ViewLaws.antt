@@ -146,5 +146,5 @@ of_form_stmt y = search (rules, the_lemmas)
 pub of_express : (y : Expr) → view_stmt (m.Express y) ≡ express (view_expr y)
 of_express y = search (rules, the_lemmas)
 
-pub of_block : (at : Spot) (ms : List Stmt) (y : Option Expr) → view_block (roll-Block (record { at = at; stmts = ms; last = y })) ≡ block at (stmts_of (map view_stmt ms) (option_map view_expr y))
-of_block at ms y = search (rules, the_lemmas)
+pub of_block : (at end : Spot) (ms : List Stmt) (y : Option Expr) → view_block (roll-Block (record { at = at; end = end; stmts = ms; last = y })) ≡ block at end (stmts_of (map view_stmt ms) (option_map view_expr y))
+of_block at end ms y = search (rules, the_lemmas)

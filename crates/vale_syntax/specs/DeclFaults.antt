@@ -96,7 +96,7 @@ module _ (items : List Item) where
     in_elses (more_elses e es) = in_else_if e ▸ in_elses es
 
     pub in_block : Block → Body
-    in_block (block at ss) = in_stmts ss
+    in_block (block at end ss) = in_stmts ss
 
     pub in_stmts : Stmts → Body
     in_stmts no_stmts = nothing

@@ -278,7 +278,7 @@ module _ (names : List (List ℕ)) where
     AreElses d (more_elses e es) = IsElseIf d e ▸ AreElses d es
 
     pub IsBlock : ℕ → Block → Part
-    IsBlock d (block at ss) = one (k.Sign s.OpenBrace) at ▸ deeper d (λ d. AreStmts d ss) ▸ sign s.CloseBrace
+    IsBlock d (block at end ss) = one (k.Sign s.OpenBrace) at ▸ deeper d (λ d. AreStmts d ss) ▸ one (k.Sign s.CloseBrace) end
 
     pub AreStmts : ℕ → Stmts → Part
     AreStmts d no_stmts = nothing

@@ -162,7 +162,7 @@ module _ (names : List (List ℕ)) where
 
     -- the statements stand one deeper than the line that the block begins in, and its `}` as deep as that line
     pub lay_block : ℕ → Block → Layout
-    lay_block d (block at ss) = mark s.OpenBrace ++ lay_stmts (suc d) ss ++ new_line d ++ mark s.CloseBrace
+    lay_block d (block at end ss) = mark s.OpenBrace ++ lay_stmts (suc d) ss ++ new_line d ++ mark s.CloseBrace
 
     pub lay_stmts : ℕ → Stmts → Layout
     lay_stmts d no_stmts = []

@@ -19,3 +19,4 @@ pub mod TypeRules
 pub mod Types
 pub mod Typing
 pub mod View
+pub mod WellFormed

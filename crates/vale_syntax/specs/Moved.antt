@@ -83,7 +83,7 @@ module _ (to : Spot → Spot) where
     moved_elses (more_elses e es) = more_elses (moved_else_if e) (moved_elses es)
 
     pub moved_block : Block → Block
-    moved_block (block at ss) = block (to at) (moved_stmts ss)
+    moved_block (block at end ss) = block (to at) (to end) (moved_stmts ss)
 
     pub moved_stmts : Stmts → Stmts
     moved_stmts no_stmts = no_stmts

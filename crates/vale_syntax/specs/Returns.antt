@@ -5,7 +5,7 @@ use Rattle.vale_syntax.specs.Tree.{Expr, form, Form, branch, ElseIf, else_if, El
 
 abbrev mutual
   pub block_returns : Block → Bool
-  block_returns (block at ss) = stmts_return ss
+  block_returns (block at end ss) = stmts_return ss
 
   pub stmts_return : Stmts → Bool
   stmts_return no_stmts = false

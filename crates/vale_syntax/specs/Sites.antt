@@ -75,7 +75,7 @@ abbrev mutual
   elses_sites (more_elses e es) = else_if_sites e + elses_sites es
 
   pub block_sites : Block → ℕ
-  block_sites (block at t ss) = stmts_sites ss
+  block_sites (block at end t ss) = stmts_sites ss
 
   pub stmts_sites : Stmts → ℕ
   stmts_sites no_stmts = 0

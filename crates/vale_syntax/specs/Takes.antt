@@ -67,7 +67,7 @@ module _ (local : ℕ) where
     elses_take (more_elses e es) = else_if_takes e || elses_take es
 
     pub block_takes : Block → Bool
-    block_takes (block at ss) = stmts_take ss
+    block_takes (block at end ss) = stmts_take ss
 
     pub stmts_take : Stmts → Bool
     stmts_take no_stmts = false

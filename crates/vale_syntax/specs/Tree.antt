@@ -75,7 +75,8 @@ mutual
     more_elses : ElseIf → Elses → Elses
 
   pub data Block : Type 0 where
-    block : Spot → Stmts → Block
+    -- with the spots of its braces
+    block : Spot → Spot → Stmts → Block
 
   pub data Stmt : Type 0 where
     declare : NameAt → Expr → Stmt

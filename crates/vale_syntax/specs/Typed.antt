@@ -75,7 +75,7 @@ mutual
 
   -- with the type of its last expression; without one it is void
   pub data Block : Type 0 where
-    block : Spot → Ty → Stmts → Block
+    block : Spot → Spot → Ty → Stmts → Block
 
   pub data Stmt : Type 0 where
     -- with the type of the name
@@ -147,7 +147,7 @@ may_be_set (expr s (steps e ss)) = last_may_be_set ss
 may_be_set _ = true
 
 abbrev pub block_type : Block → Ty
-block_type (block at t ss) = t
+block_type (block at end t ss) = t
 
 abbrev pub stmts_type : Stmts → Ty
 stmts_type no_stmts = Ty.void

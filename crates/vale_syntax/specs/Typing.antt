@@ -80,7 +80,7 @@ is_used as_value no_steps = as_value
 is_used as_value _ = false
 
 abbrev pub block_spot : Block → Spot
-block_spot (block at ss) = at
+block_spot (block at end ss) = at
 
 abbrev pub form_spot : Form → Spot
 form_spot (branch at c b es) = at
@@ -195,12 +195,12 @@ module _ (names : List (List ℕ)) (items : List Item) where
     elses env (more_elses e es) = plain (λ v. t.more_elses v.0 v.1) (both (in_else_if env e) (elses env es))
 
     pub in_block : Env → Block → Judged t.Block
-    in_block env (block at ss) = plain (λ v. t.block at (stmts_type v) v) (stmts env ss)
+    in_block env (block at end ss) = plain (λ v. t.block at end (stmts_type v) v) (stmts env ss)
 
     -- the block of a function, a `while` or a `foreach`
     pub void_block : Env → Block → Judged t.Block
-    void_block env (block at ss) =
-        node at (λ v. void_rules (block_type v)) (λ v. v) (plain (λ v. t.block at (stmts_type v) v) (stmts env ss))
+    void_block env (block at end ss) =
+        node at (λ v. void_rules (block_type v)) (λ v. v) (plain (λ v. t.block at end (stmts_type v) v) (stmts env ss))
 
     pub stmts : Env → Stmts → Judged t.Stmts
     stmts env no_stmts = fine t.no_stmts

@@ -111,7 +111,7 @@ stmt_step (Stmt-F.«Stmt::Form» f) = form_stmt f
 stmt_step (Stmt-F.Express e) = express e
 
 abbrev pub block_step : Over Block-F → t.Block
-block_step b = block b.at (stmts_of b.stmts b.last)
+block_step b = block b.at b.end (stmts_of b.stmts b.last)
 
 abbrev pub else_if_step : Over ElseIf-F → t.ElseIf
 else_if_step e = else_if e.at e.condition e.block

@@ -329,9 +329,14 @@ impl Stmt {
 
 impl Block {
     #[tactic(auto, using(crate::proofs::ViewLaws::of_block))]
-    pub fn new(at: Spot, stmts: Items<Stmt>, last: Option<Boxed<Expr>>) -> Self
-        ensures { view_block result ≡ t.block at (stmts_of (map view_stmt stmts) (option_map view_expr last)) }
+    pub fn new(at: Spot, end: Spot, stmts: Items<Stmt>, last: Option<Boxed<Expr>>) -> Self
+        ensures { view_block result ≡ t.block at end (stmts_of (map view_stmt stmts) (option_map view_expr last)) }
     {
-        Block { at, stmts, last }
+        Block {
+            at,
+            end,
+            stmts,
+            last,
+        }
     }
 }

@@ -82,11 +82,13 @@ pub enum TypeExpr {
     Iso(Spot, Boxed<TypeExpr>),
 }
 
-/// Statements between braces, and the expression that is the block's value, where there is one.
+/// Statements between braces, and the expression that is the block's value, where there is one; with the spots of the
+/// braces.
 #[cycle(ast)]
 #[derive(Drop)]
 pub struct Block {
     pub at: Spot,
+    pub end: Spot,
     pub stmts: Items<Stmt>,
     pub last: Option<Boxed<Expr>>,
 }

@@ -1,2 +1,3 @@
 pub mod Gives
 pub mod Operations
+pub mod Steps

@@ -12,7 +12,7 @@ use Rattle.vale_syntax.specs.Returns.{block_returns, stmts_return, stmt_returns,
 use Rattle.vale_syntax.proofs.ViewLaws as v
 use Rattle.vale_type_rules.specs.Plain.{each_returns}
 
-pub of_out_block : (b : Block) → view_block b ≡ t.block (out-Block b).at (stmts_of (map view_stmt (out-Block b).stmts) (option_map view_expr (out-Block b).last))
+pub of_out_block : (b : Block) → view_block b ≡ t.block (out-Block b).at (out-Block b).end (stmts_of (map view_stmt (out-Block b).stmts) (option_map view_expr (out-Block b).last))
 of_out_block b = search (rules, the_lemmas)
 
 pub of_out_else_if : (e : ElseIf) → view_else_if e ≡ t.else_if (out-ElseIf e).at (view_expr (out-ElseIf e).condition) (view_block (out-ElseIf e).block)

@@ -27,7 +27,7 @@ in_if items at c b es o left =
     ∙ bind_ext (walked (in_expr items (view_expr c)) left) _ _ (λ l. walked_then (in_block items (view_block b)) (in_elses items (elses_of (map view_else_if es) (option_map view_block o))) l
     ∙ bind_ext (walked (in_block items (view_block b)) l) _ _ (λ m. walked_elses items (map view_else_if es) (else_end (option_map view_block o)) m)))
 
-pub of_out_block : (b : Block) → view_block b ≡ t.block (out-Block b).at (stmts_of (map view_stmt (out-Block b).stmts) (option_map view_expr (out-Block b).last))
+pub of_out_block : (b : Block) → view_block b ≡ t.block (out-Block b).at (out-Block b).end (stmts_of (map view_stmt (out-Block b).stmts) (option_map view_expr (out-Block b).last))
 of_out_block b = search (rules, the_lemmas)
 
 -- the last part of an `if`, after those before it
