@@ -2,13 +2,13 @@
 use Rattle.std.proofs.Common.{◌≡◌, ℕ, zero, suc, ◌+◌, ◌<◌, ◌≤◌, List, [], ◌∷◌, ◌++◌, length, get_or, drop, Option, Some, None, map, refl, ap, sym, subst, ◌∙◌, append_assoc, arith}
 use Rattle.std.proofs.Math.ListN.{drop_of_length-le}
 use Rattle.std.proofs.lemmas.List.{drop_more, append-nil}
-use Rattle.std.specs.Prelude.{Bool, true, false, ◌||◌, ◌&&◌, ◌==◌, if◌then◌else◌}
-use Rattle.std.specs.List.{list_any, slice_get}
+use Rattle.std.specs.Prelude.{Bool, true, false, if◌then◌else◌}
+use Rattle.std.specs.List.{slice_get}
 use Rattle.std.specs.Option.{option_and_then, option_map_or}
 use Rattle.vale_syntax.specs.declared.tree.Item as c
 use Rattle.vale_syntax.specs.View.{view_item}
 use Rattle.vale_syntax.specs.Tree.{Head, FieldDecl, field_decl, Item, struct_item, interface_item, impl_item, function_item}
-use Rattle.vale_syntax.specs.Types.{fields_of, field_named, methods_of, method_named, function_named, is_impl}
+use Rattle.vale_syntax.specs.Types.{fields_of, field_named, methods_of, method_named, function_named}
 use Rattle.vale_type_rules.specs.Plain.{or_else}
 use Rattle.vale_type_rules.specs.declared.places.Places.{Places}
 use Rattle.vale_type_rules.specs.Places.{is_name, place_from, HasPlaces}
