@@ -1,0 +1,4 @@
+pub mod Instructions
+pub mod Lowered
+pub mod Scopes
+pub mod Texts
