@@ -1,1 +1,13 @@
+pub mod BuiltIns
+pub mod Calls
+pub mod Drops
+pub mod Entry
+pub mod Lookups
+pub mod Main
+pub mod Operations
+pub mod Operators
+pub mod Program
+pub mod Reaches
 pub mod Registers
+pub mod Shapes
+pub mod Tree

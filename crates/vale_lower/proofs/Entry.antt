@@ -1,0 +1,104 @@
+-- Where a function begins: its parameters against the registers, and its code from its first place on.
+use Rattle.std.proofs.Common.{◌≡◌, ◌≢◌, ℕ, zero, suc, ◌+◌, ◌-◌, ◌<◌, ◌≤◌, List, [], ◌∷◌, ◌++◌, length, map, Option, Some, None, refl, sym, ap, ◌∙◌, subst, ◌⊎◌, inl, inr, ⊎_elim, arith, length-append, append_assoc}
+use Rattle.std.specs.Prelude.{slice_get, replicate}
+use Rattle.vale_base.specs.World.{Value}
+use Rattle.vale_model.specs.Runs.{Local, Locals}
+use Rattle.vale_model.specs.Meaning.{bound}
+use Rattle.vale_code.specs.Instructions.{fetch, instruction_in}
+use Rattle.vale_code.specs.Parts.{Parts}
+use Rattle.vale_code.specs.Registers.{Registers, read, registers_for}
+use Rattle.vale_code.specs.declared.func.Func.{Func}
+use Rattle.vale_code.specs.declared.instr.Instr.{Instr}
+use Rattle.vale_lower.specs.Scopes.{Scope, entry, parameters}
+use Rattle.vale_lower.proofs.Registers.{Held, ArePlain, pick, pick_same, pick_other, look, Falls, falls_up, Named, Stand}
+use Rattle.vale_lower.proofs.Reaches.{HasAt}
+
+-- ---- code
+
+slice_seam : {A : Type 0} (pre rest : List A) (x : A) → slice_get (pre ++ x ∷ rest) (length pre) ≡ Some x
+slice_seam [] rest x = refl
+slice_seam (y ∷ pre) rest x = slice_seam pre rest x
+
+pub has_all : (code : Parts) (f : ℕ) (func : Func) (is pre : List Instr) → slice_get code.funcs f ≡ Some func → func.body ≡ pre ++ is → HasAt code f (length pre) is
+has_all code f func [] pre e a = tt
+has_all code f func (x ∷ is) pre e a =
+    let m : length (pre ++ x ∷ []) ≡ length pre + 1 = omega (arith, length-append pre (x ∷ [])) in
+    let rest = has_all code f func is (pre ++ x ∷ []) e (a ∙ sym (append_assoc pre (x ∷ []) is)) in
+    (ap (λ o. instruction_in o (length pre)) e ∙ ap (λ l. slice_get l (length pre)) a ∙ slice_seam pre is x, subst (λ q. HasAt code f q is) m rest)
+
+-- ---- registers
+
+read_seam : (pre rest : Registers) (x : Held) → read (pre ++ x ∷ rest) (length pre) ≡ x
+read_seam [] rest x = refl
+read_seam (y ∷ pre) rest x = read_seam pre rest x
+
+stand_behind : (pre : Registers) (vs : List Value) (rest : Registers) → Stand (length pre) vs (pre ++ (map Some vs ++ rest))
+stand_behind pre [] rest = tt
+stand_behind pre (v ∷ vs) rest =
+    let m : length (pre ++ Some v ∷ []) ≡ length pre + 1 = omega (arith, length-append pre (Some v ∷ [])) in
+    (read_seam pre (map Some vs ++ rest) (Some v),
+    subst (λ q. Stand q vs (pre ++ Some v ∷ (map Some vs ++ rest))) m
+    (subst (λ r. Stand (length (pre ++ Some v ∷ [])) vs r) (append_assoc pre (Some v ∷ []) (map Some vs ++ rest)) (stand_behind (pre ++ Some v ∷ []) vs rest)))
+
+pub arguments_stand : (many : ℕ) (vs : List Value) → Stand 0 vs (registers_for many vs)
+arguments_stand many vs = stand_behind [] vs (replicate (many - length vs) None)
+
+none_read : (k : ℕ) → read (replicate k None) 0 ≡ None
+none_read zero = refl
+none_read (suc k) = refl
+
+read_behind : (vs : List Value) (k : ℕ) → read (map Some vs ++ replicate k None) (length vs) ≡ None
+read_behind [] k = none_read k
+read_behind (v ∷ vs) k = read_behind vs k
+
+pub empty_behind : (many : ℕ) (vs : List Value) → read (registers_for many vs) (length vs) ≡ None
+empty_behind many vs = read_behind vs (many - length vs)
+
+-- ---- parameters
+
+same_or_not : (q r : ℕ) → (q ≡ r) ⊎ (q ≢ r)
+same_or_not zero zero = inl refl
+same_or_not zero (suc r) = inr (λ e. let f : ⊥ = cc in f)
+same_or_not (suc q) zero = inr (λ e. let f : ⊥ = cc in f)
+same_or_not (suc q) (suc r) = ⊎_elim (λ e. inl (ap suc e)) (λ ne. inr (λ e. let f : q ≡ r = cc in ne f)) (same_or_not q r)
+
+picked : (q r : ℕ) (v : Held) (regs : Registers) → read regs r ≡ v → read regs q ≡ pick q r v (read regs q)
+picked q r v regs here = ⊎_elim at_r (λ ne. sym (pick_other q r v (read regs q) ne)) (same_or_not q r)
+  where
+    at_r : q ≡ r → read regs q ≡ pick q r v (read regs q)
+    at_r e = subst (λ n. read regs n ≡ pick n r v (read regs n)) (sym e) (here ∙ sym (pick_same r v (read regs r)))
+
+pub record Enters (s : Scope) (l : Locals) (regs : Registers) : Type 0 where
+  pub named : Named s l
+  pub all : (r : ℕ) → read regs r ≡ look s l (read regs) r
+
+bound_enters : (ns : List ℕ) (vs : List Value) (r : ℕ) (s : Scope) (l k : Locals) (regs : Registers) → ArePlain vs → Stand r vs regs → Enters s l regs → bound ns vs l ≡ Some k → Enters (parameters r ns s) k regs
+bound_enters [] [] r s l k regs pvs st e b = subst (λ m. Enters s m regs) (let f : l ≡ k = cc in f) e
+bound_enters [] (v ∷ vs) r s l k regs pvs st e b = absurd (let f : ⊥ = cc in f)
+bound_enters (m ∷ ns) [] r s l k regs pvs st e b = absurd (let f : ⊥ = cc in f)
+bound_enters (m ∷ ns) (v ∷ vs) r s l k regs pvs st e b =
+    bound_enters ns vs (r + 1) (entry m r ∷ s) (record { name = Some m; value = Some v } ∷ l) k regs pvs.1 st.1
+    (record { named = (refl, pvs.0, e.named); all = λ q. e.all q ∙ same q }) b
+  where
+    same : (q : ℕ) → look s l (read regs) q ≡ pick q r (Some v) (look s l (read regs) q)
+    same q = sym (e.all q) ∙ picked q r (Some v) regs st.0 ∙ ap (pick q r (Some v)) (e.all q)
+
+pub enters : (ns : List ℕ) (vs : List Value) (k : Locals) (regs : Registers) → ArePlain vs → Stand 0 vs regs → bound ns vs [] ≡ Some k → Enters (parameters 0 ns []) k regs
+enters ns vs k regs pvs st b = bound_enters ns vs 0 [] [] k regs pvs st (record { named = tt; all = λ q. refl }) b
+
+-- as many values as parameters are bound
+pub are_bound : (ns : List ℕ) (vs : List Value) (l : Locals) → length ns ≡ length vs → (k : Locals) × (bound ns vs l ≡ Some k)
+are_bound [] [] l e = (l, refl)
+are_bound [] (v ∷ vs) l e = absurd (let f : ⊥ = cc in f)
+are_bound (m ∷ ns) [] l e = absurd (let f : ⊥ = cc in f)
+are_bound (m ∷ ns) (v ∷ vs) l e = are_bound ns vs (record { name = Some m; value = Some v } ∷ l) (let f : length ns ≡ length vs = cc in f)
+
+falls_from : (ns : List ℕ) (r : ℕ) (s : Scope) → Falls r s → Falls (r + length ns) (parameters r ns s)
+falls_from [] r s f = falls_up s r (r + 0) (omega arith) f
+falls_from (m ∷ ns) r s f =
+    let lt : r < r + 1 = omega arith in
+    let e : r + 1 + length ns ≡ r + suc (length ns) = omega arith in
+    subst (λ n. Falls n (parameters (r + 1) ns (entry m r ∷ s))) e (falls_from ns (r + 1) (entry m r ∷ s) (lt, f))
+
+pub falls_parameters : (ns : List ℕ) → Falls (length ns) (parameters 0 ns [])
+falls_parameters ns = let e : 0 + length ns ≡ length ns = omega arith in subst (λ q. Falls q (parameters 0 ns [])) e (falls_from ns 0 [] tt)
