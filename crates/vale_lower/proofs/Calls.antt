@@ -33,7 +33,7 @@ use Rattle.vale_code.specs.declared.instr.Instr.TheVariants as i
 use Rattle.vale_lower.specs.Instructions.{stuck, only_if, registers_from, loop_code}
 use Rattle.vale_lower.specs.Scopes.{Scope, code_type, agree, Around, number_of_text, number_of_function, may_be_called, result_type}
 use Rattle.vale_lower.specs.Lowered.{value_code, block_code, call_code, form_of, names_in, functions_in, texts_in, lowered_function, lowered_parts}
-use Rattle.vale_lower.proofs.Registers.{IsPlain, ArePlain, Base, Falls, Agrees, agrees_put, agrees_down, with_all, with_all_below, Stand}
+use Rattle.vale_lower.proofs.Registers.{IsPlain, ArePlain, Base, with_at, Falls, Agrees, agrees_put, agrees_down, with_all, with_all_below, Stand}
 use Rattle.vale_lower.proofs.Reaches.{Where, active, conf, calls_in, IsIn, Comes, Stops, GoesWrong, Fits, Post, Reaches, Reached, NextReaches, HasAt, In, does, by_next, is_stuck, only_if_runs}
 use Rattle.vale_lower.proofs.Lookups.{found_function, passes, found_text, in_front, goes_to, goes_nowhere, agree_same, all_given}
 
@@ -119,7 +119,7 @@ module _ (parts : Parts) where
     came true p h s base base' m l regs to c (goes (Some v) l' w) if_one if_none fa below le ag a =
         (put regs h (Some v),
         subst (λ o. Comes program_code c (record { top = resume o (Some v) (Running (active k (p + 1) regs)); below = k.below; state = w })) (if_one refl) a.0,
-        (a.2, subst (λ x. Agrees (h + 1) s x _ (put regs h (Some v))) (sym a.1) (agrees_put s l base base' h m (Some v) regs fa le below ag)), a.3)
+        (a.2, subst (λ x. Agrees (h + 1) s x (with_at h (Some v) base) (put regs h (Some v))) (sym a.1) (agrees_put s l base base' h m (Some v) regs fa le below ag)), a.3)
     came false p h s base base' m l regs to c (goes (Some v) l' w) if_one if_none fa below le ag a = absurd a.2
     came false p h s base base' m l regs to c (goes None l' w) if_one if_none fa below le ag a =
         (regs,

@@ -2,6 +2,7 @@ pub mod BuiltIns
 pub mod Calls
 pub mod Drops
 pub mod Entry
+mod Examples
 pub mod Lookups
 pub mod Main
 pub mod Operations

@@ -61,7 +61,7 @@ module _ (parts : Parts) (ticks : ℕ) where
   main_number = number_of_function test (functions parts)
 
   wrongs : (next : Next) (r : Result (Option Value)) → next ≡ Over Wrong None (begin ticks) → Matches code next r
-  wrongs next r e = inl (begin ticks, 0, None, ap (λ x. then_go x (exec code 0)) e)
+  wrongs next r e = inl (begin ticks, (0, None, ap (λ x. then_go x (exec code 0)) e))
 
   -- the name of what is called `main`
   called_main : (names : List (List ℕ)) (m : ℕ) → option_map_or (bytes_eq (codes "main")) (slice_get names m) false ≡ true → slice_index_or names m [] ≡ codes "main"
@@ -131,7 +131,7 @@ pub code_means : (program : Typed) (ticks : ℕ) → ((run_code (lowered program
 code_means program ticks right = by (matches (parts_of program) ticks)
   where
     by : Matches (lowered program) (start (lowered program) no_input ticks) (run_of (parts_of program) no_input ticks) → run_code (lowered program) no_input ticks ≡ meaning program no_input ticks
-    by (inl (w, m, v, e)) =
+    by (inl (w, (m, v, e))) =
         let is = run_ends_once (lowered program) no_input ticks (record { end = Wrong; value = v; state = w }) (m, e) in
         absurd (right (ap (λ x. x.end) is))
     by (inr (end, w, (m, v, e), same)) =

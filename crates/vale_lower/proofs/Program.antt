@@ -60,7 +60,7 @@ module _ (parts : Parts) (n : ℕ) (follows : Follows parts (level parts n) n) w
     regs0 = registers_for (code_of_function parts f).registers vs
 
     is_in : IsIn (program_code parts) k
-    is_in = record { func = code_of_function parts f; here = func_at parts k.function f here; plain = plain_form (is_pure f) pure }
+    is_in = record { func = code_of_function parts f; here = func_at parts k.function f here; plain = plain_form parts (is_pure f) pure }
 
     abbrev block_instrs : List Instr
     block_instrs = block_code (around parts k.gives) false (body_of f) 0 (length names) (length names + 1) scope
