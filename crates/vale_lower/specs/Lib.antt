@@ -1,3 +1,4 @@
+pub mod Covered
 pub mod Instructions
 pub mod Lowered
 pub mod Scopes
