@@ -116,15 +116,19 @@ module _ (parts : Parts) where
     -- what comes back goes to its register
     came : (g : Bool) (p h : ℕ) (s : Scope) (base base' : Base) (m : ℕ) (l : Locals) (regs : Registers) (to : Option ℕ) (c : Config) (r : Result (Option Value)) → (g ≡ true → to ≡ Some h) → (g ≡ false → to ≡ None) → Falls h s → ((r : ℕ) → r < h → base' r ≡ base r) → h ≤ m → Agrees m s l base' regs → CameBack program_code n l g to (Running (active k (p + 1) regs)) k.below c r → Reached program_code k n (p + 1) (In g h s base) c r
     came true p h s base base' m l regs to c (goes None l' w) if_one if_none fa below le ag a = absurd a.2
-    came true p h s base base' m l regs to c (goes (Some v) l' w) if_one if_none fa below le ag a =
-        (put regs h (Some v),
-        subst (λ o. Comes program_code c (record { top = resume o (Some v) (Running (active k (p + 1) regs)); below = k.below; state = w })) (if_one refl) a.0,
-        (a.2, subst (λ x. Agrees (h + 1) s x (with_at h (Some v) base) (put regs h (Some v))) (sym a.1) (agrees_put s l base base' h m (Some v) regs fa le below ag)), a.3)
+    came true p h s base base' m l regs to c (goes (Some v) l' w) if_one if_none fa below le ag a = (
+      put regs h (Some v),
+      subst (λ o. Comes program_code c (record { top = resume o (Some v) (Running (active k (p + 1) regs)); below = k.below; state = w })) (if_one refl) a.0,
+      (a.2, subst (λ x. Agrees (h + 1) s x (with_at h (Some v) base) (put regs h (Some v))) (sym a.1) (agrees_put s l base base' h m (Some v) regs fa le below ag)),
+      a.3,
+    )
     came false p h s base base' m l regs to c (goes (Some v) l' w) if_one if_none fa below le ag a = absurd a.2
-    came false p h s base base' m l regs to c (goes None l' w) if_one if_none fa below le ag a =
-        (regs,
-        subst (λ o. Comes program_code c (record { top = resume o None (Running (active k (p + 1) regs)); below = k.below; state = w })) (if_none refl) a.0,
-        subst (λ x. Agrees h s x base regs) (sym a.1) (agrees_down s l base base' h m regs le below ag), a.3)
+    came false p h s base base' m l regs to c (goes None l' w) if_one if_none fa below le ag a = (
+      regs,
+      subst (λ o. Comes program_code c (record { top = resume o None (Running (active k (p + 1) regs)); below = k.below; state = w })) (if_none refl) a.0,
+      subst (λ x. Agrees h s x base regs) (sym a.1) (agrees_down s l base base' h m regs le below ag),
+      a.3,
+    )
     came g p h s base base' m l regs to c (returned v w) if_one if_none fa below le ag a = absurd a
     came g p h s base base' m l regs to c (ended e w) if_one if_none fa below le ag a = a
 

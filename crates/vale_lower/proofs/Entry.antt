@@ -35,10 +35,11 @@ read_seam (y ∷ pre) rest x = read_seam pre rest x
 stand_behind : (pre : Registers) (vs : List Value) (rest : Registers) → Stand (length pre) vs (pre ++ (map Some vs ++ rest))
 stand_behind pre [] rest = tt
 stand_behind pre (v ∷ vs) rest =
-    let m : length (pre ++ Some v ∷ []) ≡ length pre + 1 = omega (arith, length-append pre (Some v ∷ [])) in
-    (read_seam pre (map Some vs ++ rest) (Some v),
-    subst (λ q. Stand q vs (pre ++ Some v ∷ (map Some vs ++ rest))) m
-    (subst (λ r. Stand (length (pre ++ Some v ∷ [])) vs r) (append_assoc pre (Some v ∷ []) (map Some vs ++ rest)) (stand_behind (pre ++ Some v ∷ []) vs rest)))
+    let m : length (pre ++ Some v ∷ []) ≡ length pre + 1 = omega (arith, length-append pre (Some v ∷ [])) in (
+      read_seam pre (map Some vs ++ rest) (Some v),
+      subst (λ q. Stand q vs (pre ++ Some v ∷ (map Some vs ++ rest))) m
+          (subst (λ r. Stand (length (pre ++ Some v ∷ [])) vs r) (append_assoc pre (Some v ∷ []) (map Some vs ++ rest)) (stand_behind (pre ++ Some v ∷ []) vs rest)),
+    )
 
 pub arguments_stand : (many : ℕ) (vs : List Value) → Stand 0 vs (registers_for many vs)
 arguments_stand many vs = stand_behind [] vs (replicate (many - length vs) None)

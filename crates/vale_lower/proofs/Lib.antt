@@ -8,6 +8,7 @@ pub mod Main
 pub mod Operations
 pub mod Operators
 pub mod Program
+pub mod Ranges
 pub mod Reaches
 pub mod Registers
 pub mod Shapes

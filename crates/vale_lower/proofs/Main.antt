@@ -16,11 +16,14 @@ use Rattle.vale_model.specs.Kinds.{head_of, body_of}
 use Rattle.vale_model.specs.Parts.{Parts, parts_of, name_text, name_of, param_names, has_text, first_function, is_pure, main_of}
 use Rattle.vale_model.specs.Runs.{Locals, Result, goes, returned, ended}
 use Rattle.vale_model.specs.Expressions.{called, called_by}
+use Rattle.vale_model.specs.Loops.{state_in}
+use Rattle.vale_model.specs.Need as need
 use Rattle.vale_model.specs.Meaning.{bound, back_to, with_bound, body_run, level, run_of, outcome_of, meaning}
 use Rattle.vale_code.proofs.Ends.{run_ends_once}
 use Rattle.vale_code.specs.Enter.{Form, Plain, Pure, with_func, with_form, form_of as form_in, enter}
 use Rattle.vale_code.specs.Frames.{Config, Next, On, Over, wrong}
 use Rattle.vale_code.specs.Kinds.{text_at}
+use Rattle.vale_code.specs.Need as code_need
 use Rattle.vale_code.specs.Parts.{Parts as Code}
 use Rattle.vale_code.specs.Registers.{registers_for}
 use Rattle.vale_code.specs.Run.{Ending, then_go, exec, if_plain, with_input, first_spot, start, ending_of, run_code, EndsIn}
@@ -38,9 +41,9 @@ use Rattle.vale_lower.proofs.Program.{Never, body_runs, all_follow}
 abbrev EndsAs : Code → Next → End → State → Type 0
 EndsAs code next e w = (m : ℕ) × (v : Option Value) × (then_go next (exec code m) ≡ Some (record { end = e; value = v; state = w }))
 
--- it ends as a result does, unless it goes wrong
+-- it ends as a result does, in the same state, unless it goes wrong
 abbrev Matches : Code → Next → Result (Option Value) → Type 0
-Matches code next r = ((w : State) × EndsAs code next Wrong w) ⊎ ((e : End) × (w : State) × EndsAs code next e w × (outcome e w ≡ outcome_of r))
+Matches code next r = ((w : State) × EndsAs code next Wrong w) ⊎ ((e : End) × (w : State) × EndsAs code next e w × (outcome e w ≡ outcome_of r) × (w ≡ state_in r))
 
 no_function_here : (test : Function → Bool) (f : Function) (fs : List Function) (b : Bool) → (first_function test fs ≡ None → slice_get fs (number_of_function test fs) ≡ None) → (if b then Some f else first_function test fs) ≡ None → slice_get (f ∷ fs) (if b then 0 else suc (number_of_function test fs)) ≡ None
 no_function_here test f fs true rest e = absurd (cc)
@@ -75,12 +78,12 @@ module _ (parts : Parts) (ticks : ℕ) where
   stopped : (gives : Bool) (n : ℕ) (c : Config) (r : Result (Option Value)) → Reaches code (root gives) n 0 Never c r → Matches code (On c) (back_to [] r)
   stopped gives n c r (inl (w, x)) = inl (w, x)
   stopped gives n c (goes v l w) (inr a) = absurd a.2
-  stopped gives n c (returned v w) (inr a) = inr (Done, w, a.0, refl)
-  stopped gives n c (ended e w) (inr a) = inr (e, w, a, refl)
+  stopped gives n c (returned v w) (inr a) = inr (Done, w, a.0, refl, refl)
+  stopped gives n c (ended e w) (inr a) = inr (e, w, a, refl, refl)
 
   -- `main` without parameters, from its entry
   main_entered : (m : ℕ) (f : Function) → ticks ≡ m → slice_get (functions parts) main_number ≡ Some f → is_pure f ≡ false → names_in f ≡ [] → Matches code (enter main_number Plain (code_of_function parts f) main_frame None [] [] (begin m)) (called_by false (level parts m) f [] main_frame [] [] (begin m))
-  main_entered zero f t here pure none = inr (Cut, begin 0, (0, None, refl), refl)
+  main_entered zero f t here pure none = inr (Cut, begin 0, (0, None, refl), refl, refl)
   main_entered (suc n) (function_body h b) t here pure none =
       let f = function_body h b in
       let w : State = record (begin (suc n)) { left = n; spent = 0 + 1 } in
@@ -134,5 +137,17 @@ code_means program ticks right = by (matches (parts_of program) ticks)
     by (inl (w, (m, v, e))) =
         let is = run_ends_once (lowered program) no_input ticks (record { end = Wrong; value = v; state = w }) (m, e) in
         absurd (right (ap (λ x. x.end) is))
-    by (inr (end, w, (m, v, e), same)) =
+    by (inr (end, w, (m, v, e), same, last)) =
         ap run.outcome_of (run_ends_once (lowered program) no_input ticks (record { end = end; value = v; state = w }) (m, e)) ∙ same
+
+-- And it needs as many frames.
+pub code_needs : (program : Typed) (ticks first : ℕ) → ((run_code (lowered program) no_input ticks).end ≡ Wrong → ⊥) → code_need.need (lowered program) no_input ticks first ≡ need.need program no_input ticks first
+code_needs program ticks first right = by (matches (parts_of program) ticks)
+  where
+    by : Matches (lowered program) (start (lowered program) no_input ticks) (run_of (parts_of program) no_input ticks) → code_need.need (lowered program) no_input ticks first ≡ need.need program no_input ticks first
+    by (inl (w, (m, v, e))) =
+        let is = run_ends_once (lowered program) no_input ticks (record { end = Wrong; value = v; state = w }) (m, e) in
+        absurd (right (ap (λ x. x.end) is))
+    by (inr (end, w, (m, v, e), same, last)) =
+        ap (λ x. code_need.need_at x.state ticks first) (run_ends_once (lowered program) no_input ticks (record { end = end; value = v; state = w }) (m, e))
+        ∙ ap (λ s. code_need.need_at s ticks first) last

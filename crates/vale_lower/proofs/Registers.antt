@@ -325,7 +325,8 @@ Stand h (v ∷ vs) regs = (read regs h ≡ Some v) × Stand (h + 1) vs regs
 
 pub all_stand : (s : Scope) (l : Locals) (vs : List Value) (h k n : ℕ) (base : Base) (regs : Registers) → Falls k s → k ≤ h → h + length vs ≤ n → Agrees n s l (with_all h vs base) regs → Stand h vs regs
 all_stand s l [] h k n base regs f le lt a = tt
-all_stand s l (v ∷ vs) h k n base regs f le lt a =
-    (a.each h (omega arith) ∙ look_above s l (with_all (h + 1) vs (with_at h (Some v) base)) k h f le
-    ∙ with_all_below (h + 1) vs (with_at h (Some v) base) h (omega arith) ∙ pick_same h (Some v) (base h),
-    all_stand s l vs (h + 1) k n (with_at h (Some v) base) regs f (omega arith) (omega arith) a)
+all_stand s l (v ∷ vs) h k n base regs f le lt a = (
+  a.each h (omega arith) ∙ look_above s l (with_all (h + 1) vs (with_at h (Some v) base)) k h f le
+      ∙ with_all_below (h + 1) vs (with_at h (Some v) base) h (omega arith) ∙ pick_same h (Some v) (base h),
+  all_stand s l vs (h + 1) k n (with_at h (Some v) base) regs f (omega arith) (omega arith) a,
+)

@@ -154,9 +154,12 @@ module _ (code : Parts) (k : Where) (n : ℕ) where
   exchanges p h s base l l' regs w v (Some q) (Some u) r fa ag few m c gone has =
       let on : p + 1 + 1 + 1 ≡ p + 3 = omega arith in
       subst (λ x. Reaches code k n (p + 3) (In true h s base) (conf k p regs w) x) (sym (gone u))
-      (inr (regs3,
-      subst (λ x. Comes code (conf k p regs w) (conf k x regs3 w)) on (comes_on code _ (conf k (p + 1) regs1 w) _ first (comes_on code _ (conf k (p + 1 + 1) regs2 w) _ second third)),
-      (m.1, agrees_put s l' base base h h (Some u) regs2 fa (omega arith) (λ r lt. refl) low), few))
+      (inr (
+        regs3,
+        subst (λ x. Comes code (conf k p regs w) (conf k x regs3 w)) on (comes_on code _ (conf k (p + 1) regs1 w) _ first (comes_on code _ (conf k (p + 1 + 1) regs2 w) _ second third)),
+        (m.1, agrees_put s l' base base h h (Some u) regs2 fa (omega arith) (λ r lt. refl) low),
+        few,
+      ))
     where
       high : h < h + 1
       high = omega arith

@@ -117,8 +117,12 @@ module _ (parts : Parts) (k : Where) (is : IsIn (program_code parts) k) (n : ℕ
       by : (v : Option Value) (l : Locals) (w : State) (regs : Registers) → In true h s base v l regs → w.left ≤ n → Runs (i.Copy d h ∷ []) (Put true d h s base) (p + length cs) regs w (goes v l w)
       by None l w regs ag few has = absurd ag
       by (Some v) l w regs ag few has =
-          inr (put regs d (Some v), moves code k n (p + length cs) regs w (i.Copy d h) _ has.0 (copy_does code k n (p + length cs) d h regs w v ag.0 (top_read s l base h (h + 1) (Some v) regs fa (omega arith) ag.1)),
-          (ag.0, agrees_dest s l base (with_at h (Some v) base) d h (h + 1) (Some v) regs fr (omega arith) (one_above base h (Some v)) ag.1), few)
+          inr (
+            put regs d (Some v),
+            moves code k n (p + length cs) regs w (i.Copy d h) _ has.0 (copy_does code k n (p + length cs) d h regs w v ag.0 (top_read s l base h (h + 1) (Some v) regs fa (omega arith) ag.1)),
+            (ag.0, agrees_dest s l base (with_at h (Some v) base) d h (h + 1) (Some v) regs fr (omega arith) (one_above base h (Some v)) ag.1),
+            few,
+          )
 
   -- a local lives while the rest of its block runs
   scoped : (gives : Bool) (end : Spot) (m d h p : ℕ) (v : Value) (cs : List Instr) (s : Scope) (base : Base) (l : Locals) (regs : Registers) (w : State) (rest : Run (Option Value)) → Runs cs (Put gives d (h + 1) (entry m h ∷ s) base) p regs w (rest (calls_in k) (record { name = Some m; value = Some v } ∷ l) w) → Runs cs (Put gives d h s base) p regs w (with_local again end m v rest (calls_in k) l w)

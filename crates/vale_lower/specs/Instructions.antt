@@ -107,4 +107,3 @@ built_in_code b.Byte (suc (suc zero)) true at h = i.Byte h h (h + 1) at ∷ []
 built_in_code b.IsNumber (suc zero) true at h = i.IsNum h h ∷ []
 built_in_code b.Number (suc zero) true at h = i.Num h h at ∷ []
 built_in_code _ _ _ at h = stuck h
-

@@ -120,7 +120,8 @@ abbrev mutual
 
 -- ---- functions
 
--- more than every register that the instruction names, of those that stand in this code
+-- more than the register that the instruction writes, and for a call the registers of its values; each register is first written by
+-- one of these instructions, but for the parameters
 abbrev pub room_for : Instr → ℕ
 room_for (i.Int to n) = to + 1
 room_for (i.Truth to n) = to + 1
