@@ -21,7 +21,7 @@ use Rattle.vale_code.specs.Parts.{Parts}
 use Rattle.vale_code.specs.Registers.{Registers, read, put}
 use Rattle.vale_code.specs.declared.instr.Instr.{Instr}
 use Rattle.vale_code.specs.declared.instr.Instr.TheVariants as i
-use Rattle.vale_lower.specs.Instructions.{stuck, load, exchange, if_code, and_code, loop_code, operator, link_code, unary_code}
+use Rattle.vale_lower.specs.Instructions.{stuck, load, store, exchange, if_code, and_code, loop_code, operator, link_code, unary_code}
 use Rattle.vale_lower.specs.Scopes.{Scope}
 use Rattle.vale_lower.proofs.Registers.{Held, IsPlain, HasPlain, Base, with_at, Falls, falls_up, Named, Agrees, agrees_put, agrees_down, agrees_dest, agrees_set, agrees_wait, agrees_done, Fresh, top_read, next_read, one_above, two_above, look_above, Meets, meets, Changes, changes, pick, pick_same, pick_other, read_put}
 use Rattle.vale_lower.proofs.Reaches.{Where, active, conf, calls_in, Comes, Reaches, Reached, Post, Fits, StepFits, HasAt, Val, In, Put, Keeps, has_front, has_back, comes_refl, comes_on, does, moves, wrongs, comes_reaches, by_next, then_reaches, ends_at, weaker, stays, is_stuck, values, answers, surely, literal, free_on, free_back, jumps, jumps_on, chooses, ticks}
@@ -146,6 +146,19 @@ module _ (code : Parts) (k : Where) (n : ℕ) where
   loads p h s base l regs w (Some r) (Some v) fa ag few m has =
       subst (λ x. Reaches code k n (p + 1) (In true h s base) (conf k p regs w) (goes (Some x) l w)) (sym (lent_is v m.1))
       (literal code k n p h h s base base l regs w (i.Copy h r) v fa (λ r lt. refl) (omega arith) ag few m.1 has.0 (copy_does p h r regs w v m.1 (ag.each r m.0 ∙ m.2 base)))
+
+  -- A local gets what stands in h; r is what comes of what it held.
+  pub stores : (p h : ℕ) (s : Scope) (base : Base) (l l' : Locals) (regs : Registers) (w : State) (v : Value) (o : Option ℕ) (u : Held) (r : Held → Result (Option Value)) → Falls h s → Val h s base v l regs → w.left ≤ n → Meets h s l o u → Changes h v s l o l' → ((u : Value) → IsPlain u → r (Some u) ≡ goes None l' w) → HasAt code k.function p (store o h) → Reaches code k n (p + length (store o h)) (Keeps {A = Option Value} h s base) (conf k p regs w) (r u)
+  stores p h s base l l' regs w v None u r fa ag few m c gone has = is_stuck code k n p _ h (Keeps {A = Option Value} h s base) regs w (r u) has
+  stores p h s base l l' regs w v (Some x) None r fa ag few m c gone has = absurd m
+  stores p h s base l l' regs w v (Some q) (Some u) r fa ag few m c gone has =
+      subst (λ x. Reaches code k n (p + 1) (Keeps {A = Option Value} h s base) (conf k p regs w) x) (sym (gone u m.1))
+      (inr (
+        put regs q (Some v),
+        moves code k n p regs w (i.Copy q h) _ has.0 (copy_does p q h regs w v ag.0 (top_read s l base h (h + 1) (Some v) regs fa (omega arith) ag.1)),
+        agrees_set s l l' base h q v regs c (agrees_down s l base (with_at h (Some v) base) h (h + 1) regs (omega arith) (one_above base h (Some v)) ag.1),
+        few,
+      ))
 
   -- A local gets what stands in h, and h what the local held; r is what comes of what it held.
   pub exchanges : (p h : ℕ) (s : Scope) (base : Base) (l l' : Locals) (regs : Registers) (w : State) (v : Value) (o : Option ℕ) (u : Held) (r : Held → Result (Option Value)) → Falls h s → Val h s base v l regs → w.left ≤ n → Meets h s l o u → Changes h v s l o l' → ((u : Value) → r (Some u) ≡ goes (Some u) l' w) → HasAt code k.function p (exchange o h) → Reaches code k n (p + length (exchange o h)) (In true h s base) (conf k p regs w) (r u)

@@ -21,10 +21,10 @@ use Rattle.vale_code.specs.declared.instr.Instr.{Instr}
 use Rattle.vale_code.specs.declared.instr.Instr.TheVariants as i
 use Rattle.vale_lower.specs.Instructions.{stuck, only_if, then_at, load, exchange, if_code, loop_code, link_code, unary_code, built_in_code}
 use Rattle.vale_lower.specs.Scopes.{Scope, entry, waiting, place_of, agree, Around, number_of_text}
-use Rattle.vale_lower.specs.Lowered.{count, truth_number, callee_code, set_code, expr_code, value_code, node_code, args_code, links_code, form_code, elses_code, block_code, stmts_code, stmt_code}
+use Rattle.vale_lower.specs.Lowered.{count, truth_number, callee_code, set_code, store_code, unused_code, expr_code, value_code, node_code, args_code, links_code, form_code, elses_code, block_code, stmts_code, stmt_code}
 use Rattle.vale_lower.proofs.Registers.{IsPlain, ArePlain, Base, with_at, with_all, Falls, falls_up, Named, Agrees, agrees_down, agrees_dest, agrees_push, agrees_wait, agrees_done, all_stand, Fresh, fresh_above, top_read, one_above, meets, changes, innermost_plain}
 use Rattle.vale_lower.proofs.Reaches.{Where, active, conf, calls_in, IsIn, Post, Reaches, Reached, Fits, HasAt, Val, In, Put, Keeps, All, has_front, has_back, comes_on, does, moves, wrongs, comes_reaches, then_reaches, ends_at, weaker, stays, is_stuck, only_if_runs, values, literal, free_on, jumps, leaves, leaves_void}
-use Rattle.vale_lower.proofs.Shapes.{if_runs, loop_tests, loop_test, copy_does, loads, exchanges}
+use Rattle.vale_lower.proofs.Shapes.{if_runs, loop_tests, loop_test, copy_does, loads, stores, exchanges}
 use Rattle.vale_lower.proofs.Operators.{links, unaries}
 use Rattle.vale_lower.proofs.BuiltIns.{built_ins}
 use Rattle.vale_lower.proofs.Lookups.{text_or_none, agree_same}
@@ -34,6 +34,11 @@ use Rattle.vale_lower.proofs.Calls.{program_code, functions, texts, around, whil
 and_first : (a b : Bool) → (a && b) ≡ true → a ≡ true
 and_first true b e = refl
 and_first false b e = e
+
+then_then : {A B C : Type 0} (r : Result A) (f : A → Locals → State → Result B) (g : B → Locals → State → Result C) → then_do (then_do r f) g ≡ then_do r (λ v l w. then_do (f v l w) g)
+then_then (goes v l w) f g = refl
+then_then (returned v w) f g = refl
+then_then (ended e w) f g = refl
 
 module _ (parts : Parts) (k : Where) (is : IsIn (program_code parts) k) (n : ℕ) (again : Again) (follows : Follows parts again n) where
   abbrev code : Code
@@ -157,6 +162,26 @@ module _ (parts : Parts) (k : Where) (is : IsIn (program_code parts) k) (n : ℕ
       only_if_runs code k n (agree k.gives false) h p (i.RetVoid ∷ []) (Keeps h s base) regs w (leave again at None (calls_in k) l w) has
       (λ e has. subst (λ x. Reaches code k n (p + 1) (Keeps h s base) (conf k p regs w) x) (sym (leave_plain again at (calls_in k) None s l w ag.names))
       (inr (leaves_void code k n p regs w is has.0, subst (λ g. Fits g None) (sym (agree_same k.gives false e)) tt, few)))
+
+  -- ---- the set of a local, whose old value isn't used
+
+  store_runs : (q : Expr) (drop_at : Spot) (v : Value) (p h : ℕ) (s : Scope) (base : Base) (l : Locals) (regs : Registers) (w : State) → Falls h s → Val h s base v l regs → w.left ≤ n → Runs (store_code q h s) (Keeps {A = Option Value} h s base) p regs w (then_do (while_waits v (set_run again v q) (calls_in k) l w) (λ u. drop again drop_at u (calls_in k)))
+  store_runs (expr x (name m moved)) drop_at v p h s base l regs w fa ag few has =
+      stores code k n p h s base l (with_held m.name.0 (Some v) l) regs w v (place_of m.name.0 s) (held_by m.name.0 l)
+      (λ u. then_do (then_do (then_do (then_do (the_value u (calls_in k) (record { name = None; value = Some v } ∷ l) w) (λ u l w. goes u (with_held m.name.0 (Some v) l) w)) (λ u. give (Some u) (calls_in k))) (λ r l w. goes r (outer l) w)) (λ u. drop again drop_at u (calls_in k)))
+      fa ag few (meets m.name.0 h s l fa ag.1.names) (changes m.name.0 h v s l ag.0 fa ag.1.names) (λ u pu. drop_plain again drop_at (calls_in k) (Some u) (with_held m.name.0 (Some v) l) w pu) has
+  store_runs (expr x (chain e ls)) drop_at v p h s base l regs w fa ag few has = is_stuck code k n p (p + 1) h (Keeps {A = Option Value} h s base) regs w (then_do (while_waits v (set_run again v (expr x (chain e ls))) (calls_in k) l w) (λ u. drop again drop_at u (calls_in k))) has
+  store_runs (expr x (unary at op e)) drop_at v p h s base l regs w fa ag few has = is_stuck code k n p (p + 1) h (Keeps {A = Option Value} h s base) regs w (then_do (while_waits v (set_run again v (expr x (unary at op e))) (calls_in k) l w) (λ u. drop again drop_at u (calls_in k))) has
+  store_runs (expr x (steps e ss)) drop_at v p h s base l regs w fa ag few has = is_stuck code k n p (p + 1) h (Keeps {A = Option Value} h s base) regs w (then_do (while_waits v (set_run again v (expr x (steps e ss))) (calls_in k) l w) (λ u. drop again drop_at u (calls_in k))) has
+  store_runs (expr x (number at z)) drop_at v p h s base l regs w fa ag few has = is_stuck code k n p (p + 1) h (Keeps {A = Option Value} h s base) regs w (then_do (while_waits v (set_run again v (expr x (number at z))) (calls_in k) l w) (λ u. drop again drop_at u (calls_in k))) has
+  store_runs (expr x (quote at t)) drop_at v p h s base l regs w fa ag few has = is_stuck code k n p (p + 1) h (Keeps {A = Option Value} h s base) regs w (then_do (while_waits v (set_run again v (expr x (quote at t))) (calls_in k) l w) (λ u. drop again drop_at u (calls_in k))) has
+  store_runs (expr x (truth at b)) drop_at v p h s base l regs w fa ag few has = is_stuck code k n p (p + 1) h (Keeps {A = Option Value} h s base) regs w (then_do (while_waits v (set_run again v (expr x (truth at b))) (calls_in k) l w) (λ u. drop again drop_at u (calls_in k))) has
+  store_runs (expr x (call m f es)) drop_at v p h s base l regs w fa ag few has = is_stuck code k n p (p + 1) h (Keeps {A = Option Value} h s base) regs w (then_do (while_waits v (set_run again v (expr x (call m f es))) (calls_in k) l w) (λ u. drop again drop_at u (calls_in k))) has
+  store_runs (expr x (paren at e)) drop_at v p h s base l regs w fa ag few has = is_stuck code k n p (p + 1) h (Keeps {A = Option Value} h s base) regs w (then_do (while_waits v (set_run again v (expr x (paren at e))) (calls_in k) l w) (λ u. drop again drop_at u (calls_in k))) has
+  store_runs (expr x (array at t es)) drop_at v p h s base l regs w fa ag few has = is_stuck code k n p (p + 1) h (Keeps {A = Option Value} h s base) regs w (then_do (while_waits v (set_run again v (expr x (array at t es))) (calls_in k) l w) (λ u. drop again drop_at u (calls_in k))) has
+  store_runs (expr x (iso at b)) drop_at v p h s base l regs w fa ag few has = is_stuck code k n p (p + 1) h (Keeps {A = Option Value} h s base) regs w (then_do (while_waits v (set_run again v (expr x (iso at b))) (calls_in k) l w) (λ u. drop again drop_at u (calls_in k))) has
+  store_runs (expr x (form f)) drop_at v p h s base l regs w fa ag few has = is_stuck code k n p (p + 1) h (Keeps {A = Option Value} h s base) regs w (then_do (while_waits v (set_run again v (expr x (form f))) (calls_in k) l w) (λ u. drop again drop_at u (calls_in k))) has
+  store_runs (expr x (set at e q)) drop_at v p h s base l regs w fa ag few has = is_stuck code k n p (p + 1) h (Keeps {A = Option Value} h s base) regs w (then_do (while_waits v (set_run again v (expr x (set at e q))) (calls_in k) l w) (λ u. drop again drop_at u (calls_in k))) has
 
   -- ---- by induction on the tree
 
@@ -320,6 +345,26 @@ module _ (parts : Parts) (k : Where) (is : IsIn (program_code parts) k) (n : ℕ
         joined (form_code a false f p h s) (stmts_code a gives ss (p + length (form_code a false f p h s)) d h s) (In false h s base) (Put gives d h s base) p regs w (form_run again void f (calls_in k) l w) _ (form_runs f void false p h s base l regs w fa ag few)
         (λ v l w regs ag few. stmts_runs ss end gives _ d h s base l regs w fa lt fr (in_keeps false h s base v l regs ag) few) has
     stmts_runs (more_stmts (express e) ss) end gives p d h s base l regs w fa lt fr ag few has =
-        joined (expr_code a e p h s) (stmts_code a gives ss (p + length (expr_code a e p h s)) d h s) (Keeps h s base) (Put gives d h s base) p regs w _ _
-        (unused (is_copy (type e)) (expr_spot e) (expr_code a e p h s) p h s base regs w (expr_run again e (calls_in k) l w) (expr_runs e p h s base l regs w fa ag few))
+        joined (unused_code a e p h s) (stmts_code a gives ss (p + length (unused_code a e p h s)) d h s) (Keeps {A = Option Value} h s base) (Put gives d h s base) p regs w (stmt_run again (express e) (calls_in k) l w) (λ u. stmts_run again end ss (calls_in k))
+        (unused_runs e (expr_spot e) p h s base l regs w fa ag few)
         (λ v l w regs ag few. stmts_runs ss end gives _ d h s base l regs w fa lt fr ag few) has
+
+    -- an expression whose value isn't used
+    unused_runs : (e : Expr) (drop_at : Spot) (p h : ℕ) (s : Scope) (base : Base) (l : Locals) (regs : Registers) (w : State) → Falls h s → Agrees h s l base regs → w.left ≤ n → Runs (unused_code a e p h s) (Keeps {A = Option Value} h s base) p regs w (then_do (expr_run again e (calls_in k) l w) (λ v. drop again drop_at v (calls_in k)))
+    unused_runs (expr x (set at q e)) drop_at p h s base l regs w fa ag few has =
+        subst (λ r. Reaches code k n (p + length (value_code a e p h s ++ store_code q h s)) (Keeps {A = Option Value} h s base) (conf k p regs w) r)
+        (sym (then_then (valued (expr_run again e) (calls_in k) l w) (λ v. while_waits v (set_run again v q) (calls_in k)) (λ v. drop again drop_at v (calls_in k))))
+        (joined (value_code a e p h s) (store_code q h s) (Val h s base) (Keeps {A = Option Value} h s base) p regs w (valued (expr_run again e) (calls_in k) l w) (λ v l w. then_do (while_waits v (set_run again v q) (calls_in k) l w) (λ u. drop again drop_at u (calls_in k))) (value_runs e p h s base l regs w fa ag few)
+        (λ v l w regs ag few. store_runs q drop_at v (p + length (value_code a e p h s)) h s base l regs w fa ag few) has)
+    unused_runs (expr x (chain e ls)) drop_at p h s base l regs w fa ag few has = unused (is_copy x.value) drop_at (node_code a (is_copy x.value) (chain e ls) p h s) p h s base regs w (node_run again x.value (chain e ls) (calls_in k) l w) (node_runs (chain e ls) x.value (is_copy x.value) p h s base l regs w fa ag few) has
+    unused_runs (expr x (unary at op e)) drop_at p h s base l regs w fa ag few has = unused (is_copy x.value) drop_at (node_code a (is_copy x.value) (unary at op e) p h s) p h s base regs w (node_run again x.value (unary at op e) (calls_in k) l w) (node_runs (unary at op e) x.value (is_copy x.value) p h s base l regs w fa ag few) has
+    unused_runs (expr x (steps e ss)) drop_at p h s base l regs w fa ag few has = unused (is_copy x.value) drop_at (node_code a (is_copy x.value) (steps e ss) p h s) p h s base regs w (node_run again x.value (steps e ss) (calls_in k) l w) (node_runs (steps e ss) x.value (is_copy x.value) p h s base l regs w fa ag few) has
+    unused_runs (expr x (number at z)) drop_at p h s base l regs w fa ag few has = unused (is_copy x.value) drop_at (node_code a (is_copy x.value) (number at z) p h s) p h s base regs w (node_run again x.value (number at z) (calls_in k) l w) (node_runs (number at z) x.value (is_copy x.value) p h s base l regs w fa ag few) has
+    unused_runs (expr x (quote at t)) drop_at p h s base l regs w fa ag few has = unused (is_copy x.value) drop_at (node_code a (is_copy x.value) (quote at t) p h s) p h s base regs w (node_run again x.value (quote at t) (calls_in k) l w) (node_runs (quote at t) x.value (is_copy x.value) p h s base l regs w fa ag few) has
+    unused_runs (expr x (truth at b)) drop_at p h s base l regs w fa ag few has = unused (is_copy x.value) drop_at (node_code a (is_copy x.value) (truth at b) p h s) p h s base regs w (node_run again x.value (truth at b) (calls_in k) l w) (node_runs (truth at b) x.value (is_copy x.value) p h s base l regs w fa ag few) has
+    unused_runs (expr x (name m moved)) drop_at p h s base l regs w fa ag few has = unused (is_copy x.value) drop_at (node_code a (is_copy x.value) (name m moved) p h s) p h s base regs w (node_run again x.value (name m moved) (calls_in k) l w) (node_runs (name m moved) x.value (is_copy x.value) p h s base l regs w fa ag few) has
+    unused_runs (expr x (call m f es)) drop_at p h s base l regs w fa ag few has = unused (is_copy x.value) drop_at (node_code a (is_copy x.value) (call m f es) p h s) p h s base regs w (node_run again x.value (call m f es) (calls_in k) l w) (node_runs (call m f es) x.value (is_copy x.value) p h s base l regs w fa ag few) has
+    unused_runs (expr x (paren at e)) drop_at p h s base l regs w fa ag few has = unused (is_copy x.value) drop_at (node_code a (is_copy x.value) (paren at e) p h s) p h s base regs w (node_run again x.value (paren at e) (calls_in k) l w) (node_runs (paren at e) x.value (is_copy x.value) p h s base l regs w fa ag few) has
+    unused_runs (expr x (array at t es)) drop_at p h s base l regs w fa ag few has = unused (is_copy x.value) drop_at (node_code a (is_copy x.value) (array at t es) p h s) p h s base regs w (node_run again x.value (array at t es) (calls_in k) l w) (node_runs (array at t es) x.value (is_copy x.value) p h s base l regs w fa ag few) has
+    unused_runs (expr x (iso at b)) drop_at p h s base l regs w fa ag few has = unused (is_copy x.value) drop_at (node_code a (is_copy x.value) (iso at b) p h s) p h s base regs w (node_run again x.value (iso at b) (calls_in k) l w) (node_runs (iso at b) x.value (is_copy x.value) p h s base l regs w fa ag few) has
+    unused_runs (expr x (form f)) drop_at p h s base l regs w fa ag few has = unused (is_copy x.value) drop_at (node_code a (is_copy x.value) (form f) p h s) p h s base regs w (node_run again x.value (form f) (calls_in k) l w) (node_runs (form f) x.value (is_copy x.value) p h s base l regs w fa ag few) has

@@ -31,6 +31,11 @@ abbrev pub load : Option ℕ → ℕ → List Instr
 load None h = stuck h
 load (Some r) h = i.Copy h r ∷ []
 
+-- the local gets what stands in h
+abbrev pub store : Option ℕ → ℕ → List Instr
+store None h = stuck h
+store (Some r) h = i.Copy r h ∷ []
+
 -- the local gets what stands in h, and h what the local held
 abbrev pub exchange : Option ℕ → ℕ → List Instr
 exchange None h = stuck h

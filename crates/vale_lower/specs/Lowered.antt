@@ -14,7 +14,7 @@ use Rattle.vale_code.specs.Parts.{Parts as Code}
 use Rattle.vale_code.specs.declared.func.Func.{Func}
 use Rattle.vale_code.specs.declared.instr.Instr.{Instr}
 use Rattle.vale_code.specs.declared.instr.Instr.TheVariants as i
-use Rattle.vale_lower.specs.Instructions.{stuck, only_if, then_at, load, exchange, if_code, loop_code, link_code, unary_code, registers_from, built_in_code}
+use Rattle.vale_lower.specs.Instructions.{stuck, only_if, then_at, load, store, exchange, if_code, loop_code, link_code, unary_code, registers_from, built_in_code}
 use Rattle.vale_lower.specs.Scopes.{Entry, Scope, entry, waiting, place_of, after, parameters, code_type, agree, Around, number_of_text, number_of_function, may_be_called, result_type}
 use Rattle.vale_lower.specs.Texts.{function_quotes}
 
@@ -41,6 +41,11 @@ callee_code around gives n (function is_pure) values h = call_code around gives 
 abbrev pub set_code : Expr → ℕ → Scope → List Instr
 set_code (expr x (name n moved)) h s = exchange (place_of n.name.0 s) h
 set_code (expr x _) h s = stuck h
+
+-- the same, where what the local held isn't used
+abbrev pub store_code : Expr → ℕ → Scope → List Instr
+store_code (expr x (name n moved)) h s = store (place_of n.name.0 s) h
+store_code (expr x _) h s = stuck h
 
 abbrev mutual
   -- the value goes to h, where its type has one
@@ -116,7 +121,12 @@ abbrev mutual
       loop_code place h (λ place. value_code around c place h s) (λ place. block_code around false b place h (h + 1) s)
   stmt_code around (foreach at n a e b) place h s = stuck h
   stmt_code around (form_stmt f) place h s = form_code around false f place h s
-  stmt_code around (express e) place h s = expr_code around e place h s
+  stmt_code around (express e) place h s = unused_code around e place h s
+
+  -- an expression whose value isn't used
+  pub unused_code : Around → Expr → ℕ → ℕ → Scope → List Instr
+  unused_code around (expr x (set at p e)) place h s = value_code around e place h s ++ store_code p h s
+  unused_code around (expr x node) place h s = node_code around (is_copy x.value) node place h s
 
 -- ---- functions
 
