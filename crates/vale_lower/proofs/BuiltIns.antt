@@ -1,16 +1,14 @@
 -- Built-in functions run as they mean.
-use Rattle.std.proofs.Common.{◌≡◌, ℕ, zero, suc, ◌+◌, ◌<◌, ◌≤◌, List, [], ◌∷◌, length, Option, Some, None, Bool, true, false, refl, sym, ap, ◌∙◌, subst, ◌⊎◌, inl, inr, arith}
-use Rattle.vale_base.specs.Outcome.{Wrong}
+use Rattle.std.proofs.Common.{◌≡◌, ℕ, ◌+◌, ◌≤◌, List, [], ◌∷◌, length, Some, None, Bool, true, false, refl, ap, ◌∙◌, subst, ◌⊎◌, inl, inr, arith}
 use Rattle.vale_base.specs.State.{State, Answer, fails, print, len}
 use Rattle.vale_base.specs.World.{Value}
 use Rattle.vale_base.specs.declared.spot.Spot.{Spot}
 use Rattle.vale_text.specs.Steps as o
 use Rattle.vale_syntax.specs.declared.built_in.BuiltIn.{BuiltIn}
 use Rattle.vale_syntax.specs.declared.built_in.BuiltIn.TheVariants as b
-use Rattle.vale_model.specs.Runs.{Locals, Result, answered}
+use Rattle.vale_model.specs.Runs.{Locals, answered}
 use Rattle.vale_model.specs.Destruction.{Again}
 use Rattle.vale_model.specs.Expressions.{built_in_run}
-use Rattle.vale_code.specs.Frames.{Next}
 use Rattle.vale_code.specs.Instructions as steps
 use Rattle.vale_code.specs.Instructions.{fetch, with_value, text_length}
 use Rattle.vale_code.specs.Parts.{Parts}
@@ -19,7 +17,7 @@ use Rattle.vale_code.specs.declared.instr.Instr.{Instr}
 use Rattle.vale_code.specs.declared.instr.Instr.TheVariants as i
 use Rattle.vale_lower.specs.Instructions.{stuck, built_in_code}
 use Rattle.vale_lower.specs.Scopes.{Scope}
-use Rattle.vale_lower.proofs.Registers.{IsPlain, ArePlain, Base, Falls, Agrees, agrees_down, with_all, with_all_below, Stand, all_stand}
+use Rattle.vale_lower.proofs.Registers.{IsPlain, ArePlain, Base, Falls, Agrees, agrees_down, with_all, with_all_below, Stand}
 use Rattle.vale_lower.proofs.Reaches.{Where, active, conf, calls_in, Reaches, StepFits, HasAt, In, does, wrongs, is_stuck, answers, surely, surely_nothing}
 use Rattle.vale_lower.proofs.Operations as fit
 use Rattle.vale_lower.proofs.Operators.{reads_two, reads_one}

@@ -3,10 +3,9 @@ use Rattle.std.proofs.Common.{◌≡◌, ℕ, zero, suc, ◌+◌, ◌<◌, ◌�
 use Rattle.std.specs.Prelude.{slice_get, option_map}
 use Rattle.std.proofs.lemmas.Bool.Decides.{Decides-eqb}
 use Rattle.std.proofs.lemmas.Option.{slice_get-map}
-use Rattle.vale_base.specs.Outcome.{End, Cut, Wrong}
-use Rattle.vale_base.specs.State.{State, Calls, spend, spend_of, has_depth, trap_under, function_frame}
+use Rattle.vale_base.specs.Outcome.{Wrong}
+use Rattle.vale_base.specs.State.{State, spend, spend_of, has_depth, function_frame}
 use Rattle.vale_base.specs.World.{Value}
-use Rattle.vale_base.specs.declared.spot.Spot.{Spot}
 use Rattle.vale_base.specs.declared.trap.FrameAt.{FrameAt}
 use Rattle.vale_base.specs.declared.trap.TrapKind.TheVariants.{CallDepth}
 use Rattle.vale_syntax.specs.Declarations.{head_params, param_type}
@@ -30,10 +29,10 @@ use Rattle.vale_code.specs.Registers.{Registers, Read, give_all, registers_for, 
 use Rattle.vale_code.specs.declared.func.Func.{Func}
 use Rattle.vale_code.specs.declared.instr.Instr.{Instr}
 use Rattle.vale_code.specs.declared.instr.Instr.TheVariants as i
-use Rattle.vale_lower.specs.Instructions.{stuck, only_if, registers_from, loop_code}
-use Rattle.vale_lower.specs.Scopes.{Scope, code_type, agree, Around, number_of_text, number_of_function, may_be_called, result_type}
+use Rattle.vale_lower.specs.Instructions.{only_if, registers_from, loop_code}
+use Rattle.vale_lower.specs.Scopes.{Scope, agree, Around, number_of_function, may_be_called, result_type}
 use Rattle.vale_lower.specs.Lowered.{value_code, block_code, call_code, form_of, names_in, functions_in, texts_in, lowered_function, lowered_parts}
-use Rattle.vale_lower.proofs.Registers.{IsPlain, ArePlain, Base, with_at, Falls, Agrees, agrees_put, agrees_down, with_all, with_all_below, Stand}
+use Rattle.vale_lower.proofs.Registers.{ArePlain, Base, with_at, Falls, Agrees, agrees_put, agrees_down, with_all, with_all_below, Stand}
 use Rattle.vale_lower.proofs.Reaches.{Where, active, conf, calls_in, IsIn, Comes, Stops, GoesWrong, Fits, Post, Reaches, Reached, NextReaches, HasAt, In, does, by_next, is_stuck, only_if_runs}
 use Rattle.vale_lower.proofs.Lookups.{found_function, passes, found_text, in_front, goes_to, goes_nowhere, agree_same, all_given}
 

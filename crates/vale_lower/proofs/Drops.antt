@@ -1,14 +1,14 @@
 -- Nothing is done where plain values are dropped.
-use Rattle.std.proofs.Common.{◌≡◌, ℕ, ◌+◌, ◌<◌, ◌≤◌, arith, List, [], ◌∷◌, Option, Some, None, Bool, true, false, refl, sym, ap, ◌∙◌, subst}
+use Rattle.std.proofs.Common.{◌≡◌, ℕ, ◌+◌, arith, [], ◌∷◌, Some, None, Bool, true, false, refl, ap, ◌∙◌}
 use Rattle.vale_base.specs.State.{State, Calls}
-use Rattle.vale_base.specs.World.{Value, Int, Truth, Text, Own, Ref, Iso}
+use Rattle.vale_base.specs.World.{Int, Truth, Text, Own, Ref, Iso}
 use Rattle.vale_base.specs.declared.spot.Spot.{Spot}
 use Rattle.vale_code.specs.Registers.{Registers}
-use Rattle.vale_model.specs.Runs.{Local, Locals, Result, goes, returned, Run, then_do, outer, innermost}
+use Rattle.vale_model.specs.Runs.{Locals, goes, returned, then_do, outer}
 use Rattle.vale_model.specs.Destruction.{Again, drop, drop_locals, leave}
-use Rattle.vale_lower.specs.Scopes.{Entry, Scope, entry}
-use Rattle.vale_lower.proofs.Registers.{Held, IsPlain, HasPlain, Base, Named, Agrees, agrees_pop, agrees_down, agrees_once, with_at, one_above, innermost_plain}
-use Rattle.vale_lower.proofs.Reaches.{Fits, Val, In, Put, Keeps}
+use Rattle.vale_lower.specs.Scopes.{Scope, entry}
+use Rattle.vale_lower.proofs.Registers.{Held, HasPlain, Base, Named, Agrees, agrees_pop, agrees_down, agrees_once, with_at, one_above}
+use Rattle.vale_lower.proofs.Reaches.{Fits, In, Put}
 
 module _ (again : Again) (at : Spot) (calls : Calls) where
   pub drop_plain : (v : Held) (l : Locals) (w : State) → HasPlain v → drop again at v calls l w ≡ goes None l w

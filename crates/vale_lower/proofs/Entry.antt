@@ -1,10 +1,10 @@
 -- Where a function begins: its parameters against the registers, and its code from its first place on.
-use Rattle.std.proofs.Common.{◌≡◌, ◌≢◌, ℕ, zero, suc, ◌+◌, ◌-◌, ◌<◌, ◌≤◌, List, [], ◌∷◌, ◌++◌, length, map, Option, Some, None, refl, sym, ap, ◌∙◌, subst, ◌⊎◌, inl, inr, ⊎_elim, arith, length-append, append_assoc}
+use Rattle.std.proofs.Common.{◌≡◌, ◌≢◌, ℕ, zero, suc, ◌+◌, ◌-◌, ◌<◌, List, [], ◌∷◌, ◌++◌, length, map, Some, None, refl, sym, ap, ◌∙◌, subst, ◌⊎◌, inl, inr, ⊎_elim, arith, length-append, append_assoc}
 use Rattle.std.specs.Prelude.{slice_get, replicate}
 use Rattle.vale_base.specs.World.{Value}
-use Rattle.vale_model.specs.Runs.{Local, Locals}
+use Rattle.vale_model.specs.Runs.{Locals}
 use Rattle.vale_model.specs.Meaning.{bound}
-use Rattle.vale_code.specs.Instructions.{fetch, instruction_in}
+use Rattle.vale_code.specs.Instructions.{instruction_in}
 use Rattle.vale_code.specs.Parts.{Parts}
 use Rattle.vale_code.specs.Registers.{Registers, read, registers_for}
 use Rattle.vale_code.specs.declared.func.Func.{Func}

@@ -8,12 +8,12 @@ use Rattle.vale_base.specs.declared.piece.Piece.{Piece}
 use Rattle.vale_base.specs.declared.spot.Spot.{Spot}
 use Rattle.vale_base.specs.declared.trap.FrameAt.{FrameAt}
 use Rattle.vale_base.specs.declared.trap.TrapKind.TheVariants.{Overflow, DivisionByZero}
-use Rattle.vale_syntax.specs.declared.tree.BinaryOp.TheVariants.{Or, And, Equal, Less, Add, Sub, Div}
+use Rattle.vale_syntax.specs.declared.tree.BinaryOp.TheVariants.{Equal, Less, Add, Sub, Div}
 use Rattle.vale_syntax.specs.declared.tree.NameAt.{NameAt}
 use Rattle.vale_syntax.specs.Judged.{Judged, fine, faulty}
 use Rattle.vale_syntax.specs.Typed.{Typed}
 use Rattle.vale_syntax.specs.Typing.{typed}
-use Rattle.vale_syntax.specs.Tree.{int_type, set, chain, number, quote, truth, name, call, paren, form, no_exprs, more_exprs, link, no_links, more_links, branch, no_else, otherwise, block, declare, return_value, while, form_stmt, express, no_stmts, last, more_stmts, param, head, function, function_item, Tree, tree}
+use Rattle.vale_syntax.specs.Tree.{int_type, set, chain, number, quote, truth, name, call, paren, no_exprs, more_exprs, link, no_links, more_links, branch, no_else, block, declare, return_value, while, form_stmt, express, no_stmts, more_stmts, param, head, function, function_item, Tree, tree}
 use Rattle.vale_code.specs.Run.{run_code}
 use Rattle.vale_lower.specs.Lowered.{lowered}
 

@@ -1,5 +1,5 @@
 -- The numbers of functions and texts stand for them.
-use Rattle.std.proofs.Common.{◌≡◌, ℕ, zero, suc, ◌+◌, List, [], ◌∷◌, ◌++◌, length, map, Option, Some, None, Bool, true, false, if◌then◌else◌, refl, sym, ap, ◌∙◌, subst, ◌⊎◌, inl, inr, arith}
+use Rattle.std.proofs.Common.{◌≡◌, ℕ, zero, suc, ◌+◌, List, [], ◌∷◌, ◌++◌, length, map, Option, Some, None, Bool, true, false, if◌then◌else◌, refl, sym, ap, ◌∙◌, subst, ◌⊎◌, inl, inr}
 use Rattle.std.specs.Prelude.{slice_get, bytes_eq}
 use Rattle.std.proofs.lemmas.Slice.Eq.{bytes_eq-Decides}
 use Rattle.vale_base.specs.World.{Value, Int, Truth, Text, Own, Ref, Iso}
@@ -9,7 +9,6 @@ use Rattle.vale_syntax.specs.Typed.{Function}
 use Rattle.vale_model.specs.Parts.{first_function}
 use Rattle.vale_code.specs.Kinds.{result_to}
 use Rattle.vale_code.specs.Registers.{Registers, Read, read, kept, and_then, after_keeping, given_value, after_giving, give_all}
-use Rattle.vale_code.specs.declared.ty.Ty.{Ty as CodeTy}
 use Rattle.vale_lower.specs.Instructions.{registers_from}
 use Rattle.vale_lower.specs.Scopes.{number_of_text, number_of_function, code_type, agree}
 use Rattle.vale_lower.proofs.Registers.{IsPlain, ArePlain, Stand}

@@ -1,26 +1,26 @@
 -- From the start of a run to its end.
-use Rattle.std.proofs.Common.{◌≡◌, ℕ, zero, suc, ◌+◌, ◌<◌, ◌≤◌, List, [], ◌∷◌, length, map, Option, Some, None, Bool, true, false, if◌then◌else◌, refl, sym, ap, ◌∙◌, subst, ◌⊎◌, inl, inr, arith}
+use Rattle.std.proofs.Common.{◌≡◌, ℕ, zero, suc, ◌+◌, List, [], ◌∷◌, length, map, Option, Some, None, Bool, true, false, if◌then◌else◌, refl, sym, ap, ◌∙◌, subst, ◌⊎◌, inl, inr, arith}
 use Rattle.std.specs.Prelude.{slice_get, codes, bytes_eq, option_map, slice_index_or}
 use Rattle.std.specs.Option.{option_map_or}
 use Rattle.std.proofs.lemmas.Option.{slice_get-map}
 use Rattle.std.proofs.lemmas.Slice.Eq.{bytes_eq-Decides}
-use Rattle.vale_base.specs.Outcome.{End, Done, Cut, Wrong, Outcome}
+use Rattle.vale_base.specs.Outcome.{End, Done, Cut, Wrong}
 use Rattle.vale_base.specs.State.{State, begin, outcome, no_input, main_frame, function_frame}
 use Rattle.vale_base.specs.World.{Value}
-use Rattle.vale_syntax.specs.Declarations.{head_params, head_name, is_called, param_type}
-use Rattle.vale_syntax.specs.Tree.{Param, param}
+use Rattle.vale_syntax.specs.Declarations.{head_params, param_type}
+use Rattle.vale_syntax.specs.Tree.{Param}
 use Rattle.vale_syntax.specs.Types.{Ty, is_copy, type_of}
 use Rattle.vale_syntax.specs.Types as y
 use Rattle.vale_syntax.specs.Typed.{Function, function_body, Typed}
-use Rattle.vale_model.specs.Kinds.{head_of, body_of}
-use Rattle.vale_model.specs.Parts.{Parts, parts_of, name_text, name_of, param_names, has_text, first_function, is_pure, main_of}
-use Rattle.vale_model.specs.Runs.{Locals, Result, goes, returned, ended}
+use Rattle.vale_model.specs.Kinds.{head_of}
+use Rattle.vale_model.specs.Parts.{Parts, parts_of, name_of, param_names, has_text, first_function, is_pure, main_of}
+use Rattle.vale_model.specs.Runs.{Result, goes, returned, ended}
 use Rattle.vale_model.specs.Expressions.{called, called_by}
 use Rattle.vale_model.specs.Loops.{state_in}
 use Rattle.vale_model.specs.Need as need
 use Rattle.vale_model.specs.Meaning.{bound, back_to, with_bound, body_run, level, run_of, outcome_of, meaning}
 use Rattle.vale_code.proofs.Ends.{run_ends_once}
-use Rattle.vale_code.specs.Enter.{Form, Plain, Pure, with_func, with_form, form_of as form_in, enter}
+use Rattle.vale_code.specs.Enter.{Form, Plain, with_func, with_form, form_of as form_in, enter}
 use Rattle.vale_code.specs.Frames.{Config, Next, On, Over, wrong}
 use Rattle.vale_code.specs.Kinds.{text_at}
 use Rattle.vale_code.specs.Need as code_need
@@ -32,9 +32,9 @@ use Rattle.vale_code.specs.declared.func.Func.{Func}
 use Rattle.vale_code.specs.declared.ty.Ty.{Ty as CodeTy}
 use Rattle.vale_lower.specs.Scopes.{code_type, number_of_function, result_type}
 use Rattle.vale_lower.specs.Lowered.{form_of, names_in, lowered}
-use Rattle.vale_lower.proofs.Reaches.{Where, conf, Stops, GoesWrong, Reaches}
+use Rattle.vale_lower.proofs.Reaches.{Where, conf, Reaches}
 use Rattle.vale_lower.proofs.Lookups.{found_function, passes}
-use Rattle.vale_lower.proofs.Calls.{program_code, functions, code_of_function, entered, func_at, text_of_function, plain_form}
+use Rattle.vale_lower.proofs.Calls.{program_code, functions, code_of_function, func_at, text_of_function}
 use Rattle.vale_lower.proofs.Program.{Never, body_runs, all_follow}
 
 -- how what a step leads to ends

@@ -1,13 +1,12 @@
 -- Single steps give plain values.
-use Rattle.std.proofs.Common.{◌≡◌, ℕ, ◌≤◌, ℤ, pos, List, [], ◌∷◌, ◌++◌, Option, Some, None, Bool, true, false, Result, Ok, Err, refl, ◌⊎◌, inl, inr, arith}
-use Rattle.vale_base.specs.State.{State, Answer, gives, traps, fails, print, print_text, shown, len}
+use Rattle.std.proofs.Common.{◌≡◌, ℕ, ◌≤◌, ℤ, pos, List, Option, Some, None, Bool, true, false, Result, Ok, Err, refl, ◌⊎◌, inl, inr, arith}
+use Rattle.vale_base.specs.State.{State, Answer, fails, print, print_text, shown, len}
 use Rattle.vale_base.specs.World.{Value, Int, Truth, Text, Own, Ref, Iso}
 use Rattle.vale_base.specs.declared.trap.TrapKind.{TrapKind}
 use Rattle.vale_text.specs.Operations as p
 use Rattle.vale_text.specs.Steps as o
 use Rattle.vale_model.specs.Expressions.{plus}
 use Rattle.vale_code.specs.Instructions.{text_length}
-use Rattle.vale_lower.proofs.Registers.{IsPlain}
 use Rattle.vale_lower.proofs.Reaches.{StepFits}
 
 same : (w : State) → w.left ≤ w.left

@@ -1,8 +1,8 @@
 -- Operators run as they mean.
-use Rattle.std.proofs.Common.{◌≡◌, ◌≢◌, ℕ, zero, suc, ◌+◌, ◌<◌, ◌≤◌, pos, List, [], ◌∷◌, ◌++◌, length, Option, Some, None, Bool, true, false, refl, sym, ap, ◌∙◌, subst, ◌⊎◌, inl, inr, ⊎_elim, arith, length-append}
+use Rattle.std.proofs.Common.{◌≡◌, ◌≢◌, ℕ, ◌+◌, ◌<◌, ◌≤◌, pos, List, [], ◌∷◌, ◌++◌, length, Option, Some, None, true, false, refl, ap, ◌∙◌, subst, ◌⊎◌, inl, inr, arith, length-append}
 use Rattle.vale_base.specs.Outcome.{Wrong}
 use Rattle.vale_base.specs.State.{State, Answer, fails}
-use Rattle.vale_base.specs.World.{Value, Int, Truth, Text, Own, Ref, Iso}
+use Rattle.vale_base.specs.World.{Value, Int, Truth}
 use Rattle.vale_base.specs.declared.spot.Spot.{Spot}
 use Rattle.vale_text.specs.Operations as number
 use Rattle.vale_text.specs.Steps as o
@@ -12,19 +12,19 @@ use Rattle.vale_syntax.specs.declared.tree.BinaryOp.{BinaryOp}
 use Rattle.vale_syntax.specs.declared.tree.BinaryOp.TheVariants as op
 use Rattle.vale_syntax.specs.declared.tree.UnaryOp.{UnaryOp}
 use Rattle.vale_syntax.specs.declared.tree.UnaryOp.TheVariants as unary
-use Rattle.vale_model.specs.Runs.{Locals, Result, goes, ended, Run, then_do, valued, give, answered}
+use Rattle.vale_model.specs.Runs.{Locals, goes, ended, Run, then_do, valued, give, answered}
 use Rattle.vale_model.specs.Expressions.{operated, plus, link_run, unary_run}
-use Rattle.vale_code.specs.Frames.{Config, Next}
+use Rattle.vale_code.specs.Frames.{Next}
 use Rattle.vale_code.specs.Instructions as steps
 use Rattle.vale_code.specs.Instructions.{fetch, with_value}
 use Rattle.vale_code.specs.Parts.{Parts}
 use Rattle.vale_code.specs.Registers.{Registers, read, put}
 use Rattle.vale_code.specs.declared.instr.Instr.{Instr}
 use Rattle.vale_code.specs.declared.instr.Instr.TheVariants as i
-use Rattle.vale_lower.specs.Instructions.{stuck, if_code, and_code, operator, link_code, unary_code}
+use Rattle.vale_lower.specs.Instructions.{if_code, and_code, operator, link_code, unary_code}
 use Rattle.vale_lower.specs.Scopes.{Scope}
-use Rattle.vale_lower.proofs.Registers.{Held, IsPlain, Base, with_at, Falls, falls_up, Agrees, agrees_down, top_read, next_read, one_above, two_above, pick_same, pick_other, read_put}
-use Rattle.vale_lower.proofs.Reaches.{Where, active, conf, calls_in, Comes, Reaches, Post, StepFits, HasAt, Val, In, has_front, has_back, does, moves, wrongs, comes_reaches, then_reaches, ends_at, stays, is_stuck, values, answers, surely, chooses}
+use Rattle.vale_lower.proofs.Registers.{Base, with_at, Falls, falls_up, Agrees, agrees_down, top_read, next_read, one_above, two_above, pick_same, pick_other, read_put}
+use Rattle.vale_lower.proofs.Reaches.{Where, active, conf, calls_in, Reaches, StepFits, HasAt, Val, In, has_front, has_back, does, moves, wrongs, comes_reaches, then_reaches, ends_at, stays, is_stuck, values, answers, surely, chooses}
 use Rattle.vale_lower.proofs.Shapes.{if_runs}
 use Rattle.vale_lower.proofs.Operations as fit
 

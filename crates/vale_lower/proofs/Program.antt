@@ -1,19 +1,18 @@
 -- The code of a whole program does what the program means: by induction on the ticks.
-use Rattle.std.proofs.Common.{◌≡◌, ◌≢◌, ℕ, zero, suc, ◌+◌, ◌<◌, ◌≤◌, List, [], ◌∷◌, ◌++◌, length, map, Option, Some, None, Bool, true, false, if◌then◌else◌, refl, sym, ap, ◌∙◌, subst, ◌⊎◌, inl, inr, arith}
-use Rattle.std.specs.Prelude.{slice_get, codes}
-use Rattle.vale_base.specs.Outcome.{End, Done, Cut, Wrong, Outcome}
-use Rattle.vale_base.specs.State.{State, Calls, begin, outcome, no_input}
+use Rattle.std.proofs.Common.{◌≡◌, ℕ, zero, suc, ◌+◌, ◌≤◌, List, [], ◌∷◌, ◌++◌, length, Option, Some, None, Bool, true, false, refl, sym, ap, ◌∙◌, subst, inl, inr, arith}
+use Rattle.std.specs.Prelude.{slice_get}
+use Rattle.vale_base.specs.State.{State}
 use Rattle.vale_base.specs.World.{Value}
 use Rattle.vale_base.specs.declared.spot.Spot.{Spot}
 use Rattle.vale_base.specs.declared.trap.FrameAt.{FrameAt}
 use Rattle.vale_syntax.specs.Types.{is_copy}
-use Rattle.vale_syntax.specs.Typed.{Function, function_body, Expr, Block, block}
-use Rattle.vale_model.specs.Kinds.{head_of, body_of}
+use Rattle.vale_syntax.specs.Typed.{Function, function_body, Block, block}
+use Rattle.vale_model.specs.Kinds.{body_of}
 use Rattle.vale_model.specs.Parts.{Parts, is_pure}
-use Rattle.vale_model.specs.Runs.{Locals, Result, goes, returned, ended, Run, then_do, ◌>>=◌, valued, choose, nothing, tick}
+use Rattle.vale_model.specs.Runs.{Locals, Result, goes, returned, ended, valued}
 use Rattle.vale_model.specs.Destruction.{Again, leave}
 use Rattle.vale_model.specs.Expressions.{block_run, expr_run}
-use Rattle.vale_model.specs.Meaning.{bound, back_to, body_run, with_bound, function_run, turn_run, level}
+use Rattle.vale_model.specs.Meaning.{bound, back_to, body_run, with_bound, turn_run, level}
 use Rattle.vale_code.specs.Frames.{Frame, Config, under}
 use Rattle.vale_code.specs.Instructions.{with_value}
 use Rattle.vale_code.specs.Enter.{with_func, leave_function}
@@ -21,16 +20,15 @@ use Rattle.vale_code.specs.Parts.{Parts as Code}
 use Rattle.vale_code.specs.Registers.{Registers, read, registers_for}
 use Rattle.vale_code.specs.declared.instr.Instr.{Instr}
 use Rattle.vale_code.specs.declared.instr.Instr.TheVariants as i
-use Rattle.vale_lower.specs.Instructions.{loop_code}
 use Rattle.vale_lower.specs.Scopes.{Scope, parameters, result_type}
 use Rattle.vale_lower.specs.Lowered.{value_code, block_code, end_code, names_in, lowered_body}
-use Rattle.vale_lower.proofs.Registers.{ArePlain, Base, with_at, look, look_above, Falls, falls_up, fresh_above, Agrees, agrees_more, agrees_down, one_above}
-use Rattle.vale_lower.proofs.Reaches.{Where, active, conf, calls_in, IsIn, Comes, Stops, GoesWrong, Fits, Post, Reaches, Reached, HasAt, In, Put, has_front, has_back, wrongs, then_reaches, weaker, leaves_void}
+use Rattle.vale_lower.proofs.Registers.{ArePlain, with_at, look_above, Falls, falls_up, fresh_above, agrees_more}
+use Rattle.vale_lower.proofs.Reaches.{Where, conf, calls_in, IsIn, Fits, Post, Reaches, Reached, HasAt, In, Put, has_front, has_back, wrongs, then_reaches, weaker, leaves_void}
 use Rattle.vale_lower.proofs.Shapes.{loop_tests, loop_body, loop_test}
 use Rattle.vale_lower.proofs.Drops.{leave_plain, put_in, in_keeps}
-use Rattle.vale_lower.proofs.Calls.{CameBack, ComesBack, program_code, functions, texts, around, code_of_function, entered, while_code, TurnsRun, CallsRun, Follows, func_at, plain_form}
+use Rattle.vale_lower.proofs.Calls.{ComesBack, program_code, functions, texts, around, code_of_function, entered, TurnsRun, CallsRun, Follows, func_at, plain_form}
 use Rattle.vale_lower.proofs.Tree.{block_runs, value_runs}
-use Rattle.vale_lower.proofs.Entry.{has_all, arguments_stand, empty_behind, Enters, enters, are_bound, falls_parameters}
+use Rattle.vale_lower.proofs.Entry.{has_all, arguments_stand, empty_behind, enters, are_bound, falls_parameters}
 
 reached_more : {A : Type 0} (code : Code) (k : Where) (n m p : ℕ) (post : Post A) (c : Config) (r : Result A) → n ≤ m → Reached code k n p post c r → Reached code k m p post c r
 reached_more code k n m p post c (goes v l w) le a = (a.0, a.1, a.2, omega (arith, le, a.3))

@@ -1,6 +1,6 @@
 -- The operations keep numbers within the range of int, and texts short and of bytes.
-use Rattle.std.proofs.Common.{◌≡◌, ℕ, zero, suc, ◌+◌, ◌-◌, ◌^◌, ◌<◌, ◌≤◌, ℤ, pos, negsuc, List, [], ◌∷◌, ◌++◌, length, Option, Some, None, Bool, true, false, ◌&&◌, nat_le, if◌then◌else◌, Result, Ok, Err, FitsSigned, w64, refl, sym, ap, ◌∙◌, subst, arith, length-append}
-use Rattle.std.specs.Prelude.{slice_get, take, drop, int_div, int_rem, unsigned_abs}
+use Rattle.std.proofs.Common.{◌≡◌, ℕ, zero, suc, ◌+◌, ◌^◌, ◌<◌, ◌≤◌, ℤ, pos, negsuc, List, [], ◌∷◌, ◌++◌, length, Some, Bool, true, false, ◌&&◌, nat_le, if◌then◌else◌, Ok, Err, FitsSigned, w64, refl, ap, ◌∙◌, subst, arith, length-append}
+use Rattle.std.specs.Prelude.{slice_get, take, drop, int_rem, unsigned_abs}
 use Rattle.std.specs.List.{list_all}
 use Rattle.std.specs.Str.{IsAscii}
 use Rattle.std.specs.Fmt.{decimal, signed_decimal}
@@ -9,7 +9,7 @@ use Rattle.std.proofs.lemmas.Fmt.{length-decimal-le, IsAscii-decimal}
 use Rattle.std.proofs.lemmas.Int.{rem_below, fits_signed_from_abs}
 use Rattle.vale_base.specs.Limits.{text_limit}
 use Rattle.vale_base.specs.declared.trap.TrapKind.{TrapKind}
-use Rattle.vale_text.specs.Operations.{is_int, is_zero, int_or, byte_of}
+use Rattle.vale_text.specs.Operations.{is_int, is_zero, int_or}
 
 abbrev pub is_byte : ℕ → Bool
 is_byte b = nat_le b 255

@@ -1,7 +1,7 @@
 -- The run of a part of the code against a result of the meaning.
-use Rattle.std.proofs.Common.{◌≡◌, ◌≢◌, ℕ, zero, suc, ◌+◌, ◌<◌, ◌≤◌, List, [], ◌∷◌, ◌++◌, length, Option, Some, None, Bool, true, false, ◌||◌, nat_lt, refl, sym, ap, ◌∙◌, subst, ◌⊎◌, inl, inr, ⊎_elim, arith, length-append}
+use Rattle.std.proofs.Common.{◌≡◌, ℕ, zero, suc, ◌+◌, ◌<◌, ◌≤◌, List, [], ◌∷◌, ◌++◌, length, Option, Some, None, Bool, true, false, ◌||◌, nat_lt, refl, sym, ap, ◌∙◌, subst, ◌⊎◌, inl, inr, arith}
 use Rattle.std.specs.Prelude.{slice_get}
-use Rattle.vale_base.specs.Outcome.{End, Done, Trap, Cut, Wrong}
+use Rattle.vale_base.specs.Outcome.{End, Done, Cut, Wrong}
 use Rattle.vale_base.specs.State.{State, Calls, Answer, gives, traps, fails, spend, spend_of, trap_under}
 use Rattle.vale_base.specs.World.{Value, Int, Truth, Text, Own, Ref, Iso}
 use Rattle.vale_base.specs.declared.spot.Spot.{Spot}
@@ -9,7 +9,7 @@ use Rattle.vale_base.specs.declared.trap.FrameAt.{FrameAt}
 use Rattle.vale_model.specs.Runs as model
 use Rattle.vale_model.specs.Runs.{Locals, Result, goes, returned, ended, Run, then_do, the_value, valued, choose, ◌>>=◌, tick}
 use Rattle.vale_code.specs.Act.{act, act_if}
-use Rattle.vale_code.specs.Enter.{Form, Plain, with_func, with_form, form_of, leave_function}
+use Rattle.vale_code.specs.Enter.{with_func, with_form, form_of, leave_function}
 use Rattle.vale_code.specs.Frames.{Active, Frame, Running, Config, Next, On, Over, under, leave, resume, after_tick}
 use Rattle.vale_code.specs.Instructions as steps
 use Rattle.vale_code.specs.Frames as frames
@@ -22,7 +22,7 @@ use Rattle.vale_code.specs.declared.instr.Instr.{Instr}
 use Rattle.vale_code.specs.declared.instr.Instr.TheVariants as i
 use Rattle.vale_lower.specs.Instructions.{stuck, only_if}
 use Rattle.vale_lower.specs.Scopes.{Scope}
-use Rattle.vale_lower.proofs.Registers.{Held, IsPlain, HasPlain, ArePlain, Base, with_at, with_all, Falls, Agrees, agrees_put, top_read}
+use Rattle.vale_lower.proofs.Registers.{IsPlain, ArePlain, Base, with_at, with_all, Falls, Agrees, agrees_put}
 
 -- what stays the same while a function runs: its call and number, where its value goes, the frames below, and whether it gives one
 pub record Where : Type 0 where

@@ -1,31 +1,19 @@
 -- What is put together of parts runs as its parts do.
-use Rattle.std.proofs.Common.{◌≡◌, ◌≢◌, ℕ, zero, suc, ◌+◌, ◌<◌, ◌≤◌, pos, List, [], ◌∷◌, ◌++◌, length, Option, Some, None, Bool, true, false, refl, sym, ap, ◌∙◌, subst, ◌⊎◌, inl, inr, ⊎_elim, arith, length-append}
-use Rattle.vale_base.specs.Outcome.{End, Wrong}
-use Rattle.vale_base.specs.State.{State, Answer, gives, traps, fails, lent}
+use Rattle.std.proofs.Common.{◌≡◌, ◌≢◌, ℕ, ◌+◌, ◌<◌, ◌≤◌, List, [], ◌∷◌, ◌++◌, length, Option, Some, None, true, false, refl, sym, ap, ◌∙◌, subst, inr, arith, length-append}
+use Rattle.vale_base.specs.State.{State, lent}
 use Rattle.vale_base.specs.World.{Value, Int, Truth, Text, Own, Ref, Iso}
-use Rattle.vale_base.specs.declared.spot.Spot.{Spot}
-use Rattle.vale_text.specs.Steps as o
-use Rattle.vale_syntax.specs.Types.{Ty}
-use Rattle.vale_syntax.specs.Types as y
-use Rattle.vale_syntax.specs.declared.tree.BinaryOp.{BinaryOp}
-use Rattle.vale_syntax.specs.declared.tree.BinaryOp.TheVariants as op
-use Rattle.vale_syntax.specs.declared.tree.UnaryOp.{UnaryOp}
-use Rattle.vale_syntax.specs.declared.tree.UnaryOp.TheVariants as unary
-use Rattle.vale_model.specs.Runs as model
-use Rattle.vale_model.specs.Runs.{Locals, Result, goes, returned, ended, Run, then_do, the_value, valued, choose, give, nothing, wrong, ◌>>=◌, tick, held_by, with_held, read as model_read, exchange as model_exchange, while_waits, outer}
-use Rattle.vale_model.specs.Expressions.{operated, plus, link_run, unary_run}
-use Rattle.vale_code.specs.Frames.{Config, Next, On, Over}
+use Rattle.vale_model.specs.Runs.{Locals, Result, goes, Run, then_do, the_value, choose, give, nothing, ◌>>=◌, tick}
+use Rattle.vale_code.specs.Frames.{Config}
 use Rattle.vale_code.specs.Instructions as steps
 use Rattle.vale_code.specs.Instructions.{fetch, onward, with_value, copied, with_choice}
 use Rattle.vale_code.specs.Parts.{Parts}
 use Rattle.vale_code.specs.Registers.{Registers, read, put}
 use Rattle.vale_code.specs.declared.instr.Instr.{Instr}
 use Rattle.vale_code.specs.declared.instr.Instr.TheVariants as i
-use Rattle.vale_lower.specs.Instructions.{stuck, load, store, exchange, if_code, and_code, loop_code, operator, link_code, unary_code}
+use Rattle.vale_lower.specs.Instructions.{load, store, exchange, if_code, loop_code}
 use Rattle.vale_lower.specs.Scopes.{Scope}
-use Rattle.vale_lower.proofs.Registers.{Held, IsPlain, HasPlain, Base, with_at, Falls, falls_up, Named, Agrees, agrees_put, agrees_down, agrees_dest, agrees_set, agrees_wait, agrees_done, Fresh, top_read, next_read, one_above, two_above, look_above, Meets, meets, Changes, changes, pick, pick_same, pick_other, read_put}
-use Rattle.vale_lower.proofs.Reaches.{Where, active, conf, calls_in, Comes, Reaches, Reached, Post, Fits, StepFits, HasAt, Val, In, Put, Keeps, has_front, has_back, comes_refl, comes_on, does, moves, wrongs, comes_reaches, by_next, then_reaches, ends_at, weaker, stays, is_stuck, values, answers, surely, literal, free_on, free_back, jumps, jumps_on, chooses, ticks}
-use Rattle.vale_lower.proofs.Operations as fit
+use Rattle.vale_lower.proofs.Registers.{Held, IsPlain, Base, with_at, Falls, Agrees, agrees_put, agrees_down, agrees_set, top_read, one_above, Meets, Changes, pick_same, pick_other, read_put}
+use Rattle.vale_lower.proofs.Reaches.{Where, active, conf, calls_in, Comes, Reaches, Post, HasAt, Val, In, Keeps, has_front, has_back, comes_on, does, moves, comes_reaches, then_reaches, ends_at, stays, is_stuck, literal, free_back, jumps, jumps_on, chooses, ticks}
 
 module _ (code : Parts) (k : Where) (n : ℕ) where
   -- ---- ways

@@ -1,35 +1,33 @@
 -- The code of each part of a program does what the part means: by induction on the tree.
-use Rattle.std.proofs.Common.{◌≡◌, ◌≢◌, ℕ, zero, suc, ◌+◌, ◌<◌, ◌≤◌, ℤ, List, [], ◌∷◌, ◌++◌, length, Option, Some, None, Bool, true, false, ◌&&◌, refl, sym, ap, ◌∙◌, subst, ◌⊎◌, inl, inr, arith, length-append}
+use Rattle.std.proofs.Common.{◌≡◌, ◌≢◌, ℕ, suc, ◌+◌, ◌<◌, ◌≤◌, List, [], ◌∷◌, ◌++◌, length, Option, Some, None, Bool, true, false, ◌&&◌, refl, sym, ap, subst, ◌⊎◌, inl, inr, arith, length-append}
 use Rattle.std.specs.Prelude.{slice_get}
-use Rattle.vale_base.specs.Outcome.{Wrong}
-use Rattle.vale_base.specs.State.{State, Calls, function_frame}
+use Rattle.vale_base.specs.State.{State}
 use Rattle.vale_base.specs.World.{Value, Int, Truth, Text}
 use Rattle.vale_base.specs.declared.spot.Spot.{Spot}
 use Rattle.vale_text.specs.Operations.{is_int}
 use Rattle.vale_syntax.specs.declared.tree.NameAt.{NameAt}
 use Rattle.vale_syntax.specs.Types.{Ty, void, is_copy}
-use Rattle.vale_syntax.specs.Typed.{Callee, built_in, constructor, function, Expr, expr, Node, set, chain, unary, steps, number, quote, truth, name, call, paren, array, iso, form, Exprs, no_exprs, more_exprs, link, Links, no_links, more_links, Form, branch, pure, parallel_range, parallel_each, else_if, Elses, no_else, otherwise, more_elses, Block, block, Stmt, declare, destructure, return_nothing, return_value, while, foreach, form_stmt, express, Stmts, no_stmts, last, more_stmts, type}
-use Rattle.vale_model.specs.Parts.{Parts, name_text, function_named}
-use Rattle.vale_model.specs.Runs.{Locals, Result, goes, returned, ended, Run, then_do, ◌>>=◌, the_value, valued, choose, give, nothing, wrong, tick, held_by, with_held, outer, innermost, while_waits}
+use Rattle.vale_syntax.specs.Typed.{Callee, built_in, constructor, function, Expr, expr, Node, set, chain, unary, steps, number, quote, truth, name, call, paren, array, iso, form, Exprs, no_exprs, more_exprs, link, Links, no_links, more_links, Form, branch, pure, parallel_range, parallel_each, else_if, Elses, no_else, otherwise, more_elses, Block, block, declare, destructure, return_nothing, return_value, while, foreach, form_stmt, express, Stmts, no_stmts, last, more_stmts, type}
+use Rattle.vale_model.specs.Parts.{Parts}
+use Rattle.vale_model.specs.Runs.{Locals, Result, goes, returned, ended, Run, then_do, the_value, valued, give, held_by, with_held, outer, innermost, while_waits}
 use Rattle.vale_model.specs.Destruction.{Again, drop, leave, with_local}
 use Rattle.vale_model.specs.Expressions.{expr_run, node_run, exprs_run, links_run, link_run, set_run, form_run, elses_run, block_run, stmts_run, stmt_run, callee_run, expr_spot}
-use Rattle.vale_code.specs.Frames.{Config}
-use Rattle.vale_code.specs.Instructions.{fetch, onward, with_choice}
+use Rattle.vale_code.specs.Instructions.{onward, with_choice}
 use Rattle.vale_code.specs.Parts.{Parts as Code}
-use Rattle.vale_code.specs.Registers.{Registers, read, put}
+use Rattle.vale_code.specs.Registers.{Registers, put}
 use Rattle.vale_code.specs.declared.instr.Instr.{Instr}
 use Rattle.vale_code.specs.declared.instr.Instr.TheVariants as i
-use Rattle.vale_lower.specs.Instructions.{stuck, only_if, then_at, load, exchange, if_code, loop_code, link_code, unary_code, built_in_code}
+use Rattle.vale_lower.specs.Instructions.{stuck, only_if, load, loop_code, link_code, unary_code}
 use Rattle.vale_lower.specs.Scopes.{Scope, entry, waiting, place_of, agree, Around, number_of_text}
-use Rattle.vale_lower.specs.Lowered.{count, truth_number, callee_code, set_code, store_code, unused_code, expr_code, value_code, node_code, args_code, links_code, form_code, elses_code, block_code, stmts_code, stmt_code}
-use Rattle.vale_lower.proofs.Registers.{IsPlain, ArePlain, Base, with_at, with_all, Falls, falls_up, Named, Agrees, agrees_down, agrees_dest, agrees_push, agrees_wait, agrees_done, all_stand, Fresh, fresh_above, top_read, one_above, meets, changes, innermost_plain}
-use Rattle.vale_lower.proofs.Reaches.{Where, active, conf, calls_in, IsIn, Post, Reaches, Reached, Fits, HasAt, Val, In, Put, Keeps, All, has_front, has_back, comes_on, does, moves, wrongs, comes_reaches, then_reaches, ends_at, weaker, stays, is_stuck, only_if_runs, values, literal, free_on, jumps, leaves, leaves_void}
+use Rattle.vale_lower.specs.Lowered.{count, callee_code, set_code, store_code, unused_code, expr_code, value_code, node_code, args_code, links_code, form_code, elses_code, block_code, stmts_code, stmt_code}
+use Rattle.vale_lower.proofs.Registers.{Base, with_at, with_all, Falls, falls_up, Agrees, agrees_dest, agrees_push, agrees_wait, agrees_done, all_stand, Fresh, fresh_above, top_read, one_above, meets, changes, innermost_plain}
+use Rattle.vale_lower.proofs.Reaches.{Where, active, conf, calls_in, IsIn, Post, Reaches, Fits, HasAt, Val, In, Put, Keeps, All, has_front, has_back, moves, wrongs, comes_reaches, then_reaches, ends_at, weaker, stays, is_stuck, only_if_runs, values, literal, free_on, jumps, leaves, leaves_void}
 use Rattle.vale_lower.proofs.Shapes.{if_runs, loop_tests, loop_test, copy_does, loads, stores, exchanges}
 use Rattle.vale_lower.proofs.Operators.{links, unaries}
 use Rattle.vale_lower.proofs.BuiltIns.{built_ins}
 use Rattle.vale_lower.proofs.Lookups.{text_or_none, agree_same}
 use Rattle.vale_lower.proofs.Drops.{drop_plain, drop_fitting, leave_plain, in_fits, in_keeps, put_names, put_pop, put_in, in_put}
-use Rattle.vale_lower.proofs.Calls.{program_code, functions, texts, around, while_code, Follows, call_runs}
+use Rattle.vale_lower.proofs.Calls.{program_code, texts, around, Follows, call_runs}
 
 and_first : (a b : Bool) → (a && b) ≡ true → a ≡ true
 and_first true b e = refl

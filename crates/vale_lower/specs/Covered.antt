@@ -1,7 +1,7 @@
 -- Which programs are lowered so far: functions that aren't pure, numbers, truths and texts; names, literals, operators but `&` and
 -- `merge`, calls of functions and of the built-in functions on such values, parentheses, `if`, blocks, declarations, `set` of a local,
 -- `return` and `while`.
-use Rattle.std.specs.Prelude.{ℕ, Bool, true, false, not, ◌&&◌, ◌||◌, List, [], ◌∷◌}
+use Rattle.std.specs.Prelude.{Bool, true, false, not, ◌&&◌, ◌||◌}
 use Rattle.std.specs.List.{list_all}
 use Rattle.vale_syntax.specs.declared.built_in.BuiltIn.{BuiltIn}
 use Rattle.vale_syntax.specs.declared.built_in.BuiltIn.TheVariants as b

@@ -1,13 +1,11 @@
 -- The code of a program. Each part of it follows from a part of the program, by its place in its function, by the register h that
 -- gets its value, and by the locals in scope; registers below h keep what they hold, but for those of locals that are set.
-use Rattle.std.specs.Prelude.{ℕ, zero, suc, ◌+◌, max, Bool, true, false, ◌&&◌, List, [], ◌∷◌, ◌++◌, length, map, flat_map, Option, Some, None, codes, if◌then◌else◌}
-use Rattle.std.specs.List.{list_all}
-use Rattle.vale_base.specs.declared.spot.Spot.{Spot}
+use Rattle.std.specs.Prelude.{ℕ, suc, ◌+◌, max, Bool, true, false, ◌&&◌, List, [], ◌∷◌, ◌++◌, length, map, flat_map, codes}
 use Rattle.vale_text.specs.Operations.{is_int}
 use Rattle.vale_syntax.specs.declared.tree.NameAt.{NameAt}
 use Rattle.vale_syntax.specs.Declarations.{head_params, param_type}
-use Rattle.vale_syntax.specs.Types.{Ty, void, is_copy, type_of}
-use Rattle.vale_syntax.specs.Typed.{Callee, built_in, constructor, function, Expr, expr, Node, set, chain, unary, steps, number, quote, truth, name, call, paren, array, iso, form, Exprs, no_exprs, more_exprs, link, Links, no_links, more_links, Form, branch, pure, parallel_range, parallel_each, else_if, Elses, no_else, otherwise, more_elses, Block, block, Stmt, declare, destructure, return_nothing, return_value, while, foreach, form_stmt, express, Stmts, no_stmts, last, more_stmts, Function, function_body, Typed, typed, type}
+use Rattle.vale_syntax.specs.Types.{is_copy, type_of}
+use Rattle.vale_syntax.specs.Typed.{Callee, built_in, constructor, function, Expr, expr, Node, set, chain, unary, steps, number, quote, truth, name, call, paren, array, iso, form, Exprs, no_exprs, more_exprs, link, Links, no_links, more_links, Form, branch, pure, parallel_range, parallel_each, else_if, Elses, no_else, otherwise, more_elses, Block, block, Stmt, declare, destructure, return_nothing, return_value, while, foreach, form_stmt, express, Stmts, no_stmts, last, more_stmts, Function, Typed, type}
 use Rattle.vale_model.specs.Kinds.{head_of, body_of}
 use Rattle.vale_model.specs.Parts.{Parts, parts_of, name_text, name_of, param_names, has_name, has_text, first_function, functions_of, is_pure}
 use Rattle.vale_code.specs.Parts.{Parts as Code}
@@ -15,7 +13,7 @@ use Rattle.vale_code.specs.declared.func.Func.{Func}
 use Rattle.vale_code.specs.declared.instr.Instr.{Instr}
 use Rattle.vale_code.specs.declared.instr.Instr.TheVariants as i
 use Rattle.vale_lower.specs.Instructions.{stuck, only_if, then_at, load, store, exchange, if_code, loop_code, link_code, unary_code, registers_from, built_in_code}
-use Rattle.vale_lower.specs.Scopes.{Entry, Scope, entry, waiting, place_of, after, parameters, code_type, agree, Around, number_of_text, number_of_function, may_be_called, result_type}
+use Rattle.vale_lower.specs.Scopes.{Scope, entry, waiting, place_of, parameters, code_type, agree, Around, number_of_text, number_of_function, may_be_called, result_type}
 use Rattle.vale_lower.specs.Texts.{function_quotes}
 
 abbrev pub count : Exprs → ℕ

@@ -1,11 +1,11 @@
 -- The locals in scope, each in a register of its own, and the functions and texts that a body names.
-use Rattle.std.specs.Prelude.{ℕ, ◌+◌, zero, suc, Bool, true, false, List, [], ◌∷◌, Option, Some, None, bytes_eq, if◌then◌else◌}
+use Rattle.std.specs.Prelude.{ℕ, ◌+◌, suc, Bool, true, false, List, [], ◌∷◌, Option, Some, None, bytes_eq, if◌then◌else◌}
 use Rattle.vale_syntax.specs.Types.{Ty, result_of, is_copy}
 use Rattle.vale_syntax.specs.Types as y
 use Rattle.vale_syntax.specs.Tree.{Head, head}
 use Rattle.vale_syntax.specs.Typed.{Function}
 use Rattle.vale_model.specs.Kinds.{head_of}
-use Rattle.vale_model.specs.Parts.{has_name, is_pure}
+use Rattle.vale_model.specs.Parts.{is_pure}
 use Rattle.vale_model.specs.Runs as local
 use Rattle.vale_code.specs.declared.ty.Ty.{Ty as CodeTy}
 use Rattle.vale_code.specs.declared.ty.Ty.TheVariants as t
@@ -29,10 +29,6 @@ waiting r = record { name = None; register = r }
 abbrev pub place_of : ℕ → Scope → Option ℕ
 place_of n [] = None
 place_of n (x ∷ s) = if local.has_name n x.name then Some x.register else place_of n s
-
--- the scope behind a part of the code, where this is the scope before it
-abbrev pub after : Scope → Scope
-after s = s
 
 -- the parameters have the first registers, in order
 abbrev pub parameters : ℕ → List ℕ → Scope → Scope
