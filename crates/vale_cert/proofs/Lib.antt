@@ -1,0 +1,6 @@
+mod Examples
+mod Fit
+mod Safe
+mod Start
+mod Values
+mod Walks
