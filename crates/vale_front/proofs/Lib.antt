@@ -1,0 +1,2 @@
+mod MissingLaws
+mod Rules
