@@ -272,6 +272,20 @@ relist_within h l frame o items ok within heap are =
     subst (λ xs. IfSome (list_for (length xs) frame (get_or xs frame None)) (λ list. list < l.lists)) (sym are)
     (if_within (with_seat h frame o) frame (get_or (set h.seats frame o) frame None) l.lists heap refl (omega (arith, ok.many, length-set h.seats frame o)))
 
+-- ---- as the code moves a page that is another now to its list
+
+pub listed_law : (h : HeapState) (l new : ListState) (frame frames : ℕ) (o : Option Seat) (list : Option ℕ) → IsLaidOut h l → frame < length h.seats → IsHeap (with_seat h frame o) → frames ≡ length h.seats → list ≡ list_for frames frame o →
+    new ≡ record l { on = set l.on frame list } → IsLaidOut (with_seat h frame o) new
+listed_law h l new frame frames o list ok within heap many to is =
+    subst (IsLaidOut (with_seat h frame o)) (sym (is ∙ ap (λ x. record l { on = set l.on frame x }) (to ∙ ap (λ n. list_for n frame o) many))) (laid_out h l frame o ok within heap)
+
+pub list_there : (h : HeapState) (l : ListState) (frame frames : ℕ) (o : Option Seat) (list : Option ℕ) → IsLaidOut h l → frame < length h.seats → IsHeap (with_seat h frame o) → frames ≡ length h.seats → list ≡ list_for frames frame o →
+    IfSome list (λ x. x < l.lists)
+list_there h l frame frames o list ok within heap many to =
+    let here : list_for (length (set h.seats frame o)) frame (get_or (set h.seats frame o) frame None) ≡ list_for (length h.seats) frame o =
+    ap (λ n. list_for n frame (get_or (set h.seats frame o) frame None)) (length-set h.seats frame o) ∙ ap (list_for (length h.seats) frame) (get_or-set_same h.seats frame o None within) in
+    subst (λ x. IfSome x (λ list. list < l.lists)) (here ∙ sym (to ∙ ap (λ n. list_for n frame o) many)) (relist_within h l frame o (set h.seats frame o) ok within heap refl)
+
 -- ---- a heap that opens
 
 nothing_at : (frames frame : ℕ) (seat : Seat) → get_or (replicate frames None) frame None ≡ Some seat → ⊥
@@ -303,13 +317,13 @@ open_laid frames depth few =
       few = omega (arith, seats, few);
     }
 
--- ---- another body in a slot that has one: the page stays on its list
+-- ---- a page that is another now stays on its list, as where another body is in a slot that has one
 
-laid_same : (h : HeapState) (l : ListState) (frame : ℕ) (new : Seat) → IsLaidOut h l → frame < length h.seats → IsHeap (with_seat h frame (Some new)) → list_for (length h.seats) frame (Some new) ≡ list_for (length h.seats) frame (seat_at h frame) → IsLaidOut (with_seat h frame (Some new)) l
-laid_same h l frame new ok within heap same =
-    let on : set l.on frame (list_for (length h.seats) frame (Some new)) ≡ l.on = ap (set l.on frame) (same ∙ sym (ok.listed frame within)) ∙ set-get_or l.on frame None in
-    let lists : with_listed (length h.seats) frame (Some new) l ≡ l = ap (λ xs. record l { on = xs }) on in
-    subst (IsLaidOut (with_seat h frame (Some new))) lists (laid_out h l frame (Some new) ok within heap)
+pub laid_same : (h : HeapState) (l : ListState) (frame : ℕ) (o : Option Seat) → IsLaidOut h l → frame < length h.seats → IsHeap (with_seat h frame o) → list_for (length h.seats) frame o ≡ list_for (length h.seats) frame (seat_at h frame) → IsLaidOut (with_seat h frame o) l
+laid_same h l frame o ok within heap same =
+    let on : set l.on frame (list_for (length h.seats) frame o) ≡ l.on = ap (set l.on frame) (same ∙ sym (ok.listed frame within)) ∙ set-get_or l.on frame None in
+    let lists : with_listed (length h.seats) frame o l ≡ l = ap (λ xs. record l { on = xs }) on in
+    subst (IsLaidOut (with_seat h frame o)) lists (laid_out h l frame o ok within heap)
 
 pub laid_written : (h : HeapState) (l : ListState) (frame slot : ℕ) (seat : Seat) (body w : Body) → IsLaidOut h l → slot < 64 → seat_at h frame ≡ Some seat → body_of seat.page slot ≡ Some body → IsLaidOut (with_seat h frame (Some (with_written seat slot w))) l
 laid_written h l frame slot seat body w ok within there body_there =
@@ -317,7 +331,7 @@ laid_written h l frame slot seat body w ok within there body_there =
     let live = written_live seat.page slot body w page_ok within body_there in
     let free : list_for (length h.seats) frame (Some (with_written seat slot w)) ≡ list_for (length h.seats) frame (Some seat) =
     ap (λ n. list_of (length h.seats) frame seat.home (nat_lt 0 (64 - (n + retired_count seat.page)))) (sym live) in
-    laid_same h l frame (with_written seat slot w) ok (got_lt h.seats frame seat there) (heap_with_seat h frame (with_written seat slot w) (can_write h frame slot seat body w ok.heap within there body_there))
+    laid_same h l frame (Some (with_written seat slot w)) ok (got_lt h.seats frame seat there) (heap_with_seat h frame (with_written seat slot w) (can_write h frame slot seat body w ok.heap within there body_there))
     (free ∙ ap (list_for (length h.seats) frame) (sym there))
 
 -- ---- the lists of a region that closes

@@ -2,8 +2,8 @@
 use Rattle.std.proofs.Common.{◌≡◌, ◌≢◌, ◌⊎◌, ℕ, zero, suc, ◌+◌, ◌-◌, ◌<◌, ◌≤◌, List, [], ◌∷◌, ◌++◌, length, get_or, set, take, replicate, Option, Some, None, cond, refl, sym, ap, subst, ◌∙◌, inl, inr, arith, nat_eq, length-append}
 use Rattle.std.proofs.lemmas.Bool.{cases_eq, cases_lt, lt-ltb, le-ltb, eq-eqb, ne_eqb}
 use Rattle.std.proofs.lemmas.Option.{same_Some}
-use Rattle.std.proofs.lemmas.List.{length-set, get_or-set_same, get_or-set_other, get_or-take, length-take-le, get_or-replicate, length-replicate, get_or_past}
-use Rattle.vale_heap.specs.ListState.{list_of_node, IsRinged}
+use Rattle.std.proofs.lemmas.List.{length-set, set-set, get_or-set_same, get_or-set_other, get_or-take, length-take-le, get_or-replicate, length-replicate, get_or_past}
+use Rattle.vale_heap.specs.ListState.{list_of_node, IsRinged, unlinked_next, unlinked_previous, linked_next, linked_previous}
 
 abbrev pub at : List ℕ → ℕ → ℕ
 at xs i = get_or xs i 0
@@ -324,6 +324,65 @@ module _ (next previous : List ℕ) (on : List (Option ℕ)) (lists item list : 
         subst (λ n. (at put_next node ≡ n + l) ⊎ (put_rank (at put_next node) < put_rank node)) (sym (length-set on item (Some list)))
         (put_falls node l (omega (arith, length-set on item (Some list), h)) e);
   }
+
+-- ---- an item comes from its list to the front of a list
+
+set_over : (xs : List ℕ) (i j a b c : ℕ) → i ≢ j → set (set (set xs i a) j b) i c ≡ set (set xs j b) i c
+set_over [] i j a b c apart = refl
+set_over (x ∷ xs) zero zero a b c apart = absurd (apart refl)
+set_over (x ∷ xs) zero (suc j) a b c apart = refl
+set_over (x ∷ xs) (suc i) zero a b c apart = ap (λ ys. b ∷ ys) (set-set xs i a c)
+set_over (x ∷ xs) (suc i) (suc j) a b c apart = ap (λ ys. x ∷ ys) (set_over xs i j a b c (λ e. apart (ap suc e)))
+
+module _ (next previous : List ℕ) (on : List (Option ℕ)) (lists item list : ℕ) (ok : IsRinged next previous on lists) (within : item < length on) (list_within : list < lists) where
+  abbrev moved_head : ℕ
+  moved_head = length on + list
+
+  abbrev cut_next : List ℕ
+  cut_next = unlinked_next next previous item
+
+  abbrev cut_previous : List ℕ
+  cut_previous = unlinked_previous next previous item
+
+  -- the item's own node after it has left
+  cut_self : at next (at previous item) ≡ item
+  cut_self = ok.forth item (omega (arith, within))
+
+  abbrev alone_next : List ℕ
+  alone_next = set cut_next item item
+
+  abbrev alone_previous : List ℕ
+  alone_previous = set cut_previous item item
+
+  alone_ringed : IsRinged alone_next alone_previous (set on item None) lists
+  alone_ringed = subst (λ n. IsRinged (set cut_next item n) (set cut_previous n item) (set on item None) lists) cut_self (left_ringed next previous on lists item ok within)
+
+  pub moved_first_within : at cut_next (length on + list) < length previous
+  moved_first_within =
+      let same : at alone_next (length on + list) ≡ at cut_next (length on + list) = get_or-set_other cut_next item (length on + list) item 0 (λ e. omega (arith, within, e)) in
+      let there = alone_ringed.next_within (length on + list) (omega (arith, list_within, length-set on item (let o : Option ℕ = None in o))) in
+      omega (arith, same, there, ok.previouses, length-set on item (let o : Option ℕ = None in o))
+
+  pub moved_ringed : IsRinged (linked_next cut_next item (length on + list)) (linked_previous cut_next cut_previous item (length on + list)) (set on item (Some list)) lists
+  moved_ringed =
+      let none : Option ℕ = None in
+      let head = length on + list in
+      let apart : head ≢ item = λ e. omega (arith, within, e) in
+      let many : length (set on item none) ≡ length on = length-set on item none in
+      let put = put_ringed alone_next alone_previous (set on item none) lists item list alone_ringed (omega (arith, many, within)) (get_or-set_same on item none None within) list_within in
+      let self : at alone_next item ≡ item = get_or-set_same cut_next item item 0 (omega (arith, length-set next (at previous item) (at next item), ok.nexts, within)) in
+      let first : at alone_next head ≡ at cut_next head = get_or-set_other cut_next item head item 0 apart in
+      let by_head : IsRinged (set (set alone_next head (at alone_next item)) item (at alone_next head)) (set (set alone_previous (at alone_next item) head) (at alone_next head) item) (set (set on item none) item (Some list)) lists =
+      subst (λ n. IsRinged (set (set alone_next (n + list) (at alone_next item)) item (at alone_next (n + list))) (set (set alone_previous (at alone_next item) (n + list)) (at alone_next (n + list)) item) (set (set on item none) item (Some list)) lists) many put in
+      let by_self : IsRinged (set (set alone_next head item) item (at alone_next head)) (set (set alone_previous item head) (at alone_next head) item) (set (set on item none) item (Some list)) lists =
+      subst (λ n. IsRinged (set (set alone_next head n) item (at alone_next head)) (set (set alone_previous n head) (at alone_next head) item) (set (set on item none) item (Some list)) lists) self by_head in
+      let by_first : IsRinged (set (set alone_next head item) item (at cut_next head)) (set (set alone_previous item head) (at cut_next head) item) (set (set on item none) item (Some list)) lists =
+      subst (λ n. IsRinged (set (set alone_next head item) item n) (set (set alone_previous item head) n item) (set (set on item none) item (Some list)) lists) first by_self in
+      let by_next : IsRinged (linked_next cut_next item head) (set (set alone_previous item head) (at cut_next head) item) (set (set on item none) item (Some list)) lists =
+      subst (λ xs. IsRinged xs (set (set alone_previous item head) (at cut_next head) item) (set (set on item none) item (Some list)) lists) (set_over cut_next item head item item (at cut_next head) (λ e. apart (sym e))) by_first in
+      let by_previous : IsRinged (linked_next cut_next item head) (linked_previous cut_next cut_previous item head) (set (set on item none) item (Some list)) lists =
+      subst (λ xs. IsRinged (linked_next cut_next item head) (set xs (at cut_next head) item) (set (set on item none) item (Some list)) lists) (set-set cut_previous item item head) by_next in
+      subst (λ xs. IsRinged (linked_next cut_next item head) (linked_previous cut_next cut_previous item head) xs lists) (set-set on item none (Some list)) by_previous
 
 -- ---- what the first item says of a list
 

@@ -1,6 +1,6 @@
 -- How a heap keeps its pages on lists: the spare pages that can take an object, the other pages of each isolate beside its root's,
 -- and for each open region the pages that can take an object and those that can't.
-use Rattle.std.specs.Prelude.{◌≡◌, ℕ, ◌+◌, ◌*◌, ◌<◌, ◌^◌, max, length, Option, Some, None, Bool, slice_index_or, nat_lt, ◌==◌, if◌then◌else◌}
+use Rattle.std.specs.Prelude.{◌≡◌, ℕ, ◌+◌, ◌*◌, ◌<◌, ◌^◌, max, length, Option, Some, None, Bool, false, slice_index_or, nat_lt, ◌==◌, if◌then◌else◌}
 use Rattle.vale_page.specs.PageState.{free_count}
 use Rattle.vale_heap.specs.declared.seat.Seat.{Seat}
 use Rattle.vale_heap.specs.declared.seat.Home.{Home}
@@ -30,6 +30,10 @@ list_of frames frame (Kept root) room = if root.frame == frame then None else So
 abbrev pub list_for : (frames frame : ℕ) → Option Seat → Option ℕ
 list_for frames frame None = None
 list_for frames frame (Some seat) = list_of frames frame seat.home (nat_lt 0 (free_count seat.page))
+
+-- the page is on the list that it was on, unless it moves
+abbrev pub StaysListed : Option Seat → Option Seat → Bool → Type 0
+StaysListed old new moves = moves ≡ false → (frames frame : ℕ) → list_for frames frame new ≡ list_for frames frame old
 
 -- each page is on its list, and there are two lists for each open region
 pub record IsLaidOut (h : HeapState) (l : ListState) : Type 0 where

@@ -1,6 +1,6 @@
 -- What a contract sees of lists that share their items: for each item the list that it is on, how many lists there are, and how
 -- many there may be at most.
-use Rattle.std.specs.Prelude.{◌≡◌, ◌⊎◌, ℕ, ◌+◌, ◌-◌, ◌<◌, ◌≤◌, List, length, Option, Some, None, slice_index, slice_index_or, nat_lt, if◌then◌else◌}
+use Rattle.std.specs.Prelude.{◌≡◌, ◌⊎◌, ℕ, ◌+◌, ◌-◌, ◌<◌, ◌≤◌, List, length, Option, Some, None, slice_index, slice_index_or, slice_set, nat_lt, if◌then◌else◌}
 
 pub record ListState : Type 0 where
   pub on : List (Option ℕ)
@@ -36,3 +36,17 @@ pub record IsRoomy (next_room previous_room : ℕ) (s : ListState) : Type 0 wher
   pub few : s.lists ≤ s.most
   pub next : length s.on + s.most ≤ next_room
   pub previous : length s.on + s.most ≤ previous_room
+
+-- the nodes after the nodes, and before them, where what is before an item is before what is after it
+abbrev pub unlinked_next : List ℕ → List ℕ → ℕ → List ℕ
+unlinked_next next previous item = slice_set next (slice_index previous item) (slice_index next item)
+
+abbrev pub unlinked_previous : List ℕ → List ℕ → ℕ → List ℕ
+unlinked_previous next previous item = slice_set previous (slice_index next item) (slice_index previous item)
+
+-- then the item comes behind a head
+abbrev pub linked_next : List ℕ → ℕ → ℕ → List ℕ
+linked_next next item head = slice_set (slice_set next head item) item (slice_index next head)
+
+abbrev pub linked_previous : List ℕ → List ℕ → ℕ → ℕ → List ℕ
+linked_previous next previous item head = slice_set (slice_set previous item head) (slice_index next head) item

@@ -11,7 +11,8 @@ ghost use Rattle.vale_heap.specs.Standing.{look_over, StandsMade, StandsLooked, 
 use crate::body::{Body, Place};
 use crate::lists::Lists;
 use crate::seat::{
-    Home, Seat, clear_in, end_in, put_in, relist, roomy_list, seat_body_mut, seat_mut, set_home,
+    Home, Seat, clear_in, end_in, list_for, put_in, relist, roomy_list, seat_body_mut, seat_mut,
+    set_home,
 };
 use std::alloc::Global;
 use std::marker::Model;
@@ -77,6 +78,7 @@ impl Heap {
     }
 
     // A frame whose page can take an object of the innermost region.
+    #[inline(always)]
     fn find_room(&self) -> Option<usize>
         ensures some { IfSome result (λ frame. has_room (innermost self.now) (seat_at self.now frame) ≡ true) }
         ensures none { IfNone result (HasNoRoom self.now) }
@@ -90,18 +92,24 @@ impl Heap {
     }
 
     // Puts a body into a page of the innermost region, or a spare one, that has room.
+    #[inline(always)]
     fn put_at(&mut self, frame: usize, body: Body) -> Place
         requires { has_room (innermost self.old) (seat_at self.old frame) ≡ true }
         ensures put { IsPut self.old self.new body result }
         ensures frame { result.frame ≡ frame }
     {
-        let place = put_in(&mut self.seats[frame], self.regions - 1, body);
-        relist(&self.seats, &mut self.lists, frame);
+        let frames = self.seats.len();
+        let seat = &mut self.seats[frame];
+        let (place, moves) = put_in(seat, self.regions - 1, body);
+        if moves {
+            self.lists.move_to(frame, list_for(frames, frame, seat));
+        }
         place
     }
 
     /// Makes an object in the innermost region. It claims a page only where no page of that region and no spare page has room,
     /// and at most one. At `NoPage` all frames are out, and nothing has changed.
+    #[inline(always)]
     pub fn make<L: Lender<Body>>(&mut self, lender: &mut L, body: Body) -> Result<Place, NoPage>
         requires few { L.frames lender.old ≤ length self.old.seats }
         requires known { KnowsFrames self.old (L.out lender.old) }
@@ -138,6 +146,51 @@ impl Heap {
         if let Some(frame) = self.find_room() {
             return Ok(self.put_at(frame, body));
         }
+        self.make_by_claim(lender, body)
+    }
+
+    // Makes an object in a page that is claimed for it.
+    #[cold]
+    #[inline(never)]
+    fn make_by_claim<L: Lender<Body>>(
+        &mut self,
+        lender: &mut L,
+        body: Body,
+    ) -> Result<Place, NoPage>
+        requires no_room { HasNoRoom self.old }
+        requires sound { IsHeap self.old }
+        requires few { L.frames lender.old ≤ length self.old.seats }
+        requires known { KnowsFrames self.old (L.out lender.old) }
+        ensures made { let lent : Lent = record {
+          frames = L.frames lender.old;
+          hand = L.hand lender.old;
+          new_hand = L.hand lender.new;
+          out = L.out lender.old;
+          new_out = L.out lender.new;
+          floors = L.floors lender.old;
+        } in
+            IfOk result (IsMade self.old self.new lent body) }
+        ensures refused { let lent : Lent = record {
+          frames = L.frames lender.old;
+          hand = L.hand lender.old;
+          new_hand = L.hand lender.new;
+          out = L.out lender.old;
+          new_out = L.out lender.new;
+          floors = L.floors lender.old;
+        } in
+            OnErr result (IsRefused self.old self.new lent) }
+        ensures body_back { IfErr result (λ refused. refused.body ≡ body) }
+        ensures stands { IfOk result (StandsMade self.old self.new (L.out lender.old) (L.floors lender.old) body) }
+        ensures frugal { IfOk result (ClaimsFrugally self.old self.new) }
+        ensures of_hand { OfHand self.old (L.hand lender.old) → OfHand self.new (L.hand lender.new) }
+        ensures still_known { KnowsFrames self.new (L.out lender.new) }
+        ensures as_long { length self.new.seats ≡ length self.old.seats }
+        ensures in_page { IfOk result (λ place. place.slot < 64) }
+        ensures known_out { StillOut (L.out lender.old) (L.out lender.new) }
+        ensures floors { Same (L.floors lender.old) (L.floors lender.new) }
+        ensures frames { L.frames lender.new ≡ L.frames lender.old }
+        ensures post { L.post lender.new ≡ L.post lender.old }
+    {
         match lender.claim() {
             Some(page) => {
                 let frame = self.take_page(page);
@@ -237,6 +290,7 @@ impl Heap {
 
     /// Ends the object at a place, which isn't the root of an isolate, and takes its body out. A page that has no object left is
     /// spare. `None` comes exactly where the name that the place stands for isn't alive in this heap; nothing has changed then.
+    #[inline(always)]
     pub fn end(&mut self, at: Place) -> Option<Body>
         requires within { at.slot < 64 }
         requires no_root { IsRoot self.old at → ⊥ }
@@ -248,12 +302,16 @@ impl Heap {
         ensures keeps { KeepsFrames self.old self.new }
     {
         let frame = at.frame as usize;
-        if frame >= self.seats.len() {
+        let frames = self.seats.len();
+        if frame >= frames {
             return None;
         }
-        match end_in(&mut self.seats[frame], at) {
-            Some(body) => {
-                relist(&self.seats, &mut self.lists, frame);
+        let seat = &mut self.seats[frame];
+        match end_in(seat, at) {
+            Some((body, moves)) => {
+                if moves {
+                    self.lists.move_to(frame, list_for(frames, frame, seat));
+                }
                 Some(body)
             }
             None => None,

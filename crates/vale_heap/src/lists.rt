@@ -1,6 +1,6 @@
 // Lists that share their items. An item is on one list or on none. To move an item costs the same, however long the lists are.
 ghost use Rattle.std.specs.Prelude.{◌≡◌, ◌≢◌, ℕ, ◌+◌, ◌-◌, ◌<◌, ◌≤◌, ◌^◌, List, length, Option, Some, None, IfOk, IfSome, IfNone, replicate, slice_index, slice_set, vec_capacity};
-ghost use Rattle.vale_heap.specs.ListState.{list_at};
+ghost use Rattle.vale_heap.specs.ListState.{list_at, unlinked_next, unlinked_previous, linked_next, linked_previous};
 
 use std::alloc::{AllocError, Global};
 use std::marker::Model;
@@ -73,6 +73,29 @@ fn splice(next: &mut Vec<usize>, previous: &mut Vec<usize>, one: usize, other: u
     previous[after_one] = other;
 }
 
+// Moves a node to behind another one. What was before it is before what was after it then.
+#[inline(always)]
+fn relink(next: &mut [usize], previous: &mut [usize], item: usize, head: usize)
+    requires item { item < length next.old }
+    requires item_before { item < length previous.old }
+    requires head { head < length next.old }
+    requires before { slice_index previous.old item < length next.old }
+    requires after { slice_index next.old item < length previous.old }
+    requires first { slice_index (unlinked_next next.old previous.old item) head < length previous.old }
+    ensures next { next.new ≡ linked_next (unlinked_next next.old previous.old item) item head }
+    ensures previous { previous.new ≡ linked_previous (unlinked_next next.old previous.old item) (unlinked_previous next.old previous.old item) item head }
+{
+    let before = previous[item];
+    let after = next[item];
+    next[before] = after;
+    previous[after] = before;
+    let first = next[head];
+    next[head] = item;
+    next[item] = first;
+    previous[item] = head;
+    previous[first] = item;
+}
+
 impl Lists {
     /// Lists without items, and with room for `most` lists.
     pub fn open(alloc: Global, items: usize, lists: usize, most: usize) -> Result<Lists, AllocError>
@@ -93,6 +116,7 @@ impl Lists {
     }
 
     /// The first item of a list. There is none exactly where no item is on the list.
+    #[inline(always)]
     pub fn first(&self, list: usize) -> Option<usize>
         requires { list < self.now.lists }
         ensures some { IfSome result (λ item. (item < length self.now.on) × (list_at self.now item ≡ Some list)) }
@@ -104,6 +128,7 @@ impl Lists {
     }
 
     /// Takes an item off its list, if it is on one.
+    #[inline(never)]
     pub fn take_off(&mut self, item: usize)
         requires { item < length self.old.on }
         ensures { self.new ≡ record self.old { on = slice_set self.old.on item None } }
@@ -113,38 +138,28 @@ impl Lists {
         self.on[item] = None;
     }
 
-    /// Puts an item that is on no list at the front of a list.
-    pub fn put_on(&mut self, item: usize, list: usize)
+    // Moves an item to the front of a list.
+    #[inline(always)]
+    fn bring(&mut self, item: usize, list: usize)
         requires item { item < length self.old.on }
-        requires alone { list_at self.old item ≡ None }
         requires list { list < self.old.lists }
         ensures { self.new ≡ record self.old { on = slice_set self.old.on item (Some list) } }
     {
         let head = self.on.len() + list;
-        splice(&mut self.next, &mut self.previous, head, item);
+        relink(&mut self.next, &mut self.previous, item, head);
         self.on[item] = Some(list);
     }
 
-    /// The list that an item is on.
-    pub fn list(&self, item: usize) -> Option<usize>
-        requires { item < length self.now.on }
-        ensures { result ≡ list_at self.now item }
-    {
-        self.on[item]
-    }
-
-    /// Moves an item to the front of a list, or off every list, unless it is there.
+    /// Moves an item to the front of a list, or off every list.
+    #[inline(always)]
     pub fn move_to(&mut self, item: usize, list: Option<usize>)
         requires item { item < length self.old.on }
         requires list { IfSome list (λ l. l < self.old.lists) }
         ensures { self.new ≡ record self.old { on = slice_set self.old.on item list } }
     {
-        if self.list(item) == list {
-            return;
-        }
-        self.take_off(item);
-        if let Some(list) = list {
-            self.put_on(item, list);
+        match list {
+            Some(list) => self.bring(item, list),
+            None => self.take_off(item),
         }
     }
 

@@ -7,7 +7,7 @@ ghost use Rattle.vale_page.specs.PageState.{body_of, IsPage};
 ghost use Rattle.vale_heap.specs.contracts.seat.Seat as seat_row;
 ghost use Rattle.vale_heap.specs.HeapLends.{lends_seat_body};
 ghost use Rattle.vale_heap.specs.HeapState.{body_in, has_room, with_home, PutsIn, EndsIn, IsEmptied, ClearsSeat};
-ghost use Rattle.vale_heap.specs.Layout.{list_of, list_for, roomy_list};
+ghost use Rattle.vale_heap.specs.Layout.{list_of, list_for, roomy_list, StaysListed};
 
 use crate::body::{Body, Place};
 use crate::lists::Lists;
@@ -34,6 +34,7 @@ pub struct Seat {
 }
 
 /// The list of the region's pages that can take an object.
+#[inline(always)]
 pub fn roomy_list(frames: usize, region: u32) -> usize
     requires { frames < 2 ^ 32 }
     ensures { result ≡ roomy_list frames region }
@@ -41,6 +42,7 @@ pub fn roomy_list(frames: usize, region: u32) -> usize
     frames + 1 + 2 * region as usize
 }
 
+#[inline(always)]
 fn list_of(frames: usize, frame: usize, home: Home, room: bool) -> Option<usize>
     requires { frames < 2 ^ 32 }
     ensures { result ≡ list_of frames frame home room }
@@ -61,7 +63,9 @@ fn list_of(frames: usize, frame: usize, home: Home, room: bool) -> Option<usize>
     }
 }
 
-fn list_for(frames: usize, frame: usize, seat: &Option<Seat>) -> Option<usize>
+/// The list of this frame's page.
+#[inline(always)]
+pub fn list_for(frames: usize, frame: usize, seat: &Option<Seat>) -> Option<usize>
     requires { frames < 2 ^ 32 }
     ensures { result ≡ list_for frames frame seat.now }
 {
@@ -83,40 +87,51 @@ pub fn relist(seats: &[Option<Seat>], lists: &mut Lists, frame: usize)
     lists.move_to(frame, list);
 }
 
-/// Puts a body into a free slot of a page, which is the region's then.
-pub fn put_in(seat: &mut Option<Seat>, region: u32, body: Body) -> Place
+/// Puts a body into a free slot of a page, which is the region's then. It answers the place, and whether the page's list may be
+/// another one now.
+#[inline(always)]
+pub fn put_in(seat: &mut Option<Seat>, region: u32, body: Body) -> (Place, bool)
     requires { has_room region seat.old ≡ true }
-    ensures { PutsIn seat.old seat.new region body result }
+    ensures put { PutsIn seat.old seat.new region body result.0 }
+    ensures stays { StaysListed seat.old seat.new result.1 }
 {
     match seat {
         Some(seat) => {
             let frame = seat.page.frame();
+            let spare = matches!(seat.home, Home::Spare);
             let (slot, generation) = seat.page.put(body);
             seat.home = Home::Open(region);
-            Place {
+            let place = Place {
                 frame,
                 slot,
                 generation,
-            }
+            };
+            (place, spare || seat.page.free() == 0)
         }
         None => unreachable!(),
     }
 }
 
-/// Takes the body at a place out of a page, which is spare then if it was the last one.
-pub fn end_in(seat: &mut Option<Seat>, at: Place) -> Option<Body>
+/// Takes the body at a place out of a page, which is spare then if it was the last one. It answers beside the body whether the
+/// page's list may be another one now.
+#[inline(always)]
+pub fn end_in(seat: &mut Option<Seat>, at: Place) -> Option<(Body, bool)>
     requires { at.slot < 64 }
-    ensures body { result ≡ body_in seat.old at.slot at.generation }
+    ensures body { option_map (λ ended. ended.0) result ≡ body_in seat.old at.slot at.generation }
     ensures none { IfNone result (seat.new ≡ seat.old) }
-    ensures ended { IfSome result (λ body. EndsIn seat.old seat.new body at) }
+    ensures ended { IfSome result (λ ended. EndsIn seat.old seat.new ended.0 at) }
+    ensures stays { IfSome result (λ ended. StaysListed seat.old seat.new ended.1) }
 {
     match seat {
         Some(seat) => {
+            let had_room = seat.page.free() > 0;
             let body = seat.page.end(at.slot, at.generation)?;
             if seat.page.live() == 0 {
                 seat.home = Home::Spare;
+                return Some((body, true));
             }
-            Some(body)
+            let has_room = seat.page.free() > 0;
+            Some((body, has_room != had_room))
         }
         None => None,
     }

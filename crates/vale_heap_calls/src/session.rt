@@ -1,5 +1,7 @@
 // A heap that is called by names.
 ghost use Rattle.std.specs.Prelude.{◌≡◌, ◌<◌, [], IfOk, length, map};
+ghost use Rattle.vale_table.specs.Plain.{OpensAt};
+ghost use Rattle.vale_heap.specs.HeapState.{opened};
 ghost use Rattle.vale_heap.specs.Standing.{Denotes, DenoteAll};
 ghost use Rattle.vale_heap_calls.specs.Calls.{value_of, IsGiven, AllGiven};
 ghost use Rattle.vale_heap_calls.specs.Tied.{IsTied, CanCall, CanCallAll, Follows, FollowAll};
@@ -47,10 +49,13 @@ fn cells_of(alloc: Global, places: &[Place], values: Values) -> Result<Cells, Me
 }
 
 impl Session {
-    /// A session with an empty heap.
+    /// A session with an empty heap, which has room for pages of the frames below `frames` and for regions that are `depth` deep,
+    /// and with a table of these frames, all free, at the generation `first`.
     pub fn open(alloc: Global, frames: u32, depth: u32, first: u64) -> Result<Session, Memory>
         ensures tied { IfOk result (λ session. IsTied session.heap session.table session.places.items (record { world = []; regions = 1 })) }
         ensures depth { IfOk result (λ session. session.heap.depth ≡ depth) }
+        ensures heap { IfOk result (λ session. session.heap ≡ opened frames depth) }
+        ensures table { IfOk result (λ session. OpensAt session.table frames first) }
     {
         Ok(Session {
             heap: Heap::open(alloc, frames, depth)?,

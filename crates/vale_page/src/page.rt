@@ -7,6 +7,7 @@ ghost use Rattle.vale_page.specs.PageState.{body_at, body_of, generation_at, liv
 
 use std::alloc::Global;
 use std::marker::Model;
+use std::mem;
 use vale_base::{Memory, SLOTS};
 
 // The last generation that a slot can have.
@@ -160,7 +161,8 @@ impl<B: Drop> Page<B> {
     {
         let slot = self.free.trailing_zeros();
         self.free &= !(1 << slot);
-        self.bodies[slot as usize] = Some(body);
+        // The slot is empty, so there is nothing to drop.
+        mem::forget(mem::replace(&mut self.bodies[slot as usize], Some(body)));
         self.live_slots += 1;
         (slot as u8, self.generations[slot as usize])
     }

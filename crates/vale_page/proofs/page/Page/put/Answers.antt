@@ -24,7 +24,7 @@ pub invariant_of-self : goal.invariant_of-self
 invariant_of-self g c =
     let small : c.self.inside.free < 2 ^ 64 = omega arith in
     let free = lowest_is_free _ _ _ _ c.self.invariant small (rw (← c.self.view_is) at c.requires) in
-    sound_put _ _ _ _ _ c.args.body c.self.invariant small free
+    rw c.replace.ensures.after (sound_put _ _ _ _ _ c.args.body c.self.invariant small free)
 
 pub returns-clause-slot : goal.returns-clause-slot
 returns-clause-slot g c =
