@@ -15,5 +15,7 @@ mod special;
 mod texts;
 mod types;
 
+pub use names::Names;
 pub use program::{DeclFault, declare, has_no_interface};
+pub use reach::iso_names;
 pub use vale_syntax::{Declared, Decls, Implemented};

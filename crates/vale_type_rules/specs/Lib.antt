@@ -1,0 +1,5 @@
+pub mod Index
+pub mod Places
+pub mod Plain
+pub mod Scope
+pub mod Table
