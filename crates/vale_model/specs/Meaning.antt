@@ -1,65 +1,99 @@
--- What a program does, by recursion on its tree (docs/LANGUAGE.md, "Running").
-use Rattle.std.specs.Prelude.{ℕ, ◌==◌, Bool, ◌&&◌, ℤ, pos, negsuc, ◌+ℤ◌, int_le, List, [], ◌∷◌, ◌++◌, Result, Ok, Err, codes, if◌then◌else◌}
-use Rattle.std.specs.Fmt.{signed_decimal}
-use Rattle.vale_base.specs.Outcome.{End, Done, Trap, Cut, Outcome}
-use Rattle.vale_base.specs.declared.piece.Piece.{Piece}
-use Rattle.vale_base.specs.declared.spot.Spot.{Spot}
-use Rattle.vale_base.specs.declared.trap.TrapKind.{TrapKind}
-use Rattle.vale_base.specs.declared.trap.TrapKind.TheVariants.{Overflow}
-use Rattle.vale_syntax.specs.declared.program.Added.{Added}
-use Rattle.vale_syntax.specs.declared.program.Println.{Println}
-use Rattle.vale_syntax.specs.declared.program.Program.{Program}
-use Rattle.vale_syntax.specs.declared.program.Sum.{Sum}
+-- What a program means: the outcome of its `main` (docs/LANGUAGE.md, "Running").
+use Rattle.std.specs.Prelude.{ℕ, zero, suc, List, [], ◌∷◌, Option, Some, None}
+use Rattle.vale_base.specs.Outcome.{Done, Cut, Outcome}
+use Rattle.vale_base.specs.State.{begin, main_frame, outcome, Given, given}
+use Rattle.vale_base.specs.World.{Value}
+use Rattle.vale_base.specs.declared.trap.FrameAt.{FrameAt}
+use Rattle.vale_syntax.specs.Tree.{Param, param}
+use Rattle.vale_syntax.specs.Declarations.{head_params}
+use Rattle.vale_syntax.specs.Types.{Ty, void, type_of}
+use Rattle.vale_syntax.specs.Typed.{Expr, Block, block, Function, function_body, Typed}
+use Rattle.vale_model.specs.Parts.{Parts, parts_of, param_names, main_of}
+use Rattle.vale_model.specs.Kinds.{head_of}
+use Rattle.vale_model.specs.Runs.{Locals, Result, goes, returned, ended, Run, ◌>>=◌, nothing, wrong, tick, valued, choose, under}
+use Rattle.vale_model.specs.Destruction.{Again, drop_values, leave}
+use Rattle.vale_model.specs.Expressions.{block_run, expr_run, called, made}
 
--- a number within the range of int
-abbrev pub is_int : ℤ → Bool
-is_int z = int_le (negsuc 9223372036854775807) z && int_le z (pos 9223372036854775807)
+-- ---- functions
 
--- a trap in `main`, which no call made
-abbrev pub main_trap : TrapKind → Spot → End
-main_trap kind at =
-    Trap (record { kind = kind; at = at; frames = record { what = codes "main"; at = record { line = 1; col = 1 } } ∷ []; more = 0 })
+-- the parameters with their values, the last innermost
+abbrev pub bound : List ℕ → List Value → Locals → Option Locals
+bound [] [] l = Some l
+bound (n ∷ ns) (v ∷ vs) l = bound ns vs (record { name = Some n; value = Some v } ∷ l)
+bound _ _ l = None
 
--- the sum of two ints, or the trap at the operator's spot
-abbrev pub sum_at : Spot → ℤ → ℤ → Result ℤ End
-sum_at at x y = if is_int (x +ℤ y) then Ok (x +ℤ y) else Err (main_trap Overflow at)
+-- a function that returned goes on where it was called
+abbrev pub back_to : Locals → Result (Option Value) → Result (Option Value)
+back_to l (goes v k s) = goes v l s
+back_to l (returned v s) = goes v l s
+back_to l (ended end s) = ended end s
 
--- goes on with a value, or ends
-infixl 10 ◌>>=◌
-abbrev pub ◌>>=◌ : {A B : Type 0} → Result A End → (A → Result B End) → Result B End
-Ok x >>= f = f x
-Err end >>= f = Err end
+-- A body that comes to its end returns nothing there.
+abbrev pub body_run : Again → Block → Run (Option Value)
+body_run again (block at end x ss) = do
+  v ← block_run again (block at end x ss)
+  leave again end v
 
--- a value, and what is added to it from left to right
-abbrev pub added_value : ℤ → List Added → Result ℤ End
-added_value x [] = Ok x
-added_value x (a ∷ more) = sum_at a.at x a.value >>= λ y. added_value y more
+abbrev pub with_bound : Option Locals → Run (Option Value) → Run (Option Value)
+with_bound None m = wrong
+with_bound (Some k) m = λ calls l s. back_to l (m calls k s)
 
-abbrev pub sum_value : Sum → Result ℤ End
-sum_value s = added_value s.first s.rest
+abbrev pub function_run : Again → Function → List Value → FrameAt → Run (Option Value)
+function_run again (function_body h b) vs frame = with_bound (bound (param_names (head_params h)) vs []) (under frame (body_run again b))
 
--- what `println` prints of a number
-abbrev pub line_of : ℤ → List ℕ
-line_of n = signed_decimal n ++ 10 ∷ []
+-- ---- what goes on after a tick
 
--- a piece, and then the outcome
-abbrev pub prints : Piece → Outcome → Outcome
-prints p o = record o { pieces = p ∷ o.pieces }
+-- a turn of a loop, and the test of the next
+abbrev pub turn_run : Again → Expr → Block → Run (Option Value)
+turn_run again c b = do
+  _ ← block_run again b
+  v ← valued (expr_run again c)
+  choose v (tick >>= (λ _. again.turn c b)) nothing
 
--- the outcome that prints nothing
-abbrev pub ends : ℕ → End → Outcome
-ends ticks end = record { pieces = []; end = end; ticks = ticks }
+abbrev pub no_tick_left : {A : Type 0} → Run A
+no_tick_left = λ calls l s. ended Cut s
 
--- a line and then the outcome, where there is a value, and else the end
-abbrev pub line_meaning : ℕ → Result ℤ End → Outcome → Outcome
-line_meaning ticks (Ok n) o = prints (record { tick = ticks; bytes = line_of n }) o
-line_meaning ticks (Err end) o = ends ticks end
+-- What is done with at most so many ticks left. Each part that it names runs after a tick was spent, so the number suffices
+-- where it suffices at the start.
+abbrev pub level : Parts → ℕ → Again
+level p zero = record { parts = p; turn = λ c b. no_tick_left; call = λ f vs frame. no_tick_left; fields = λ vs frame. no_tick_left }
+level p (suc n) = record {
+  parts = p;
+  turn = turn_run (level p n);
+  call = function_run (level p n);
+  fields = λ vs frame. under frame (drop_values (level p n) frame.at vs);
+}
 
--- the statements, where so many ticks were spent before them
-abbrev pub body_meaning : ℕ → List Println → Outcome
-body_meaning ticks [] = ends ticks Done
-body_meaning ticks (p ∷ more) = line_meaning ticks (sum_value p.value) (body_meaning ticks more)
+-- ---- the whole program
 
--- the outcome of the program with so many ticks to spend: the entry of `main` spends one
-abbrev pub meaning : Program → ℕ → Outcome
-meaning program ticks = if ticks == 0 then ends 0 Cut else body_meaning 1 program.body
+abbrev pub main_run : Again → Option Function → List Value → Run (Option Value)
+main_run again f vs = called again f vs main_frame
+
+-- the type of what `main` takes
+abbrev pub taken_type : List Param → Ty
+taken_type (param n x ∷ ps) = type_of x
+taken_type [] = void
+
+abbrev pub main_takes : Option Function → Ty
+main_takes None = void
+main_takes (Some f) = taken_type (head_params (head_of f))
+
+-- the input array is made before `main` is entered
+abbrev pub with_input : Again → Ty → Option (List Value) → (List Value → Run (Option Value)) → Run (Option Value)
+with_input again x None go = go []
+with_input again x (Some vs) go = do
+  v ← valued (made again main_frame.at x vs)
+  go (v ∷ [])
+
+abbrev pub run_of : Parts → Given → ℕ → Result (Option Value)
+run_of p input ticks =
+    with_input (level p ticks) (main_takes (main_of p)) (given input) (main_run (level p ticks) (main_of p)) [] [] (begin ticks)
+
+abbrev pub outcome_of : Result (Option Value) → Outcome
+outcome_of (goes v l s) = outcome Done s
+outcome_of (returned v s) = outcome Done s
+outcome_of (ended end s) = outcome end s
+
+-- the outcome of the program on its input, with so many ticks to spend
+abbrev pub meaning : Typed → Given → ℕ → Outcome
+meaning program input ticks = outcome_of (run_of (parts_of program) input ticks)

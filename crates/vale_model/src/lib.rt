@@ -1,2 +1,7 @@
-//! What programs mean: definitions that know no code, no pages and no workers. They stand in `specs/`.
+//! What programs mean: definitions that know no code, no pages and no workers. They stand in `specs/`; the code has the
+//! laws that hold of them.
 #![tactic(auto)]
+
+mod laws;
+
+pub use laws::{cut_where_no_tick_is_left, names_never_return, stamps_rise, ticks_stay_within};

@@ -3,7 +3,7 @@ use Rattle.std.proofs.Common.{◌≡◌, ◌∙◌, ℤ, List, [], ◌∷◌, �
 use Rattle.std.proofs.lemmas.Grind.{common_steps}
 use Rattle.std.specs.Prelude.{Ok, Err}
 use Rattle.vale_base.specs.Outcome.{Outcome}
-use Rattle.vale_model.specs.Meaning.{sum_at, line_of, prints, ◌>>=◌, added_value, line_meaning, body_meaning}
+use Rattle.vale_model.specs.Sums.{sum_at, line_of, prints, ◌>>=◌, added_value, line_meaning, body_meaning}
 use Rattle.vale_syntax.specs.declared.program.Added.{Added}
 use Rattle.vale_syntax.specs.declared.program.Println.{Println}
 use Rattle.vale_run.specs.declared.code.Instr.{Instr}

@@ -1,7 +1,7 @@
 -- What code does, and the code of a program.
 use Rattle.std.specs.Prelude.{ℤ, List, [], ◌∷◌, ◌++◌, Result, Ok, Err}
 use Rattle.vale_base.specs.Outcome.{Outcome, End, Done}
-use Rattle.vale_model.specs.Meaning.{sum_at, line_of, prints, ends}
+use Rattle.vale_model.specs.Sums.{sum_at, line_of, prints, ends}
 use Rattle.vale_syntax.specs.declared.program.Added.{Added}
 use Rattle.vale_syntax.specs.declared.program.Println.{Println}
 use Rattle.vale_syntax.specs.declared.program.Sum.{Sum}

@@ -5,7 +5,7 @@ use Rattle.vale_base.specs.Outcome.{Outcome, End, Done, Trap, Cut, Wrong, output
 use Rattle.vale_base.specs.declared.spot.Spot.{Spot}
 use Rattle.vale_ports.specs.Faults.{Rose}
 use Rattle.vale_ports.specs.Shelf.{ShelfState, HasFile}
-use Rattle.vale_model.specs.Meaning.{meaning}
+use Rattle.vale_model.specs.Sums.{meaning}
 use Rattle.vale_model.specs.Report.{spot_text, report_text}
 use Rattle.vale_syntax.specs.Canon.{canon}
 use Rattle.vale_syntax.specs.Cut.{start}

@@ -1,7 +1,7 @@
 // What the words are owed: a status, and the bytes for `out` and `err`.
 ghost use Rattle.std.specs.Prelude.{◌≡◌, ◌≤◌, ℕ, List, IfOk, IsErrOf};
 ghost use Rattle.vale_base.specs.Outcome.{Cut};
-ghost use Rattle.vale_model.specs.Meaning.{ends, meaning};
+ghost use Rattle.vale_model.specs.Sums.{ends, meaning};
 ghost use Rattle.vale_ports.specs.Shelf.{HasFile, KeepsFiles, ReadsFile};
 ghost use Rattle.vale_run.specs.Owed.{refused, bad_word, EndsWith, RunsTo, ChecksTo, FormatsTo, Owes, ReadFailed, ReadFails};
 ghost use Rattle.vale_words.specs.Words.{Asks, texts};

@@ -1,7 +1,7 @@
 // The instructions of a program, and what they do.
 ghost use Rattle.std.specs.Prelude.{◌≡◌, ◌++◌, ◌+ℤ◌, pos, IfOk, OnOk, MatchOption, Some, true, false};
 ghost use Rattle.vale_base.specs.Outcome.{output, Done, Trap};
-ghost use Rattle.vale_model.specs.Meaning.{is_int, main_trap, body_meaning, line_of};
+ghost use Rattle.vale_model.specs.Sums.{is_int, main_trap, body_meaning, line_of};
 ghost use Rattle.vale_run.specs.Code.{added_code, println_code, run_code};
 
 use std::alloc::Global;

@@ -1,0 +1,39 @@
+//! What holds of every run: laws of the definitions, each the contract of a function that does nothing.
+
+ghost use Rattle.std.specs.Prelude.{◌≡◌, ◌≤◌, ℕ, slice_get};
+ghost use Rattle.vale_base.specs.Outcome.{Cut};
+ghost use Rattle.vale_base.specs.State.{State, Calls, Given};
+ghost use Rattle.vale_syntax.specs.Typed.{Typed, Block};
+ghost use Rattle.vale_model.specs.Expressions.{block_run};
+ghost use Rattle.vale_model.specs.Later.{StampsRise, NameLater};
+ghost use Rattle.vale_model.specs.Loops.{state_in};
+ghost use Rattle.vale_model.specs.Meaning.{level, meaning};
+ghost use Rattle.vale_model.specs.Parts.{Parts};
+ghost use Rattle.vale_model.specs.Runs.{Locals};
+
+/// A run spends no more ticks than it may.
+pub fn ticks_stay_within()
+    ensures { (program : Typed) (input : Given) (ticks : ℕ)
+        → (meaning program input ticks).ticks ≤ ticks }
+{}
+
+/// A run that is cut has spent all its ticks.
+pub fn cut_where_no_tick_is_left()
+    ensures { (program : Typed) (input : Given) (ticks : ℕ)
+        → (meaning program input ticks).end ≡ Cut
+        → (meaning program input ticks).ticks ≡ ticks }
+{}
+
+/// No piece is stamped earlier than the one before it, and none later than the end.
+pub fn stamps_rise()
+    ensures { (program : Typed) (input : Given) (ticks : ℕ)
+        → StampsRise 0 (meaning program input ticks).pieces (meaning program input ticks).ticks }
+{}
+
+/// Whatever a block of a program does: a name whose object died never has one again, and a name that was given is
+/// never given to an object of another kind.
+pub fn names_never_return()
+    ensures { (parts : Parts) (ticks : ℕ) (block : Block) (calls : Calls) (locals : Locals) (s : State)
+        → s.left ≤ ticks → (name : ℕ)
+        → NameLater (slice_get s.world name) (slice_get (state_in (block_run (level parts ticks) block calls locals s)).world name) }
+{}
