@@ -5,6 +5,4 @@ mod MeaningTexts
 mod Programs
 mod RuleTexts
 mod RunLaws
-mod StateLaws
 mod TreeLaws
-mod WorldLaws

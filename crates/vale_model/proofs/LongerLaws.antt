@@ -17,7 +17,8 @@ use Rattle.vale_syntax.specs.Types as y
 use Rattle.vale_model.specs.Parts.{Parts, kind_of}
 use Rattle.vale_model.specs.Runs.{Locals, Result, goes, returned, ended, Run, then_do, ◌>>=◌, give, nothing, wrong, trap, answered, step, change, ticked, tick, deep, under, the_value, valued, choose, held_by, with_held, read, move, exchange, outer, innermost, while_waits}
 use Rattle.vale_model.specs.Loops.{number_in, turns, in_region, iteration, collected, in_order, state_in, each_alone, loop, indices, numbered, emptied, taken_apart, loop_value}
-use Rattle.vale_model.specs.Later.{Later, GoesOn, AlwaysGoesOn, Begins}
+use Rattle.vale_text.specs.Later.{Later, Begins}
+use Rattle.vale_model.specs.Later.{GoesOn, AlwaysGoesOn}
 use Rattle.vale_model.proofs.RunLaws.{bind_goes, give_goes, nothing_goes, wrong_goes, trap_goes, change_goes, tick_goes, deep_goes, under_goes, fewer_goes, the_value_goes, choose_goes, read_goes, move_goes, exchange_goes, while_waits_goes, number_in_goes, loop_goes, numbered_goes, taken_apart_goes}
 
 -- ---- states that differ in what no rule looks at, and in the ticks left

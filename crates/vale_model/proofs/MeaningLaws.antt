@@ -14,7 +14,8 @@ use Rattle.vale_model.specs.Destruction.{Again, drop_values}
 use Rattle.vale_model.specs.Expressions.{block_run, expr_run, made}
 use Rattle.vale_model.specs.Loops.{state_in}
 use Rattle.vale_model.specs.Meaning.{bound, back_to, body_run, with_bound, function_run, turn_run, level, main_run, main_takes, with_input, run_of, outcome_of, meaning}
-use Rattle.vale_model.specs.Later.{StampsRise, NameLater, GoesOn, AlwaysGoesOn}
+use Rattle.vale_text.specs.Later.{StampsRise, NameLater}
+use Rattle.vale_model.specs.Later.{GoesOn, AlwaysGoesOn}
 use Rattle.vale_model.proofs.RunLaws.{bind_goes, nothing_goes, wrong_goes, tick_goes, under_goes, valued_goes, choose_goes}
 use Rattle.vale_model.proofs.TreeLaws.{Follows, leave_goes, drop_values_goes, called_goes, made_goes, expr_goes, block_goes}
 

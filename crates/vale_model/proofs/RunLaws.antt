@@ -10,8 +10,9 @@ use Rattle.vale_base.specs.declared.trap.TrapKind.{TrapKind}
 use Rattle.vale_base.specs.declared.trap.TrapKind.TheVariants.{CallDepth, LoopTooWide}
 use Rattle.vale_model.specs.Runs.{Locals, Result, goes, returned, ended, Run, then_do, ◌>>=◌, give, nothing, wrong, trap, answered, step, change, ticked, tick, deep, under, the_value, valued, choose, held_by, with_held, read, move, exchange, outer, while_waits}
 use Rattle.vale_model.specs.Loops.{number_in, turns, in_region, iteration, collected, in_order, state_in, each_alone, loop, indices, numbered, emptied, taken_apart, loop_value}
-use Rattle.vale_model.specs.Later.{Later, GoesOn, AlwaysGoesOn, StepGoesOn}
-use Rattle.vale_model.proofs.StateLaws.{later_refl, later_trans, spend_of_later, none_left, dies_later, freeze_iteration_later, thaw_iteration_later, loop_counted_later, counting_as_later, make_goes}
+use Rattle.vale_text.specs.Later.{Later, StepGoesOn}
+use Rattle.vale_model.specs.Later.{GoesOn, AlwaysGoesOn}
+use Rattle.vale_text.proofs.StateLaws.{later_refl, later_trans, spend_of_later, none_left, dies_later, freeze_iteration_later, thaw_iteration_later, loop_counted_later, counting_as_later, make_goes}
 use Rattle.vale_syntax.specs.Types.{Ty, array}
 use Rattle.vale_syntax.specs.Types as y
 use Rattle.vale_model.specs.Parts.{Parts, kind_of}

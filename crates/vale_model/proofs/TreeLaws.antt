@@ -22,8 +22,9 @@ use Rattle.vale_model.specs.Runs.{Locals, goes, returned, Run, ◌>>=◌, give, 
 use Rattle.vale_model.specs.Destruction.{Again, destructor_in, destroyed_by, destroyed, destroy, drop, drop_values, drop_locals, leave, with_local, with_locals}
 use Rattle.vale_model.specs.Loops.{number_in, loop, numbered, taken_apart}
 use Rattle.vale_model.specs.Expressions.{plus, operated, link_run, unary_run, called_by, called, dispatched_to, dispatched_on, dispatched, built_in_run, made, callee_run, on_place, frozen_run, expr_spot, numbers_of, expr_run, node_run, exprs_run, links_run, step_run, steps_run, set_run, set_steps, set_step, form_run, iteration_body, elses_run, block_run, stmts_run, stmt_run}
-use Rattle.vale_model.specs.Later.{AlwaysGoesOn, StepGoesOn}
-use Rattle.vale_model.proofs.StateLaws.{later_refl, dies_later, freeze_later, thaw_later, join_isolate_later, print_goes, make_goes, load_goes, swap_goes, element_goes, swap_element_goes, len_goes, push_goes, pop_goes, merge_goes, ints_goes, join_goes, slice_goes, byte_goes, text_of_goes, is_number_goes, number_goes, opposite_goes, compare_goes}
+use Rattle.vale_text.specs.Later.{StepGoesOn}
+use Rattle.vale_model.specs.Later.{AlwaysGoesOn}
+use Rattle.vale_text.proofs.StateLaws.{later_refl, dies_later, freeze_later, thaw_later, join_isolate_later, print_goes, make_goes, load_goes, swap_goes, element_goes, swap_element_goes, len_goes, push_goes, pop_goes, merge_goes, ints_goes, join_goes, slice_goes, byte_goes, text_of_goes, is_number_goes, number_goes, opposite_goes, compare_goes}
 use Rattle.vale_model.proofs.RunLaws.{then_goes, bind_goes, give_goes, nothing_goes, wrong_goes, trap_goes, step_goes, change_goes, tick_goes, deep_goes, valued_goes, choose_goes, read_goes, move_goes, exchange_goes, while_waits_goes, number_in_goes, turns_goes, loop_goes, numbered_goes, taken_apart_goes, loop_value_goes}
 
 -- ---- operators

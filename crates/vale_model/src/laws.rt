@@ -5,7 +5,7 @@ ghost use Rattle.vale_base.specs.Outcome.{Cut};
 ghost use Rattle.vale_base.specs.State.{State, Calls, Given};
 ghost use Rattle.vale_syntax.specs.Typed.{Typed, Block};
 ghost use Rattle.vale_model.specs.Expressions.{block_run};
-ghost use Rattle.vale_model.specs.Later.{StampsRise, NameLater};
+ghost use Rattle.vale_text.specs.Later.{StampsRise, NameLater};
 ghost use Rattle.vale_model.specs.Loops.{state_in};
 ghost use Rattle.vale_model.specs.Meaning.{level, meaning};
 ghost use Rattle.vale_model.specs.Parts.{Parts};

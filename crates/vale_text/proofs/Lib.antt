@@ -1,2 +1,4 @@
 mod NumeralLemmas
 mod NumeralLaws
+pub mod StateLaws
+pub mod WorldLaws

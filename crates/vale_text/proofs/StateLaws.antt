@@ -12,8 +12,8 @@ use Rattle.vale_base.specs.declared.name.Kind.{Kind}
 use Rattle.vale_base.specs.declared.piece.Piece.{Piece}
 use Rattle.vale_base.specs.declared.trap.TrapKind.{TrapKind}
 use Rattle.vale_base.specs.declared.trap.TrapKind.TheVariants.{ArrayTooLong}
-use Rattle.vale_model.specs.Later.{StampsRise, NameLater, Later, StepGoesOn}
-use Rattle.vale_model.proofs.WorldLaws.{same_later, later_later, born_later, died_later, written_later, relabelled_later, cleared_later}
+use Rattle.vale_text.specs.Later.{StampsRise, NameLater, Later, StepGoesOn}
+use Rattle.vale_text.proofs.WorldLaws.{same_later, later_later, born_later, died_later, written_later, relabelled_later, cleared_later}
 
 -- ---- states
 
@@ -155,7 +155,7 @@ pub make_goes : (kind : Kind) (values : List Value) (s : State) → StepGoesOn s
 make_goes kind values s = born_later_state kind values s
 
 -- a step on a living object
-on_object_goes : (v : Value) (s : State) (go : ℕ → Object → Answer) → ((n : ℕ) (o : Object) → object_of n s ≡ Some o → StepGoesOn s (go n o)) → StepGoesOn s (with_object v s go)
+pub on_object_goes : (v : Value) (s : State) (go : ℕ → Object → Answer) → ((n : ℕ) (o : Object) → object_of n s ≡ Some o → StepGoesOn s (go n o)) → StepGoesOn s (with_object v s go)
 on_object_goes v s go h = named (name_of v)
   where
     living_one : (n : ℕ) (x : Option Object) → object_of n s ≡ x → StepGoesOn s (on_object (found_or_dead n x) go)
@@ -268,7 +268,7 @@ on_truth_goes s (Own n) go h = tt
 on_truth_goes s (Ref n) go h = tt
 on_truth_goes s (Iso n) go h = tt
 
-on_text_goes : (s : State) (v : Value) (go : List ℕ → Answer) → ((t : List ℕ) → StepGoesOn s (go t)) → StepGoesOn s (o.on_text v go)
+pub on_text_goes : (s : State) (v : Value) (go : List ℕ → Answer) → ((t : List ℕ) → StepGoesOn s (go t)) → StepGoesOn s (o.on_text v go)
 on_text_goes s (Text t) go h = h t
 on_text_goes s (Int z) go h = tt
 on_text_goes s (Truth b) go h = tt

@@ -3,7 +3,7 @@ use Rattle.std.proofs.Common.{◌≡◌, inl, inr, ℕ, zero, suc, [], ◌∷◌
 use Rattle.std.specs.Prelude.{slice_get, if◌then◌else◌}
 use Rattle.vale_base.specs.World.{World, Object, Region, region_eq, moved, relabelled, unless_of, cleared}
 use Rattle.vale_base.specs.World as w
-use Rattle.vale_model.specs.Later.{NameLater}
+use Rattle.vale_text.specs.Later.{NameLater}
 
 pub same_later : (x : Option (Option Object)) → NameLater x x
 same_later None = tt

@@ -1,0 +1,13 @@
+pub mod Act
+pub mod Destroy
+pub mod Enter
+pub mod Frames
+pub mod Fuel
+pub mod Instructions
+pub mod Kinds
+pub mod Loops
+pub mod Need
+pub mod Parts
+pub mod Registers
+pub mod Run
+pub mod Sizes
