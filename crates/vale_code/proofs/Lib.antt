@@ -1,10 +1,13 @@
 mod ArrayExamples
+mod Beside
 mod CallExamples
 mod Codes
 mod DepthExamples
 pub mod Ends
 mod Fits
 mod FreezeExamples
+pub mod LongerLaws
+mod LongerSteps
 mod LoopExamples
 mod NumberExamples
 mod ObjectExamples

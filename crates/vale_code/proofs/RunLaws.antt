@@ -1,15 +1,17 @@
 -- Runs go on as they should: ticks are only spent, pieces are only added, and names never return.
-use Rattle.std.proofs.Common.{◌≡◌, ℕ, zero, suc, ◌≤◌, List, [], ◌∷◌, Option, Some, None, sym, subst, arith}
+use Rattle.std.proofs.Common.{◌≡◌, ℕ, zero, suc, ◌≤◌, List, [], ◌∷◌, Option, Some, None, sym, ap, subst, arith}
 use Rattle.vale_base.specs.Outcome.{End, Cut}
-use Rattle.vale_base.specs.State.{State, Given, given, begin, born, function_frame}
-use Rattle.vale_base.specs.World.{Value, Own, next_name}
+use Rattle.vale_base.specs.State.{State, Given, given, begin, born, function_frame, living}
+use Rattle.vale_base.specs.World.{Value, Own, IsDead, next_name}
 use Rattle.vale_text.proofs.StateLaws.{later_refl, later_trans, born_later_state}
 use Rattle.vale_text.specs.Later.{Later, EndsRight, StampsRise}
 use Rattle.vale_code.proofs.Ends.{step_less, run_ends}
 use Rattle.vale_code.proofs.Fits as fits
 use Rattle.vale_code.proofs.Fits.{ticks, ticks_fewer, Fits}
+use Rattle.vale_base.specs.declared.spot.Spot.{Spot}
+use Rattle.vale_code.specs.Destroy.{destroy, destroy_object}
 use Rattle.vale_code.specs.Enter.{Form, Plain, Pure, Iteration, Destructor, enter}
-use Rattle.vale_code.specs.Frames.{Config, Next, On, Over}
+use Rattle.vale_code.specs.Frames.{Config, Frame, Next, On, Over, wrong}
 use Rattle.vale_code.specs.Fuel.{fuel}
 use Rattle.vale_code.specs.Kinds.{text_at}
 use Rattle.vale_code.specs.Parts.{Parts}
@@ -29,17 +31,21 @@ steps_later code (suc n) c = at (step code c) (step_less code (last_state code) 
     at (Over end v s) fit next = fit.later
 
 -- an ending that a run comes to from a state
-record EndsLater (s : State) (e : Ending) : Type 0 where
-  later : Later s e.state
-  right : EndsRight e.end e.state
+pub record EndsLater (s : State) (e : Ending) : Type 0 where
+  pub later : Later s e.state
+  pub right : EndsRight e.end e.state
 
-exec_later : (code : Parts) (n : ℕ) (c : Config) (e : Ending) → exec code n c ≡ Some e → EndsLater c.state e
+pub exec_later : (code : Parts) (n : ℕ) (c : Config) (e : Ending) → exec code n c ≡ Some e → EndsLater c.state e
 exec_later code zero c e h = absurd (cc)
 exec_later code (suc n) c e h = at (step code c) (step_less code (last_state code) c) h (λ d g. exec_later code n d e g)
   where
     at : (x : Next) → Fits code c.state (fuel code c) x → then_go x (exec code n) ≡ Some e → ((d : Config) → exec code n d ≡ Some e → EndsLater d.state e) → EndsLater c.state e
     at (On d) fit g next = let rest = next d g in record { later = later_trans c.state d.state e.state fit.later rest.later; right = rest.right }
     at (Over end v s) fit g next = let is : record { end = end; value = v; state = s } ≡ e = cc in subst (λ y. EndsLater c.state y) is (record { later = fit.later; right = fit.right })
+
+-- no rule drops what has died
+pub dead_stay : (code : Parts) (name : ℕ) (at : Spot) (frames : List Frame) (s : State) → IsDead s.world name → destroy code (Own name) at frames s ≡ wrong s
+dead_stay code name at frames s is = ap (λ o. destroy_object code (living o) name at frames s) is
 
 -- ---- the start
 

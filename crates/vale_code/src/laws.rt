@@ -1,10 +1,13 @@
 //! What holds of every run of every code: laws of the definitions, each the contract of a function that does nothing.
 
-ghost use Rattle.std.specs.Prelude.{◌≡◌, ◌≤◌, ℕ, slice_get};
-ghost use Rattle.vale_base.specs.Outcome.{Cut};
-ghost use Rattle.vale_base.specs.State.{Given};
-ghost use Rattle.vale_text.specs.Later.{StampsRise, NameLater};
-ghost use Rattle.vale_code.specs.Frames.{Config};
+ghost use Rattle.std.specs.Prelude.{◌≡◌, ◌≢◌, ◌≤◌, ℕ, List, None, slice_get};
+ghost use Rattle.vale_base.specs.Outcome.{Cut, Wrong};
+ghost use Rattle.vale_base.specs.State.{State, Given};
+ghost use Rattle.vale_base.specs.World.{Own, IsDead};
+ghost use Rattle.vale_base.specs.declared.spot.Spot.{Spot};
+ghost use Rattle.vale_text.specs.Later.{Begins, StampsRise, NameLater};
+ghost use Rattle.vale_code.specs.Destroy.{destroy};
+ghost use Rattle.vale_code.specs.Frames.{Config, Frame, Over};
 ghost use Rattle.vale_code.specs.Parts.{Parts};
 ghost use Rattle.vale_code.specs.Run.{Ending, EndsIn, ending_of, run_code, steps, state_in};
 ghost use Rattle.vale_code.specs.Sizes.{IsSmall};
@@ -47,4 +50,18 @@ pub fn stamps_rise()
 pub fn names_never_return()
     ensures { (code : Parts) (n : ℕ) (c : Config) (name : ℕ)
         → NameLater (slice_get c.state.world name) (slice_get (state_in (steps code n c)).world name) }
+{}
+
+/// An object is dropped at most once: where it has died no rule drops it, and it stays dead.
+pub fn the_dead_are_not_dropped()
+    ensures { (code : Parts) (name : ℕ) (at : Spot) (frames : List Frame) (s : State)
+        → IsDead s.world name → destroy code (Own name) at frames s ≡ Over Wrong None s }
+{}
+
+/// With more ticks a run prints what it printed, and goes on from there; one that wasn't cut is the same.
+pub fn more_ticks_go_further()
+    ensures printed { (code : Parts) (input : Given) (fewer more : ℕ) → fewer ≤ more
+        → Begins (run_code code input fewer).pieces (run_code code input more).pieces }
+    ensures same { (code : Parts) (input : Given) (fewer more : ℕ) → fewer ≤ more
+        → (run_code code input fewer).end ≢ Cut → run_code code input more ≡ run_code code input fewer }
 {}

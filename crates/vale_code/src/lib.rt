@@ -17,8 +17,8 @@ pub use func::{Func, Impl};
 pub use instr::Instr;
 pub use kind::{Field, KindInfo, MethodInfo};
 pub use laws::{
-    code_is_small, cut_where_no_tick_is_left, names_never_return, run_ends, stamps_rise,
-    ticks_stay_within,
+    code_is_small, cut_where_no_tick_is_left, more_ticks_go_further, names_never_return, run_ends,
+    stamps_rise, the_dead_are_not_dropped, ticks_stay_within,
 };
 pub use sequence::Sequence;
 pub use ty::Ty;

@@ -1,5 +1,7 @@
 mod LongerLaws
+pub mod LongerMeaning
 mod LongerSteps
+mod LongerTree
 pub mod MeaningLaws
 mod MeaningTexts
 mod Programs

@@ -1,25 +1,19 @@
 -- With more ticks left a part does the same, but where it is cut with fewer: there it goes on from what was printed.
-use Rattle.std.proofs.Common.{◌≡◌, ℕ, zero, suc, ◌+◌, ◌≤◌, ◌<◌, ℤ, pos, List, [], ◌∷◌, ◌++◌, append_assoc, Option, Some, None, Bool, true, false, refl, sym, ap, ◌∙◌, subst, arith}
-use Rattle.std.specs.Prelude.{if◌then◌else◌, ◌+ℤ◌, nat_lt}
-use Rattle.vale_base.specs.Limits.{width_limit}
+use Rattle.std.proofs.Common.{◌≡◌, ℕ, zero, suc, ◌+◌, ◌≤◌, ◌<◌, ℤ, pos, List, ◌∷◌, ◌++◌, append_assoc, Option, Some, None, Bool, true, false, refl, sym, ap, ◌∙◌, subst, arith}
+use Rattle.std.specs.Prelude.{if◌then◌else◌, ◌+ℤ◌}
 use Rattle.vale_base.specs.Outcome.{End, Done, Trap, Cut, Wrong}
-use Rattle.vale_base.specs.State.{State, Calls, Answer, gives, traps, fails, spend_of, spend, has_depth, lent, make, dies, object_of, freeze_iteration, thaw_iteration, RegionEnd, merged, kept, cleared, end_of_isolate, isolated, iteration_frame, is_outermost, loop_counted, counting_as, width_of, born, counted, live, here}
-use Rattle.vale_base.specs.World.{Value, Int, Truth, Text, Own, Ref, Iso, Object}
-use Rattle.vale_base.specs.World as w
-use Rattle.vale_base.specs.declared.name.Kind.{Kind}
+use Rattle.vale_base.specs.State.{State, Calls, Answer, gives, traps, fails, spend_of, has_depth, lent, freeze_iteration, thaw_iteration, RegionEnd, merged, kept, cleared}
+use Rattle.vale_base.specs.World.{Value, Int, Truth, Text, Own, Ref, Iso}
 use Rattle.vale_base.specs.declared.piece.Piece.{Piece}
 use Rattle.vale_base.specs.declared.spot.Spot.{Spot}
 use Rattle.vale_base.specs.declared.trap.FrameAt.{FrameAt}
 use Rattle.vale_base.specs.declared.trap.TrapKind.{TrapKind}
-use Rattle.vale_base.specs.declared.trap.TrapKind.TheVariants.{CallDepth, LoopTooWide}
-use Rattle.vale_syntax.specs.Types.{Ty, array}
-use Rattle.vale_syntax.specs.Types as y
-use Rattle.vale_model.specs.Parts.{Parts, kind_of}
-use Rattle.vale_model.specs.Runs.{Locals, Result, goes, returned, ended, Run, then_do, ◌>>=◌, give, nothing, wrong, trap, answered, step, change, ticked, tick, deep, under, the_value, valued, choose, held_by, with_held, read, move, exchange, outer, innermost, while_waits}
-use Rattle.vale_model.specs.Loops.{number_in, turns, in_region, iteration, collected, in_order, state_in, each_alone, loop, indices, numbered, emptied, taken_apart, loop_value}
+use Rattle.vale_base.specs.declared.trap.TrapKind.TheVariants.{CallDepth}
+use Rattle.vale_model.specs.Runs.{Locals, Result, goes, returned, ended, Run, then_do, ◌>>=◌, give, nothing, wrong, trap, answered, step, change, ticked, tick, deep, under, the_value, valued, choose, held_by, with_held, read, move, exchange, outer, while_waits}
+use Rattle.vale_model.specs.Loops.{number_in, turns, state_in}
 use Rattle.vale_text.specs.Later.{Later, Begins}
 use Rattle.vale_model.specs.Later.{GoesOn, AlwaysGoesOn}
-use Rattle.vale_model.proofs.RunLaws.{bind_goes, give_goes, nothing_goes, wrong_goes, trap_goes, change_goes, tick_goes, deep_goes, under_goes, fewer_goes, the_value_goes, choose_goes, read_goes, move_goes, exchange_goes, while_waits_goes, number_in_goes, loop_goes, numbered_goes, taken_apart_goes}
+use Rattle.vale_model.proofs.RunLaws.{bind_goes, give_goes, nothing_goes, wrong_goes, trap_goes, tick_goes, deep_goes, under_goes, fewer_goes, read_goes, move_goes, exchange_goes, while_waits_goes}
 
 -- ---- states that differ in what no rule looks at, and in the ticks left
 
@@ -73,7 +67,7 @@ then_longer n (goes v l s) r' go go' few on more h =
 then_longer n (returned v s) r' go go' few on more h = (h.0, h.1, ap (λ r. then_do r go') h.2)
 then_longer n (ended end s) r' go go' few on more h = end_on n end s r' go' few on h
 
-few_left : {A : Type 0} (n : ℕ) (s : State) (r : Result A) → s.left < n → GoesOn s r → (state_in r).left < n
+pub few_left : {A : Type 0} (n : ℕ) (s : State) (r : Result A) → s.left < n → GoesOn s r → (state_in r).left < n
 few_left n s r lt h = let few = h.0.fewer in omega (arith, lt, few)
 
 pub bind_longer : {A B : Type 0} (n : ℕ) (m m' : Run A) (k k' : A → Run B) → AlwaysLonger n m m' → ((v : A) → AlwaysLonger n (k v) (k' v)) → AlwaysLonger n (m >>= k) (m' >>= k')
@@ -201,7 +195,7 @@ turns_longer n (suc more) z body body' h =
 pub freeze_iteration_changes : ChangeLonger freeze_iteration
 freeze_iteration_changes s x le = (x, le, refl)
 
-thaw_iteration_changes : (end : RegionEnd) → ChangeLonger (thaw_iteration end)
+pub thaw_iteration_changes : (end : RegionEnd) → ChangeLonger (thaw_iteration end)
 thaw_iteration_changes merged s x le = (x, le, refl)
 thaw_iteration_changes (kept root) s x le = (x, le, refl)
 thaw_iteration_changes cleared s x le = (x, le, refl)

@@ -1,8 +1,8 @@
 -- Every single step comes to the same from states that differ in what no rule looks at.
-use Rattle.std.proofs.Common.{◌≡◌, ℕ, zero, suc, ◌+◌, ◌≤◌, ℤ, pos, negsuc, List, [], ◌∷◌, ◌++◌, Option, Some, None, Bool, true, false, refl, sym, ap, arith}
-use Rattle.std.specs.Prelude.{slice_get, slice_set, if◌then◌else◌, Result, Ok, Err, max, nat_lt, length}
+use Rattle.std.proofs.Common.{◌≡◌, ℕ, ◌+◌, ◌≤◌, ℤ, pos, negsuc, List, [], ◌∷◌, ◌++◌, Option, Some, None, Bool, true, false, refl}
+use Rattle.std.specs.Prelude.{slice_get, if◌then◌else◌, Result, Ok, Err, max, nat_lt, length}
 use Rattle.vale_base.specs.Limits.{width_limit}
-use Rattle.vale_base.specs.State.{State, Answer, gives, traps, fails, print_text, print, shown, object_of, born, make, dies, changed, found_or_dead, look_up, look, on_object, with_object, name_of, load, field_in, swap, swapped_in, element, element_at, element_in, swap_element, element_swapped_at, element_swapped_in, len, push, pop, popped, front_from, last_from, freeze, RegionEnd, merged, kept, cleared, thaw, join_isolate, merge, here, live}
+use Rattle.vale_base.specs.State.{State, Answer, gives, traps, print_text, print, shown, object_of, make, dies, changed, found_or_dead, look_up, on_object, with_object, name_of, load, field_in, swap, swapped_in, element, element_at, element_in, swap_element, element_swapped_at, element_swapped_in, len, push, pop, popped, freeze, RegionEnd, merged, kept, cleared, thaw, join_isolate, merge, here, live}
 use Rattle.vale_base.specs.World.{Value, Int, Truth, Text, Own, Ref, Iso, Object}
 use Rattle.vale_base.specs.World as w
 use Rattle.vale_base.specs.declared.name.Kind.{Kind}
@@ -47,8 +47,10 @@ module _ (s : State) (x : Beside) (le : s.left ≤ x.left) where
     where
       grown : State → State
       grown t = record t { world = w.born t.world (record { region = here t; kind = kind; values = values }) }
+
       count : State → State
       count t = record t { most = max t.most (live t.world); made = t.made + 1 }
+
       by : (a b : Bool) → (z : Beside) × ((if a then grown s else count (grown s)).left ≤ z.left) ×
           (gives (Some (Own (w.next_name s.world))) (if b then grown (beside s x) else count (grown (beside s x))) ≡ gives (Some (Own (w.next_name s.world))) (beside (if a then grown s else count (grown s)) z))
       by true true = (x, le, refl)
@@ -62,6 +64,7 @@ module _ (s : State) (x : Beside) (le : s.left ≤ x.left) where
       living_one : (n : ℕ) (y : Option Object) → StepLonger (on_object (found_or_dead n y) go) (on_object (found_or_dead n y) go')
       living_one n None = refl
       living_one n (Some o) = h n o
+
       named : (y : Option ℕ) → StepLonger (on_object (look_up y s) go) (on_object (look_up y (beside s x)) go')
       named None = refl
       named (Some n) = living_one n (object_of n s)

@@ -1,16 +1,17 @@
 -- What holds of whole runs: by induction on the ticks.
-use Rattle.std.proofs.Common.{◌≡◌, ℕ, zero, suc, ◌≤◌, List, [], ◌∷◌, Option, Some, None, refl, sym, ◌∙◌, subst, arith}
+use Rattle.std.proofs.Common.{◌≡◌, ℕ, zero, suc, ◌≤◌, List, [], ◌∷◌, Option, Some, None, refl, sym, ap, ◌∙◌, subst, arith}
 use Rattle.std.specs.Prelude.{slice_get}
 use Rattle.vale_base.specs.Outcome.{Done, Trap, Cut, Wrong}
-use Rattle.vale_base.specs.State.{State, Calls, begin, Given, given, main_frame}
-use Rattle.vale_base.specs.World.{Value}
+use Rattle.vale_base.specs.State.{State, Calls, begin, Given, given, main_frame, living}
+use Rattle.vale_base.specs.World.{Value, IsDead}
+use Rattle.vale_base.specs.declared.spot.Spot.{Spot}
 use Rattle.vale_base.specs.declared.trap.FrameAt.{FrameAt}
 use Rattle.vale_syntax.specs.Declarations.{head_params}
 use Rattle.vale_syntax.specs.Types.{Ty}
 use Rattle.vale_syntax.specs.Typed.{Expr, Block, block, Function, function_body, Typed}
 use Rattle.vale_model.specs.Parts.{Parts, parts_of, param_names, main_of}
 use Rattle.vale_model.specs.Runs.{Locals, Result, goes, returned, ended, Run, ◌>>=◌, nothing, tick, valued, under}
-use Rattle.vale_model.specs.Destruction.{Again, drop_values}
+use Rattle.vale_model.specs.Destruction.{Again, drop_values, destroyed, destroy}
 use Rattle.vale_model.specs.Expressions.{block_run, expr_run, made}
 use Rattle.vale_model.specs.Loops.{state_in}
 use Rattle.vale_model.specs.Meaning.{bound, back_to, body_run, with_bound, function_run, turn_run, level, main_run, main_takes, with_input, run_of, outcome_of, meaning}
@@ -26,7 +27,7 @@ back_goes s l (goes v k t) h = h
 back_goes s l (returned v t) h = h
 back_goes s l (ended end t) h = h
 
-with_bound_goes : (n : ℕ) (k : Option Locals) (m : Run (Option Value)) → AlwaysGoesOn n m → AlwaysGoesOn n (with_bound k m)
+pub with_bound_goes : (n : ℕ) (k : Option Locals) (m : Run (Option Value)) → AlwaysGoesOn n m → AlwaysGoesOn n (with_bound k m)
 with_bound_goes n None m h = wrong_goes n
 with_bound_goes n (Some k) m h = record { from = λ calls l s lt. back_goes s l (m calls k s) (h.from calls k s lt) }
 
@@ -110,3 +111,6 @@ module _ (program : Typed) (input : Given) (ticks : ℕ) where
 
 pub names_stay : (p : Parts) (ticks : ℕ) (b : Block) (calls : Calls) (l : Locals) (s : State) → s.left ≤ ticks → (name : ℕ) → NameLater (slice_get s.world name) (slice_get (state_in (block_run (level p ticks) b calls l s)).world name)
 names_stay p ticks b calls l s few name = ((block_goes (level p ticks) ticks (level_follows p ticks) b).from calls l s (omega (arith, few))).0.names name
+
+pub dead_stay : (again : Again) (at : Spot) (name : ℕ) (calls : Calls) (l : Locals) (s : State) → IsDead s.world name → destroy again at name calls l s ≡ ended Wrong s
+dead_stay again at name calls l s e = ap (λ x. destroyed again at name (living x) calls l s) e

@@ -1,13 +1,22 @@
 -- What single rules do, by computation, in programs that show one of them each. A program stands here as its tree.
-use Rattle.std.proofs.Common.{◌≡◌, [], ◌∷◌, Some, None, refl}
+use Rattle.std.proofs.Common.{◌≡◌, ℕ, [], ◌∷◌, Option, Some, None, refl}
 use Rattle.std.specs.Prelude.{true, false, codes, pos}
-use Rattle.vale_base.specs.Outcome.{Trap}
-use Rattle.vale_base.specs.State.{numbers}
-use Rattle.vale_base.specs.declared.trap.TrapKind.TheVariants.{DivisionByZero, DeadReference, IndexOutOfRange, EmptyPop, NotANumber, LoopTooWide}
+use Rattle.vale_base.specs.Outcome.{Outcome, Trap}
+use Rattle.vale_base.specs.State.{numbers, lines}
+use Rattle.vale_base.specs.declared.trap.TrapKind.TheVariants.{DivisionByZero, DeadReference, IndexOutOfRange, EmptyPop, NotANumber, CallDepth, LoopTooWide}
 use Rattle.vale_syntax.specs.declared.tree.BinaryOp.TheVariants.{Or, And, Equal, Less, Add, Sub, Mul, Div, Rem}
 use Rattle.vale_syntax.specs.declared.tree.UnaryOp.TheVariants.{Minus, Not, Borrow}
+use Rattle.vale_syntax.specs.Judged.{Judged, fine, faulty}
+use Rattle.vale_syntax.specs.Typing.{typed}
+use Rattle.vale_syntax.specs.Typed.{Typed}
 use Rattle.vale_syntax.specs.Tree.{int_type, bool_type, named_type, array_type, ref_type, imm_ref_type, set, chain, unary, steps, number, quote, truth, name, call, array, iso, form, no_exprs, more_exprs, link, no_links, more_links, field, method, index, no_steps, more_steps, branch, pure, parallel_range, no_else, otherwise, block, declare, destructure, return_nothing, return_value, foreach, form_stmt, express, no_stmts, last, more_stmts, param, head, function, field_decl, struct_item, interface_item, impl_item, function_item, Tree, tree}
 use Rattle.vale_model.proofs.Programs.{at, n, run, run_on, piece, frame, in_main, done, cut, trapped, line, text_line, times, live_after, need_of}
+use Rattle.std.specs.Prelude.{negsuc, Ok, Err}
+use Rattle.vale_base.specs.State.{begin, function_frame}
+use Rattle.vale_model.specs.Expressions.{called}
+use Rattle.vale_model.specs.Input.{taken, takes_numbers, takes_lines}
+use Rattle.vale_model.specs.Meaning.{level, outcome_of}
+use Rattle.vale_model.specs.Parts.{parts_of, function_named}
 
 -- struct S { n int; }
 -- func drop(self S) { [n] = self; println(n); }
@@ -346,3 +355,52 @@ at_once = tree (codes "S" ∷ codes "n" ∷ codes "main" ∷ codes "a" ∷ codes
 
 iterations_are_counted_together : need_of at_once 1000000000 1 ≡ Some 7
 iterations_are_counted_together = refl
+
+-- ---- depth
+
+-- func f() { } pure func g() int { return 1; } func main() { }
+abbrev deeper : Tree
+deeper = tree (codes "f" ∷ codes "g" ∷ codes "main" ∷ []) (function_item (function (head false (n 0 1 6) ([]) None) (block (at 1 10) (at 1 12) no_stmts)) ∷ function_item (function (head true (n 1 1 24) ([]) (Some (int_type (at 1 28)))) (block (at 1 32) (at 1 44) (more_stmts (return_value (at 1 34) (number (at 1 41) (pos 1))) no_stmts))) ∷ function_item (function (head false (n 2 1 51) ([]) None) (block (at 1 58) (at 1 60) no_stmts)) ∷ [])
+
+-- a call of this function from `main` where so many freezes are open
+abbrev call_in : ℕ → ℕ → Judged Typed → Option Outcome
+call_in freezes k (fine program) =
+    Some (outcome_of (called (level (parts_of program) 10) (function_named (parts_of program) k) [] (function_frame (codes "f") (at 7 7)) (in_main ∷ []) [] (record (begin 10) { regions = freezes; frozen = freezes })))
+call_in freezes k (faulty f fs) = None
+
+the_last_call : call_in 99998 0 (typed deeper) ≡ done 1 []
+the_last_call = refl
+
+-- it traps before its tick, in the function that calls
+a_call_too_deep : call_in 99999 0 (typed deeper) ≡ trapped 0 [] CallDepth (at 7 7) (in_main ∷ [])
+a_call_too_deep = refl
+
+-- a call of a pure function counts two
+the_last_pure_call : call_in 99997 1 (typed deeper) ≡ done 1 []
+the_last_pure_call = refl
+
+a_pure_call_too_deep : call_in 99998 1 (typed deeper) ≡ trapped 0 [] CallDepth (at 7 7) (in_main ∷ [])
+a_pure_call_too_deep = refl
+
+-- ---- input
+
+numbers_between_blanks : taken takes_numbers (codes "1 -2\n") ≡ Ok (numbers (pos 1 ∷ negsuc 1 ∷ []))
+numbers_between_blanks = refl
+
+no_numbers : taken takes_numbers [] ≡ Ok (numbers [])
+no_numbers = refl
+
+no_number_at_its_place : taken takes_numbers (codes "1 2 x") ≡ Err 4
+no_number_at_its_place = refl
+
+no_int_at_its_place : taken takes_numbers (codes "9223372036854775808") ≡ Err 0
+no_int_at_its_place = refl
+
+lines_of_a_text : taken takes_lines (codes "a\n\nb") ≡ Ok (lines (codes "a" ∷ [] ∷ codes "b" ∷ []))
+lines_of_a_text = refl
+
+a_last_line_feed : taken takes_lines (codes "a\n") ≡ Ok (lines (codes "a" ∷ []))
+a_last_line_feed = refl
+
+no_lines_of_nothing : taken takes_lines [] ≡ Ok (lines [])
+no_lines_of_nothing = refl

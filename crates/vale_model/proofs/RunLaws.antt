@@ -137,7 +137,7 @@ iteration_goes n at k body h =
     bind_goes (suc n) (deep 1 at) _ (deep_goes (suc n) 1 at)
     (λ _. tick_goes n (under (iteration_frame k at) (in_region body)) (under_goes n (iteration_frame k at) (in_region body) (in_region_goes n body (fewer_goes n body h))))
 
-in_order_goes : (n : ℕ) (at : Spot) (k : ℕ) (vs : List Value) (body : Value → Run (Option Value)) → ((v : Value) → AlwaysGoesOn (suc n) (body v)) → AlwaysGoesOn (suc n) (in_order at k vs body)
+pub in_order_goes : (n : ℕ) (at : Spot) (k : ℕ) (vs : List Value) (body : Value → Run (Option Value)) → ((v : Value) → AlwaysGoesOn (suc n) (body v)) → AlwaysGoesOn (suc n) (in_order at k vs body)
 in_order_goes n at k [] body h = give_goes (suc n) []
 in_order_goes n at k (v ∷ vs) body h =
     bind_goes (suc n) (iteration at k (body v)) _ (iteration_goes n at k (body v) (h v))
@@ -161,7 +161,7 @@ numbered_goes n at a b = by (nat_lt width_limit (width_of a b))
     by true = trap_goes n LoopTooWide at
     by false = give_goes n (indices (width_of a b) a)
 
-emptied_goes : (n name : ℕ) (o : Option Object) → AlwaysGoesOn (suc n) (emptied name o)
+pub emptied_goes : (n name : ℕ) (o : Option Object) → AlwaysGoesOn (suc n) (emptied name o)
 emptied_goes n name None = wrong_goes (suc n)
 emptied_goes n name (Some o) =
     tick_goes n (change (dies name) >>= (λ _. give o.values)) (bind_goes n (change (dies name)) _ (change_goes n (dies name) (dies_later name)) (λ _. give_goes n o.values))

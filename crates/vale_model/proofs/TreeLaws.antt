@@ -37,7 +37,7 @@ plus_goes (Own x) w s = ints_goes p.add (Own x) w s
 plus_goes (Ref x) w s = ints_goes p.add (Ref x) w s
 plus_goes (Iso x) w s = ints_goes p.add (Iso x) w s
 
-operated_goes : (op : BinaryOp) (v w : Value) (s : State) → StepGoesOn s (operated op v w s)
+pub operated_goes : (op : BinaryOp) (v w : Value) (s : State) → StepGoesOn s (operated op v w s)
 operated_goes Or v w s = tt
 operated_goes And v w s = tt
 operated_goes Equal v w s = compare_goes o.equal v w s
@@ -73,7 +73,7 @@ module _ (again : Again) (n : ℕ) (follows : Follows again n) where
       bind_goes (suc n) (deep 1 at) _ (deep_goes (suc n) 1 at)
       (λ _. destroyed_by_goes (destructor_in again.parts (type_of_kind again.parts x.kind)) m x (drop_frame (kind_text again.parts x.kind) at))
 
-  destroy_goes : (at : Spot) (m : ℕ) → AlwaysGoesOn (suc n) (destroy again at m)
+  pub destroy_goes : (at : Spot) (m : ℕ) → AlwaysGoesOn (suc n) (destroy again at m)
   destroy_goes at m = record { from = λ calls l s lt. (destroyed_goes at m (object_of m s)).from calls l s lt }
 
   pub drop_goes : (at : Spot) (v : Option Value) → AlwaysGoesOn (suc n) (drop again at v)
@@ -96,7 +96,7 @@ module _ (again : Again) (n : ℕ) (follows : Follows again n) where
   pub leave_goes : (A : Type 0) (at : Spot) (v : Option Value) → AlwaysGoesOn {A = A} (suc n) (leave again at v)
   leave_goes A at v = record { from = λ calls l s lt. then_goes s (suc n) (drop_locals again at l calls [] s) (λ u l s. returned v s) lt ((drop_locals_goes at l).from calls [] s lt) (λ u l t lt. (later_refl t, tt)) }
 
-  with_local_goes : {A : Type 0} (end : Spot) (x : ℕ) (v : Value) (m : Run A) → AlwaysGoesOn (suc n) m → AlwaysGoesOn (suc n) (with_local again end x v m)
+  pub with_local_goes : {A : Type 0} (end : Spot) (x : ℕ) (v : Value) (m : Run A) → AlwaysGoesOn (suc n) m → AlwaysGoesOn (suc n) (with_local again end x v m)
   with_local_goes end x v m h = record {
     from = λ calls l s lt. then_goes s (suc n) (m calls (record { name = Some x; value = Some v } ∷ l) s) _ lt
         (h.from calls (record { name = Some x; value = Some v } ∷ l) s lt)
@@ -175,7 +175,7 @@ module _ (again : Again) (n : ℕ) (follows : Follows again n) where
   dispatched_on_goes at x m vs dead = trap_goes (suc n) DeadReference at
   dispatched_on_goes at x m vs nowhere = wrong_goes (suc n)
 
-  dispatched_goes : (at : Spot) (x : Option Ty) (m : ℕ) (v : Value) (vs : List Value) → AlwaysGoesOn (suc n) (dispatched again at x m v vs)
+  pub dispatched_goes : (at : Spot) (x : Option Ty) (m : ℕ) (v : Value) (vs : List Value) → AlwaysGoesOn (suc n) (dispatched again at x m v vs)
   dispatched_goes at x m v vs = record { from = λ calls l s lt. (dispatched_on_goes at x m vs (look v s)).from calls l s lt }
 
   built_in_goes : (at : Spot) (f : BuiltIn) (vs : List Value) → AlwaysGoesOn (suc n) (built_in_run again at f vs)

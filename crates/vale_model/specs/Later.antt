@@ -1,6 +1,5 @@
 -- How a part of a program goes on from a state: as runs do.
-use Rattle.std.specs.Prelude.{ℕ, ◌<◌, Option, Some, None}
-use Rattle.vale_base.specs.Outcome.{End}
+use Rattle.std.specs.Prelude.{ℕ, ◌<◌}
 use Rattle.vale_base.specs.State.{State, Calls}
 use Rattle.vale_text.specs.Later.{Later, EndsRight}
 use Rattle.vale_model.specs.Runs.{Locals, Result, goes, returned, ended, Run}

@@ -1,15 +1,18 @@
 //! What holds of every run: laws of the definitions, each the contract of a function that does nothing.
 
 ghost use Rattle.std.specs.Prelude.{◌≡◌, ◌≤◌, ℕ, slice_get};
-ghost use Rattle.vale_base.specs.Outcome.{Cut};
+ghost use Rattle.vale_base.specs.Outcome.{Cut, Wrong};
 ghost use Rattle.vale_base.specs.State.{State, Calls, Given};
+ghost use Rattle.vale_base.specs.World.{IsDead};
+ghost use Rattle.vale_base.specs.declared.spot.Spot.{Spot};
 ghost use Rattle.vale_syntax.specs.Typed.{Typed, Block};
+ghost use Rattle.vale_model.specs.Destruction.{Again, destroy};
 ghost use Rattle.vale_model.specs.Expressions.{block_run};
-ghost use Rattle.vale_text.specs.Later.{StampsRise, NameLater};
+ghost use Rattle.vale_text.specs.Later.{StampsRise, NameLater, Begins};
 ghost use Rattle.vale_model.specs.Loops.{state_in};
 ghost use Rattle.vale_model.specs.Meaning.{level, meaning};
 ghost use Rattle.vale_model.specs.Parts.{Parts};
-ghost use Rattle.vale_model.specs.Runs.{Locals};
+ghost use Rattle.vale_model.specs.Runs.{Locals, ended};
 
 /// A run spends no more ticks than it may.
 pub fn ticks_stay_within()
@@ -36,4 +39,19 @@ pub fn names_never_return()
     ensures { (parts : Parts) (ticks : ℕ) (block : Block) (calls : Calls) (locals : Locals) (s : State)
         → s.left ≤ ticks → (name : ℕ)
         → NameLater (slice_get s.world name) (slice_get (state_in (block_run (level parts ticks) block calls locals s)).world name) }
+{}
+
+/// An object is dropped at most once: where it has died no rule drops it, and it stays dead.
+pub fn the_dead_are_not_dropped()
+    ensures { (again : Again) (at : Spot) (name : ℕ) (calls : Calls) (locals : Locals) (s : State)
+        → IsDead s.world name → destroy again at name calls locals s ≡ ended Wrong s }
+{}
+
+/// With more ticks a run prints what it printed, and goes on from there; one that wasn't cut is the same.
+pub fn more_ticks_go_further()
+    ensures printed { (program : Typed) (input : Given) (fewer more : ℕ) → fewer ≤ more
+        → Begins (meaning program input fewer).pieces (meaning program input more).pieces }
+    ensures same { (program : Typed) (input : Given) (fewer more : ℕ) → fewer ≤ more
+        → ((meaning program input fewer).end ≡ Cut → ⊥)
+        → meaning program input more ≡ meaning program input fewer }
 {}

@@ -4,4 +4,7 @@
 
 mod laws;
 
-pub use laws::{cut_where_no_tick_is_left, names_never_return, stamps_rise, ticks_stay_within};
+pub use laws::{
+    cut_where_no_tick_is_left, more_ticks_go_further, names_never_return, stamps_rise,
+    the_dead_are_not_dropped, ticks_stay_within,
+};

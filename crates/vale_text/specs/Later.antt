@@ -1,6 +1,6 @@
 -- How a run goes on: ticks are only spent, pieces are only added, names are only given, and the dead stay dead.
 use Rattle.std.specs.Prelude.{◌≡◌, ◌⊎◌, ℕ, ◌+◌, ◌≤◌, List, [], ◌∷◌, ◌++◌, Option, Some, None, slice_get}
-use Rattle.vale_base.specs.Outcome.{End, Done, Trap, Cut, Wrong}
+use Rattle.vale_base.specs.Outcome.{End, Cut}
 use Rattle.vale_base.specs.State.{State, Answer, gives, traps, fails}
 use Rattle.vale_base.specs.World.{Object}
 use Rattle.vale_base.specs.declared.piece.Piece.{Piece}
