@@ -1,6 +1,7 @@
 -- What a part has that isn't there yet, by its own parts.
-use Rattle.std.proofs.Common.{◌≡◌, ℕ, List, [], ◌∷◌, refl, ap, ◌∙◌, sym, rules}
-use Rattle.std.specs.Prelude.{Bool, true, false, ◌||◌, Option, None, Some, map, option_map}
+use Rattle.std.proofs.Common.{◌≡◌, List, [], ◌∷◌, refl, ap, ◌∙◌, sym, rules}
+use Rattle.std.specs.List.{list_all}
+use Rattle.std.specs.Prelude.{Bool, true, false, ◌||◌, Option, None, map, option_map}
 use Rattle.vale_base.specs.declared.spot.Spot.{Spot}
 use Rattle.vale_syntax.specs.declared.tree.Expr.{Expr, the_lemmas}
 use Rattle.vale_syntax.specs.declared.tree.Block.{Block, out-Block}
@@ -11,7 +12,8 @@ use Rattle.vale_syntax.specs.Tree as t
 use Rattle.vale_syntax.specs.View.{listed, view_expr, view_form, view_stmt, view_block, view_else_if, view_link, elses_of, else_end, stmts_of, last_end}
 use Rattle.vale_syntax.proofs.ViewLaws as v
 use Rattle.vale_front.specs.declared.missing.Missing.{Missing}
-use Rattle.vale_front.specs.Missing.{nothing, ◌▸◌, in_expr, in_link, in_form, in_else_if, in_elses, in_block, in_stmts, in_stmt}
+use Rattle.vale_front.specs.Missing.{nothing, ◌▸◌, in_expr, in_link, in_form, in_else_if, in_elses, in_block, in_stmts, in_stmt, in_item, in_items}
+use Rattle.vale_types.specs.Plain.{is_plain}
 
 or_or : (a b c : Bool) → ((a || b) || c) ≡ (a || (b || c))
 or_or true b c = refl
@@ -58,3 +60,18 @@ elses_by_parts (e ∷ es) end = ap (λ b. in_else_if e ▸ b) (elses_by_parts es
 
 pub if_by_parts : (at : Spot) (c : Expr) (b : Block) (es : List ElseIf) (o : Option Block) → in_form (view_form (f.If at c b es o)) ≡ (in_expr (view_expr c) ▸ (in_block (view_block b) ▸ (in_elses (elses_of (map view_else_if es) None) ▸ in_elses (else_end (option_map view_block o)))))
 if_by_parts at c b es o = ap in_form (v.of_if at c b es o) ∙ ap (λ x. in_expr (view_expr c) ▸ (in_block (view_block b) ▸ x)) (elses_by_parts (map view_else_if es) (else_end (option_map view_block o)))
+
+-- ---- what the phases judge
+
+both_false : (a b : Bool) → (a || b) ≡ false → b ≡ false
+both_false true b h = absurd cc
+both_false false b h = h
+
+-- where nothing is unjudged, there are structs and functions alone
+pub plain_where_judged : (items : List t.Item) → (in_items items).unjudged ≡ false → list_all is_plain items ≡ true
+plain_where_judged [] h = refl
+plain_where_judged (t.struct_item n fs ∷ xs) h = plain_where_judged xs h
+plain_where_judged (t.interface_item n hs ∷ xs) h = absurd cc
+plain_where_judged (t.impl_item at i s fs ∷ xs) h = absurd cc
+plain_where_judged (t.function_item (t.function d b) ∷ xs) h =
+    plain_where_judged xs (both_false (in_item (t.function_item (t.function d b))).unjudged (in_items xs).unjudged h)

@@ -1,5 +1,5 @@
 -- Which texts are accepted, and what the others are refused with.
-use Rattle.std.specs.Prelude.{ℕ, ◌≡◌, ◌≤◌, ◌<◌, Bool, true, false, List, length}
+use Rattle.std.specs.Prelude.{ℕ, ◌≡◌, ◌≤◌, ◌<◌, true, false, List, length}
 use Rattle.vale_base.specs.Limits.{program_limit}
 use Rattle.vale_base.specs.declared.spot.Spot.{Spot}
 use Rattle.vale_front.specs.Missing.{missing_in}
@@ -12,8 +12,9 @@ use Rattle.vale_syntax.specs.Judged.{IsFine, IsFirstFault}
 use Rattle.vale_syntax.specs.Tree.{Tree}
 use Rattle.vale_syntax.specs.Typed.{Typed}
 use Rattle.vale_syntax.specs.Typing.{typed}
-use Rattle.vale_syntax.specs.WellFormed.{Reads, WellFormed}
+use Rattle.vale_syntax.specs.WellFormed.{Reads}
 use Rattle.vale_syntax.specs.declared.decls.Decls.{Decls}
+use Rattle.vale_syntax.specs.declared.fault.Fault.{Fault}
 use Rattle.vale_syntax.specs.declared.token.Tokens.{Tokens}
 
 -- The text has no tree, and is refused with this code at this spot: the first of its phases that can't go on says why.
@@ -32,10 +33,10 @@ pub data Unread (text : List ℕ) (code : ℕ) (at : Spot) : Type 0 where
 -- the phases, what they don't judge yet, and, after them, what isn't compiled yet.
 pub data Unsound (tree : Tree) (code : ℕ) (at : Spot) : Type 0 where
   not_judged : (missing_in tree).unjudged ≡ true → code ≡ 5 → at ≡ start → Unsound tree code at
-  ill_declared : (missing_in tree).unjudged ≡ false → IsFirstFault (declared tree) (record { code = code; at = at })
+  ill_declared : (missing_in tree).unjudged ≡ false → (f : Fault) → IsFirstFault (declared tree) f → code ≡ f.code → at ≡ f.at
       → Unsound tree code at
   ill_typed : (missing_in tree).unjudged ≡ false → (decls : Decls) → IsFine (declared tree) decls
-      → IsFirstFault (typed tree) (record { code = code; at = at })
+      → (f : Fault) → IsFirstFault (typed tree) f → code ≡ f.code → at ≡ f.at
       → Unsound tree code at
   not_served : (missing_in tree).unjudged ≡ false → (decls : Decls) (program : Typed) → IsFine (declared tree) decls
       → IsFine (typed tree) program → (missing_in tree).unserved ≡ true → code ≡ 5 → at ≡ start

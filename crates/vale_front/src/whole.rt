@@ -27,7 +27,6 @@ pub fn front(alloc: Global, text: &[u8]) -> Result<Sound, Fail<Refusal>>
 {
     match read(alloc, text) {
         Ok(tree) => judge(alloc, tree),
-        Err(Fail::Is(refusal)) => Err(Fail::Is(refusal)),
-        Err(Fail::Memory) => Err(Fail::Memory),
+        Err(fail) => Err(fail),
     }
 }

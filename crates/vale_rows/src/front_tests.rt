@@ -22,61 +22,163 @@ enum Answer {
 const TEXTS: [(&str, Answer); 57] = [
     ("func main() { @ }", Unread("E02 at 1:15\n")),
     ("func main() { print(\"\\q\"); }", Unread("E02 at 1:22\n")),
-    ("func main() { x = 9223372036854775808; }", Unread("E03 at 1:19\n")),
-    ("func main() { println(18446744073709551616); }", Unread("E03 at 1:23\n")),
+    (
+        "func main() { x = 9223372036854775808; }",
+        Unread("E03 at 1:19\n"),
+    ),
+    (
+        "func main() { println(18446744073709551616); }",
+        Unread("E03 at 1:23\n"),
+    ),
     ("func main() { print(\"a); }", Unread("E04 at 1:21\n")),
     ("\"", Unread("E04 at 1:1\n")),
     ("func main() { x = ; }", Unread("E05 at 1:19\n")),
     ("func main() {", Unread("E05 at 1:14\n")),
-    ("func main() { x = ((((((((((((((((((((((((((((((((((((((((((((((((((((((((((((((((1)))))))))))))))))))))))))))))))))))))))))))))))))))))))))))))))); }", Unread("E06 at 1:82\n")),
-    ("func main() { x = ----------------------------------------------------------------1; }", Unread("E06 at 1:82\n")),
-    ("struct A { } struct A { } func main() { }", Refused("E10 at 1:21\n")),
+    (
+        "func main() { x = ((((((((((((((((((((((((((((((((((((((((((((((((((((((((((((((((1)))))))))))))))))))))))))))))))))))))))))))))))))))))))))))))))); }",
+        Unread("E06 at 1:82\n"),
+    ),
+    (
+        "func main() { x = ----------------------------------------------------------------1; }",
+        Unread("E06 at 1:82\n"),
+    ),
+    (
+        "struct A { } struct A { } func main() { }",
+        Refused("E10 at 1:21\n"),
+    ),
     ("func print() { } func main() { }", Refused("E10 at 1:6\n")),
-    ("func f(x Foo) { } func main() { }", Refused("E11 at 1:10\n")),
+    (
+        "func f(x Foo) { } func main() { }",
+        Refused("E11 at 1:10\n"),
+    ),
     ("func main() { x = []Foo(); }", Refused("E11 at 1:21\n")),
     ("", Refused("E13 at 1:1\n")),
     ("pure func main() { }", Refused("E13 at 1:11\n")),
-    ("func f(x iso []iso S) { } struct S { } func main() { }", Refused("E14 at 1:10\n")),
-    ("func f(x iso [][]iso S) { } struct S { } func main() { }", Refused("E14 at 1:10\n")),
-    ("func drop(x int) { } func main() { }", Refused("E15 at 1:6\n")),
-    ("struct S { } func drop(self S) int { return 1; } func main() { }", Refused("E15 at 1:19\n")),
-    ("struct S { a &imm S; } func main() { }", Refused("E16 at 1:14\n")),
-    ("func f(x &int) { } func main() { }", Refused("E16 at 1:10\n")),
+    (
+        "func f(x iso []iso S) { } struct S { } func main() { }",
+        Refused("E14 at 1:10\n"),
+    ),
+    (
+        "func f(x iso [][]iso S) { } struct S { } func main() { }",
+        Refused("E14 at 1:10\n"),
+    ),
+    (
+        "func drop(x int) { } func main() { }",
+        Refused("E15 at 1:6\n"),
+    ),
+    (
+        "struct S { } func drop(self S) int { return 1; } func main() { }",
+        Refused("E15 at 1:19\n"),
+    ),
+    (
+        "struct S { a &imm S; } func main() { }",
+        Refused("E16 at 1:14\n"),
+    ),
+    (
+        "func f(x &int) { } func main() { }",
+        Refused("E16 at 1:10\n"),
+    ),
     ("func main() { x = 1 + true; }", Refused("E20 at 1:21\n")),
     ("func main() { if 1 { } }", Refused("E20 at 1:15\n")),
     ("func main() { println(y); }", Refused("E21 at 1:23\n")),
     ("func main() { f(); }", Refused("E21 at 1:15\n")),
-    ("func f(a int) { } func main() { f(); }", Refused("E22 at 1:33\n")),
+    (
+        "func f(a int) { } func main() { f(); }",
+        Refused("E22 at 1:33\n"),
+    ),
     ("func main() { print(); }", Refused("E22 at 1:15\n")),
     ("func main() { set 1 = 2; }", Refused("E23 at 1:15\n")),
     ("func main() { x = &1; }", Refused("E23 at 1:19\n")),
-    ("struct S { a int; } func main() { s = S(1); set s.a = 2; }", Refused("E24 at 1:45\n")),
-    ("struct P { x int; y! int; } func main() { p = P(1, 2); set p.y = 3; set p.x = 4; }", Refused("E24 at 1:69\n")),
-    ("struct S { a int; } func main() { println(S(1).a); }", Refused("E25 at 1:47\n")),
-    ("struct S { a int; } func main() { x = []S(S(1))[0].a; }", Refused("E25 at 1:48\n")),
+    (
+        "struct S { a int; } func main() { s = S(1); set s.a = 2; }",
+        Refused("E24 at 1:45\n"),
+    ),
+    (
+        "struct P { x int; y! int; } func main() { p = P(1, 2); set p.y = 3; set p.x = 4; }",
+        Refused("E24 at 1:69\n"),
+    ),
+    (
+        "struct S { a int; } func main() { println(S(1).a); }",
+        Refused("E25 at 1:47\n"),
+    ),
+    (
+        "struct S { a int; } func main() { x = []S(S(1))[0].a; }",
+        Refused("E25 at 1:48\n"),
+    ),
     ("func f() int { } func main() { }", Refused("E26 at 1:6\n")),
-    ("func f(c bool) int { if c { return 1; } } func main() { }", Refused("E26 at 1:6\n")),
+    (
+        "func f(c bool) int { if c { return 1; } } func main() { }",
+        Refused("E26 at 1:6\n"),
+    ),
     ("func main() { x = 1; x = 2; }", Refused("E27 at 1:22\n")),
-    ("func main() { foreach i in 0..2 { i = 1; } }", Refused("E27 at 1:35\n")),
-    ("struct S { } struct B { s S; } func main() { b = B(S()); t = b.s; }", Refused("E28 at 1:63\n")),
-    ("struct S { } struct B { s S; } func main() { b = B(S()); drop(b.s); }", Refused("E28 at 1:64\n")),
+    (
+        "func main() { foreach i in 0..2 { i = 1; } }",
+        Refused("E27 at 1:35\n"),
+    ),
+    (
+        "struct S { } struct B { s S; } func main() { b = B(S()); t = b.s; }",
+        Refused("E28 at 1:63\n"),
+    ),
+    (
+        "struct S { } struct B { s S; } func main() { b = B(S()); drop(b.s); }",
+        Refused("E28 at 1:64\n"),
+    ),
     ("func main() { println(1 + 2); }", Runs("3\n")),
     ("func main() { }", Runs("")),
     ("func main() { println(1); println(2); }", Runs("1\n2\n")),
-    ("func f(a int, b str) int { return a; } func main() { println(f(1, \"x\")); }", Accepted),
-    ("func main() { x = 1; while x < 10 { set x = x * 2; } println(x); }", Accepted),
+    (
+        "func f(a int, b str) int { return a; } func main() { println(f(1, \"x\")); }",
+        Accepted,
+    ),
+    (
+        "func main() { x = 1; while x < 10 { set x = x * 2; } println(x); }",
+        Accepted,
+    ),
     ("func main() { foreach i in 0..3 { print(i); } }", Accepted),
-    ("func main() { if true { print(1); } else if false { print(2); } else { print(3); } }", Accepted),
-    ("func f(c bool) int { if c { return 1; } else { return 2; } } func main() { print(f(true)); }", Accepted),
-    ("func main() { println(slice(\"abc\", 0, len(\"abc\"))); println(byte(\"a\", 0)); }", Accepted),
-    ("func main() { println(text(number(\"12\") - 3)); println(is_number(\"a\")); }", Accepted),
-    ("func main() { println(not (1 < 2) and \"a\" != \"b\" or true == false); }", Accepted),
-    ("func main() { x = if true { 1 } else { 2 }; println(x); }", Accepted),
-    ("struct S { a! int; } func main() { s = S(1); set s.a = 2; println(s.a); }", NotServed),
-    ("func main() { xs = []int(1, 2); push(&xs, 3); println(len(&xs)); }", NotServed),
-    ("pure func f(n int) int { return n; } func main() { println(f(1)); }", NotServed),
-    ("func main(input []int) { println(len(&input)); }", NotServed),
-    ("interface I { func m(self &I); } func main() { }", NotServed),
+    (
+        "func main() { if true { print(1); } else if false { print(2); } else { print(3); } }",
+        Accepted,
+    ),
+    (
+        "func f(c bool) int { if c { return 1; } else { return 2; } } func main() { print(f(true)); }",
+        Accepted,
+    ),
+    (
+        "func main() { println(slice(\"abc\", 0, len(\"abc\"))); println(byte(\"a\", 0)); }",
+        Accepted,
+    ),
+    (
+        "func main() { println(text(number(\"12\") - 3)); println(is_number(\"a\")); }",
+        Accepted,
+    ),
+    (
+        "func main() { println(not (1 < 2) and \"a\" != \"b\" or true == false); }",
+        Accepted,
+    ),
+    (
+        "func main() { x = if true { 1 } else { 2 }; println(x); }",
+        Accepted,
+    ),
+    (
+        "struct S { a! int; } func main() { s = S(1); set s.a = 2; println(s.a); }",
+        NotServed,
+    ),
+    (
+        "func main() { xs = []int(1, 2); push(&xs, 3); println(len(&xs)); }",
+        NotServed,
+    ),
+    (
+        "pure func f(n int) int { return n; } func main() { println(f(1)); }",
+        NotServed,
+    ),
+    (
+        "func main(input []int) { println(len(&input)); }",
+        NotServed,
+    ),
+    (
+        "interface I { func m(self &I); } func main() { }",
+        NotServed,
+    ),
 ];
 
 const NOT_SERVED: &str = "E05 at 1:1\n";
@@ -109,7 +211,12 @@ fn is(seen: &Seen, expected: Expected) -> bool {
         && seen.err.as_slice() == err.as_bytes()
 }
 
-fn call<R: Threads + Sync>(rt: &R, alloc: Global, command: &str, text: &[u8]) -> Result<Seen, Fail> {
+fn call<R: Threads + Sync>(
+    rt: &R,
+    alloc: Global,
+    command: &str,
+    text: &[u8],
+) -> Result<Seen, Fail> {
     run_on(rt, alloc, &[command, "p"], text, &CALM)
 }
 
