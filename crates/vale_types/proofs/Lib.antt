@@ -1,8 +1,10 @@
-pub mod GrowLaws
+pub mod EdgeLaws
 pub mod IsoLaws
 pub mod LoopLaws
 pub mod PartLaws
 pub mod RowLaws
 pub mod Rules
+pub mod SpreadLaws
+pub mod TestLaws
 pub mod TypeLaws
 pub mod WalkLaws

@@ -1,6 +1,8 @@
 -- A loop over parts, each judged with those before it.
-use Rattle.std.proofs.Common.{◌≡◌, ℕ, ◌+◌, ◌<◌, ◌≤◌, List, ◌∷◌, length, get_or, drop, map, sym, ◌∙◌, ap}
-use Rattle.std.specs.Prelude.{Result, Ok, Err}
+use Rattle.std.proofs.Common.{◌≡◌, ℕ, ◌+◌, ◌<◌, ◌≤◌, List, [], ◌∷◌, length, get_or, drop, map, sym, ◌∙◌, ap, arith, zero, suc}
+use Rattle.std.specs.Prelude.{Bool, true, Result, Ok, Err}
+use Rattle.std.specs.List.{list_all}
+use Rattle.std.proofs.lemmas.Bool.{and_parts}
 use Rattle.std.proofs.lemmas.List.{drop_more, drop_all}
 use Rattle.vale_base.specs.declared.fault.Fail.{Fail}
 use Rattle.vale_base.specs.declared.fault.Fail.TheVariants.{Memory, Is}
@@ -28,3 +30,9 @@ module _ {X Y : Type 0} (judge : List Y → Y → List Fault) (view : X → Y) (
 
   pub parts_end : (k : ℕ) (whole : Result (Unit {0}) Fault) → length xs ≤ k → rest_from k ≡ whole → whole ≡ Ok (tt {0})
   parts_end k whole l e = sym e ∙ ap (λ (ys : List X). stopped (one_by_one judge before (map view ys)) (tt {0})) (drop_all k xs l)
+
+-- a part of a list whose parts all pass
+pub one_of_all : {X Y : Type 0} (test : Y → Bool) (view : X → Y) (xs : List X) (k : ℕ) (d : X) → k < length xs → list_all test (map view xs) ≡ true → test (view (get_or xs k d)) ≡ true
+one_of_all test view [] k d l e = absurd (omega arith)
+one_of_all test view (x ∷ xs) zero d l e = (and_parts (test (view x)) (list_all test (map view xs)) e).0
+one_of_all test view (x ∷ xs) (suc k) d l e = one_of_all test view xs k d (omega arith) (and_parts (test (view x)) (list_all test (map view xs)) e).1

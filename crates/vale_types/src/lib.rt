@@ -8,10 +8,12 @@ mod collect;
 mod heads;
 mod items;
 mod known;
+mod mentions;
 mod names;
 mod program;
 mod reach;
 mod special;
+mod spread;
 mod texts;
 mod types;
 

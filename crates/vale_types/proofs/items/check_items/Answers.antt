@@ -5,8 +5,7 @@ use Rattle.vale_syntax.specs.Judged.{stopped, one_by_one}
 use Rattle.vale_syntax.specs.View.{view_item}
 use Rattle.vale_syntax.specs.DeclFaults.{item_faults}
 use Rattle.vale_types.specs.Plain.{is_plain}
-use Rattle.vale_types.proofs.LoopLaws.{part_passes, part_fails, parts_end}
-use Rattle.vale_types.proofs.GrowLaws.{one_of_all}
+use Rattle.vale_types.proofs.LoopLaws.{part_passes, part_fails, parts_end, one_of_all}
 use Rattle.vale_types.proofs.items.check_items.Goals as goal
 
 pub loop-item-init : goal.loop-item-init
@@ -20,7 +19,7 @@ pub check_item-requires : goal.check_item-requires
 check_item-requires c = record {
   knows = c.requires.knows;
   main = c.requires.main;
-  plain = subst (λ (x : Item). is_plain (view_item x) ≡ true) (sym c.item-item.is) (one_of_all is_plain c.args.items.now c.loop-item.item-index c.item-item.result c.loop-item-test.true c.requires.plain);
+  plain = subst (λ (x : Item). is_plain (view_item x) ≡ true) (sym c.item-item.is) (one_of_all is_plain view_item c.args.items.now c.loop-item.item-index c.item-item.result c.loop-item-test.true c.requires.plain);
 }
 
 pub loop-item-preserved : goal.loop-item-preserved
