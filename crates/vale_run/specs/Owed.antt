@@ -66,15 +66,15 @@ pub data RunsTo (text : List ℕ) (options : Options) (a : Answer) : Type 0 wher
   runs : (tree : Tree) (decls : Decls) (types : Typed) (program : Program) → Accepts text tree decls types
       → served_program tree ≡ Some program → EndsWith (meaning program options.ticks) a → RunsTo text options a
 
--- what is printed of the numbers of checks that are kept and that are dropped
-abbrev pub counts_text : ℕ → ℕ → List ℕ
-counts_text kept elided = codes "kept " ++ decimal kept ++ codes "\nelided " ++ decimal elided ++ codes "\n"
+-- so many checks are kept and so many dropped
+abbrev pub counted : ℕ → ℕ → Answer
+counted kept elided = record { status = 0; out = codes "kept " ++ decimal kept ++ codes "\nelided " ++ decimal elided ++ codes "\n"; err = [] }
 
 -- the answer to the check of a text; no program that is accepted so far has a site
 pub data ChecksTo (text : List ℕ) (a : Answer) : Type 0 where
   refused_check : (code : ℕ) (at : Spot) → Refused text code at → a ≡ refused code at → ChecksTo text a
   checks : (tree : Tree) (decls : Decls) (types : Typed) → Accepts text tree decls types
-      → a ≡ record { status = 0; out = counts_text 0 0; err = [] } → ChecksTo text a
+      → a ≡ counted 0 0 → ChecksTo text a
 
 -- the answer to the laying out of a text: every tree is served
 pub data FormatsTo (text : List ℕ) (a : Answer) : Type 0 where

@@ -3,7 +3,7 @@ ghost use Rattle.std.specs.Prelude.{◌≡◌, ◌≤◌, ℕ, List, IfOk, IsErr
 ghost use Rattle.vale_base.specs.Outcome.{Cut};
 ghost use Rattle.vale_model.specs.Sums.{ends, meaning};
 ghost use Rattle.vale_ports.specs.Shelf.{HasFile, KeepsFiles, ReadsFile};
-ghost use Rattle.vale_run.specs.Owed.{refused, bad_word, EndsWith, RunsTo, ChecksTo, FormatsTo, Owes, ReadFailed, ReadFails};
+ghost use Rattle.vale_run.specs.Owed.{refused, bad_word, counted, EndsWith, RunsTo, ChecksTo, FormatsTo, Owes, ReadFailed, ReadFails};
 ghost use Rattle.vale_words.specs.Words.{Asks, texts};
 
 use crate::code::{lower, run};
@@ -130,16 +130,24 @@ pub fn run_text(alloc: Global, text: &[u8], options: &Options) -> Result<Answer,
     }
 }
 
+// So many checks are kept and so many dropped.
+fn counted(alloc: Global, kept: u64, elided: u64) -> Result<Answer, Memory>
+    ensures { IfOk result (λ a. a ≡ counted kept elided) }
+{
+    let counts = format!(in alloc; "kept {kept}\nelided {elided}\n")?;
+    Ok(Answer {
+        status: 0,
+        out: Text::from_slice(alloc, counts.as_bytes())?,
+        err: Text::new(alloc),
+    })
+}
+
 /// The answer to the check of a text.
 pub fn check_text(alloc: Global, text: &[u8]) -> Result<Answer, Memory>
     ensures { IfOk result (λ a. ChecksTo text.now a) }
 {
     match front(alloc, text) {
-        Ok(_sound) => Ok(Answer {
-            status: 0,
-            out: Text::from_slice(alloc, b"kept 0\nelided 0\n")?,
-            err: Text::new(alloc),
-        }),
+        Ok(_sound) => counted(alloc, 0, 0),
         Err(Fail::Is(refusal)) => refused(alloc, refusal),
         Err(Fail::Memory) => Err(Memory),
     }
