@@ -1,0 +1,9 @@
+pub mod Certificate
+pub mod Input
+pub mod Known
+pub mod Numbers
+pub mod Rules
+pub mod Shape
+pub mod Small
+pub mod Types
+pub mod Walk

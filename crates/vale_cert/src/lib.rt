@@ -1,0 +1,19 @@
+//! The certificate of a code: facts on what the registers of its functions hold at labels, with which a code is known
+//! never to go wrong.
+//!
+//! For now these instructions are certified: those on numbers, truths and texts but `move`, `jump`, `unless`, `tick`, the
+//! call of a plain function, `ret` and `retvoid`. Every other instruction breaks rule 2.
+#![tactic(auto)]
+
+mod facts;
+mod fault;
+mod known;
+mod lawful;
+mod laws;
+mod numbers;
+mod rules;
+mod types;
+
+pub use facts::{Facts, FuncFacts, Label, RegFact};
+pub use fault::Fault;
+pub use laws::certified_code_never_goes_wrong;
