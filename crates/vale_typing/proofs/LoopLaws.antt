@@ -41,7 +41,7 @@ module _ {X Z A L : Type 0} (more : A → L → L) (seen : Z → A) (done : List
   -- the part has no fault, and `left` is the answer to those behind it
   pub part_passes : (left : Result L Fault) (z : Z) → i < length xs → x ≡ get_or xs i x → rest (x ∷ drop (i + 1) xs) ≡ (left >>= λ b. Ok (more (seen z) b)) → with_parts more (map seen done) (rest (drop i xs)) ≡ whole → with_parts more (map seen (done ++ z ∷ [])) left ≡ whole
   part_passes left z l is e h =
-      ap (λ (as : List A). with_parts more as left) (map-append seen done (z ∷ []))
+      ap (λ (bs : List A). with_parts more bs left) (map-append seen done (z ∷ []))
       ∙ one_part more (map seen done) (seen z) left
       ∙ ap (with_parts more (map seen done)) (sym e)
       ∙ sym (ap (λ (ys : List X). with_parts more (map seen done) (rest ys)) (drop_more xs i x l ∙ ap (λ (y : X). y ∷ drop (i + 1) xs) (sym is)))

@@ -8,7 +8,7 @@ ghost use Rattle.vale_syntax.specs.Types.{same, is_void};
 ghost use Rattle.vale_syntax.specs.Typed as t;
 ghost use Rattle.vale_syntax.specs.Typed.{type, block_type, stmts_type, condition_types, block_types, has_else};
 ghost use Rattle.vale_syntax.specs.TypeRules.{is_bool, void_rules, branch_rules, consumed_rules, isolate_in};
-ghost use Rattle.vale_core.specs.View.{elses_of, else_end, view_ty, view_expr, view_block, view_else_if};
+ghost use Rattle.vale_core.specs.View.{elses_of, else_end, last_end, view_ty, view_expr, view_block, view_else_if};
 ghost use Rattle.vale_typing.specs.Valued.{view_inside, view_otherwise, view_valued};
 
 use crate::valued::{Inside, Otherwise, Valued};
