@@ -16,4 +16,4 @@ pub ruleset in_forms = (first_own, first_node, first_plain, first_both, first_sc
 
 pub ruleset typed_stmts = (c.of_declare, c.of_destructure, c.of_return_nothing, c.of_return_value, c.of_while, c.of_foreach, c.of_form_stmt, c.of_express)
 
-pub ruleset stmts = (first_own, first_node, first_plain, first_both, first_scoped, first_void, in_block_parts, v.of_declare, v.of_destructure, v.of_return_nothing, v.of_return_value, v.of_while, v.of_foreach, v.of_form_stmt, v.of_express)
+pub ruleset stmts = (first_own, first_node, first_plain, first_both, first_scoped, first_void, in_block_parts, v.of_declare, v.of_destructure, v.of_return, v.of_while, v.of_foreach, v.of_form_stmt, v.of_express)

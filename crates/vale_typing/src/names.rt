@@ -6,7 +6,7 @@ ghost use Rattle.vale_syntax.specs.Takes.{is_value_under};
 ghost use Rattle.vale_syntax.specs.Types as y;
 ghost use Rattle.vale_syntax.specs.TypeRules.{new_name_rules, isolate_in};
 ghost use Rattle.vale_syntax.specs.Typed.{type};
-ghost use Rattle.vale_syntax.specs.Typing.{new_names, with_locals, after, isolate_of, is_used};
+ghost use Rattle.vale_syntax.specs.Typing.{new_names, with_local, with_locals, after, isolate_of, is_used};
 ghost use Rattle.vale_core.specs.View.{view_ty, view_expr, view_stmt};
 ghost use Rattle.vale_type_rules.specs.Scope.{framed, locals};
 ghost use Rattle.vale_typing.specs.Walk.{env_at};
@@ -18,9 +18,9 @@ use vale_core::{Expr, Stmt, Ty};
 use vale_syntax::{Fault, NameAt, Step, UnaryOp};
 use vale_type_rules::{Local, Scope, is_visible, type_in};
 
-/// A name that is declared.
-pub fn new_name(scope: &Scope, name: NameAt) -> Result<NameAt, Fail<Fault>>
-    ensures { Gives (λ n. n) result (first (leaf name.at (new_name_rules name (locals scope.now)) name)) }
+/// Whether the name is a new one.
+pub fn new_name(scope: &Scope, name: NameAt) -> Result<(), Fail<Fault>>
+    ensures { Gives (λ u. name) result (first (leaf name.at (new_name_rules name (locals scope.now)) name)) }
 {
     if is_visible(scope, name) {
         return Err(Fail::Is(Fault {
@@ -28,7 +28,27 @@ pub fn new_name(scope: &Scope, name: NameAt) -> Result<NameAt, Fail<Fault>>
             at: name.at,
         }));
     }
-    Ok(name)
+    Ok(())
+}
+
+/// A local of this name and type, declared behind those of the frame.
+#[tactic(auto, using(crate::proofs::FrameLaws::framed_more))]
+fn push_local(
+    alloc: Global,
+    depth: u32,
+    frame: &mut Vec<Local>,
+    name: NameAt,
+    ty: &Ty,
+) -> Result<(), Memory>
+    ensures { OnOk result ((gives : y.Ty) (outer : List y.Local) → with_local name (view_ty ty.now) (env_at gives depth (framed frame.old.items outer)) ≡ env_at gives depth (framed frame.new.items outer)) }
+{
+    let ty = ty.copy(alloc)?;
+    let local = Local {
+        name: name.name,
+        ty,
+        depth,
+    };
+    Ok(frame.push(local)?)
 }
 
 /// Names that are declared together, each with those before it.
@@ -43,13 +63,9 @@ pub fn new_names(
     let mut frame = Vec::new(alloc);
     let mut done = Items::new(alloc);
     for name in names {
-        let name = new_name(&Scope::Frame(&frame, &*scope), *name)?;
-        frame.push(Local {
-            name: name.name,
-            ty: Ty::Void,
-            depth,
-        })?;
-        done.push(name)?;
+        new_name(&Scope::Frame(&frame, &*scope), *name)?;
+        push_local(alloc, depth, &mut frame, *name, &Ty::Void)?;
+        done.push(*name)?;
     }
     Ok(done)
 }
@@ -63,21 +79,17 @@ fn declare_each(
 ) -> Result<(), Memory>
     ensures { OnOk result ((gives : y.Ty) (outer : List y.Local) → with_locals names.now (map view_ty types.now) (env_at gives depth (framed frame.old.items outer)) ≡ env_at gives depth (framed frame.new.items outer)) }
 {
-    let mut left = types;
-    for name in names {
-        match left {
-            [] => return Ok(()),
-            [ty, more @ ..] => {
-                frame.push(Local {
-                    name: name.name,
-                    ty: ty.copy(alloc)?,
-                    depth,
-                })?;
-                left = more;
+    match names {
+        [] => Ok(()),
+        [name, names @ ..] => match types {
+            [] => Ok(()),
+            [ty, types @ ..] => {
+                push_local(alloc, depth, frame, *name, ty)?;
+                declare_each(alloc, depth, frame, names, types)?;
+                Ok(())
             }
-        }
+        },
     }
-    Ok(())
 }
 
 /// The locals that a statement leaves behind.
@@ -91,14 +103,7 @@ pub fn declare_all(
     ensures { OnOk result ((gives : y.Ty) (outer : List y.Local) → after (view_stmt stmt.now) (env_at gives depth (framed frame.old.items outer)) ≡ env_at gives depth (framed frame.new.items outer)) }
 {
     match stmt {
-        Stmt::Declare(name, ty, _) => {
-            frame.push(Local {
-                name: name.name,
-                ty: ty.copy(alloc)?,
-                depth,
-            })?;
-            Ok(())
-        }
+        Stmt::Declare(name, ty, _) => push_local(alloc, depth, frame, *name, ty),
         Stmt::Destructure(_, names, types, _) => {
             declare_each(alloc, depth, frame, names.as_slice(), types.as_slice())
         }

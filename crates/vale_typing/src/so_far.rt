@@ -22,11 +22,11 @@ pub struct LinksSoFar {
 }
 
 impl LinksSoFar {
-    pub fn new(alloc: Global, first: &Seen) -> Result<Self, Memory>
-        ensures before { IfOk result (λ s. s.before ≡ first.now) }
+    pub fn new(alloc: Global, start: &Seen) -> Result<Self, Memory>
+        ensures before { IfOk result (λ s. s.before ≡ start.now) }
         ensures done { IfOk result (λ s. s.done ≡ []) }
     {
-        let before = copy_seen(alloc, first)?;
+        let before = copy_seen(alloc, start)?;
         let done = Items::new(alloc);
         Ok(LinksSoFar { before, done })
     }
@@ -49,12 +49,12 @@ pub struct StepsSoFar {
 }
 
 impl StepsSoFar {
-    pub fn new(alloc: Global, local: Option<Name>, first: &Seen) -> Result<Self, Memory>
+    pub fn new(alloc: Global, local: Option<Name>, start: &Seen) -> Result<Self, Memory>
         ensures local { IfOk result (λ s. s.local ≡ local) }
-        ensures base { IfOk result (λ s. s.base ≡ first.now) }
+        ensures base { IfOk result (λ s. s.base ≡ start.now) }
         ensures done { IfOk result (λ s. s.done ≡ []) }
     {
-        let base = copy_seen(alloc, first)?;
+        let base = copy_seen(alloc, start)?;
         let done = Items::new(alloc);
         Ok(StepsSoFar { local, base, done })
     }

@@ -1,5 +1,5 @@
 use sqlite_items::{Boxed, Items};
-use vale_core::{Block, ElseIf, Expr, Form, Stmt, Ty};
+use vale_core::{Expr, Form, Stmt, Ty};
 
 /// A form, and the type of its value.
 #[derive(Drop)]
@@ -13,11 +13,4 @@ pub struct Valued {
 pub struct Inside {
     pub stmts: Items<Stmt>,
     pub last: Option<Boxed<Expr>>,
-}
-
-/// What stands after the first block of an `if`.
-#[derive(Drop)]
-pub struct Otherwise {
-    pub else_ifs: Items<ElseIf>,
-    pub last: Option<Block>,
 }

@@ -16,9 +16,8 @@ ghost use Rattle.vale_type_rules.specs.Scope.{framed};
 ghost use Rattle.vale_type_rules.specs.Table.{names_of, items_of};
 ghost use Rattle.vale_typing.specs.Walk.{env_at};
 
-use crate::check::type_block;
+use crate::check::type_void_block;
 use crate::copies::{copy_fields, copy_head, copy_heads};
-use crate::nodes;
 use sqlite_items::Items;
 use std::alloc::Global;
 use vale_base::{Fail, Memory};
@@ -71,9 +70,9 @@ fn type_function(
 {
     let gives = result_of(alloc, &function.head.result)?;
     let locals = params_in(alloc, function.head.params.as_slice())?;
-    let scope = Scope::Frame(&locals, &Scope::Outside);
-    let body = type_block(alloc, table, &gives, 0, &scope, &function.body)?;
-    let body = nodes::void_block(&function.body, body)?;
+    let outside = Scope::Outside;
+    let scope = Scope::Frame(&locals, &outside);
+    let body = type_void_block(alloc, table, &function.body, &gives, 0, &scope)?;
     let returns = block_returns(&function.body);
     function_over(alloc, &function.head, returns, body)
 }

@@ -9,10 +9,10 @@ ghost use Rattle.vale_syntax.specs.Typed as t;
 ghost use Rattle.vale_syntax.specs.Typed.{type, block_type, stmts_type, condition_types, block_types, has_else};
 ghost use Rattle.vale_syntax.specs.TypeRules.{is_bool, void_rules, branch_rules, consumed_rules, isolate_in};
 ghost use Rattle.vale_core.specs.View.{elses_of, else_end, last_end, view_ty, view_expr, view_block, view_else_if};
-ghost use Rattle.vale_typing.specs.Valued.{view_inside, view_otherwise, view_valued};
+ghost use Rattle.vale_typing.specs.Valued.{view_inside, view_valued};
 
-use crate::valued::{Inside, Otherwise, Valued};
-use sqlite_items::Boxed;
+use crate::valued::{Inside, Valued};
+use sqlite_items::{Boxed, Items};
 use std::alloc::Global;
 use vale_base::{Fail, Memory, Spot};
 use vale_core::{Block, ElseIf, Expr, Form, Ty};
@@ -119,13 +119,13 @@ fn has_end(ty: &Ty, otherwise: &Option<Block>) -> bool
 
 /// Whether the conditions are truths, and the blocks have one type, or none without `else`.
 #[tactic(auto, using(crate::proofs::PartLaws::else_at_end))]
-fn is_branch(condition: &Expr, ty: &Ty, elses: &Otherwise) -> bool
-    ensures { let es = view_otherwise elses.now in broken (branch_rules (type (view_expr condition.now) ∷ condition_types es) (view_ty ty.now) (block_types es) (has_else es)) ≡ (if result then None else Some 20) }
+fn is_branch(condition: &Expr, ty: &Ty, else_ifs: &[ElseIf], otherwise: &Option<Block>) -> bool
+    ensures { let es = elses_of (map view_else_if else_ifs.now) (option_map view_block otherwise.now) in broken (branch_rules (type (view_expr condition.now) ∷ condition_types es) (view_ty ty.now) (block_types es) (has_else es)) ≡ (if result then None else Some 20) }
 {
     is_bool(type_in(condition))
-        && have_conditions(elses.else_ifs.as_slice())
-        && have_blocks(ty, elses.else_ifs.as_slice())
-        && has_end(ty, &elses.last)
+        && have_conditions(else_ifs)
+        && have_blocks(ty, else_ifs)
+        && has_end(ty, otherwise)
 }
 
 /// `if c { } else if d { } else { }`.
@@ -135,15 +135,16 @@ pub fn branch(
     at: Spot,
     condition: Expr,
     block: Block,
-    elses: Otherwise,
+    else_ifs: Items<ElseIf>,
+    otherwise: Option<Block>,
 ) -> Result<Valued, Fail<Fault>>
-    ensures { let es = view_otherwise elses in Gives view_valued result (first (leaf at (branch_rules (type (view_expr condition) ∷ condition_types es) (block_type (view_block block)) (block_types es) (has_else es)) (block_type (view_block block), t.branch at (view_expr condition) (view_block block) es))) }
+    ensures { let es = elses_of (map view_else_if else_ifs) (option_map view_block otherwise) in Gives view_valued result (first (leaf at (branch_rules (type (view_expr condition) ∷ condition_types es) (block_type (view_block block)) (block_types es) (has_else es)) (block_type (view_block block), t.branch at (view_expr condition) (view_block block) es))) }
 {
     let ty = block_type(&block).copy(alloc)?;
-    if !is_branch(&condition, &ty, &elses) {
+    if !is_branch(&condition, &ty, else_ifs.as_slice(), &otherwise) {
         return Err(Fail::Is(Fault { code: 20, at }));
     }
-    let form = Form::branch(at, condition, block, elses.else_ifs, elses.last);
+    let form = Form::branch(at, condition, block, else_ifs, otherwise);
     Ok(Valued { ty, form })
 }
 
