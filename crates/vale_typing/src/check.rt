@@ -5,7 +5,8 @@ ghost use Rattle.vale_syntax.specs.View.{view_expr, view_form, view_step, view_s
 ghost use Rattle.vale_syntax.specs.declared.tree.Block.{out-Block};
 ghost use Rattle.vale_syntax.specs.Tree as e;
 ghost use Rattle.vale_syntax.specs.Typing as d;
-ghost use Rattle.vale_syntax.specs.Typing.{with_local};
+ghost use Rattle.vale_syntax.specs.Typed.{seen};
+ghost use Rattle.vale_syntax.specs.Typing.{with_local, name_in};
 ghost use Rattle.vale_core.specs.Plain.{number_of};
 ghost use Rattle.vale_core.specs.View as c;
 ghost use Rattle.vale_core.specs.View.{view_ty, view_seen};
@@ -47,8 +48,7 @@ fn type_expr(
         }
         Expr::Chain(first, links) => {
             let first = type_expr(alloc, table, first.get(), gives, depth, scope, true)?;
-            let links = links.as_slice();
-            let links = type_links(alloc, table, links, gives, depth, scope, seen_of(&first))?;
+            let links = type_links(alloc, table, links, gives, depth, scope, &first)?;
             nodes::chain(alloc, first, links)
         }
         Expr::Unary(at, op, operand) => {
@@ -57,14 +57,12 @@ fn type_expr(
             nodes::unary(alloc, *at, *op, operand)
         }
         Expr::Steps(base, steps) => {
-            let local = name_in(base.get());
-            let base = type_expr(alloc, table, base.get(), gives, depth, scope, false)?;
-            let steps = steps.as_slice();
-            let start = seen_of(&base);
+            let first = type_expr(alloc, table, base.get(), gives, depth, scope, false)?;
+            let base = base.get();
             let steps = type_steps(
-                alloc, table, steps, gives, depth, scope, as_value, local, start,
+                alloc, table, steps, gives, depth, scope, as_value, base, &first,
             )?;
-            nodes::steps(alloc, base, steps)
+            nodes::steps(alloc, first, steps)
         }
         Expr::Number(at, value) => nodes::number(alloc, *at, *value),
         Expr::Quote(at, text) => nodes::quote(alloc, *at, text),
@@ -134,16 +132,16 @@ fn type_link(
 fn type_links(
     alloc: Global,
     table: &Table,
-    links: &[Link],
+    links: &Items<Link>,
     gives: &Ty,
     depth: u32,
     scope: &Scope,
-    start: &Seen,
+    before: &typed::Expr,
 ) -> Result<Items<typed::Link>, Fail<Fault>>
-    ensures { Gives view_links result (first (d.links (names_of table.now) (items_of table.now) (env_at (view_ty gives.now) depth (locals scope.now)) (view_seen start.now) (links_of (map view_link links.now)))) }
+    ensures { Gives view_links result (first (d.links (names_of table.now) (items_of table.now) (env_at (view_ty gives.now) depth (locals scope.now)) (seen (c.view_expr before.now)) (links_of (map view_link links.now)))) }
 {
-    let mut so_far = LinksSoFar::new(alloc, start)?;
-    for link in links {
+    let mut so_far = LinksSoFar::new(alloc, seen_of(before))?;
+    for link in links.as_slice() {
         let link = type_link(alloc, table, link, gives, depth, scope, &so_far.before)?;
         so_far.push(alloc, link)?;
     }
@@ -184,17 +182,18 @@ fn type_step(
 fn type_steps(
     alloc: Global,
     table: &Table,
-    steps: &[Step],
+    steps: &Items<Step>,
     gives: &Ty,
     depth: u32,
     scope: &Scope,
     as_value: bool,
-    local: Option<Name>,
-    start: &Seen,
+    base: &Expr,
+    before: &typed::Expr,
 ) -> Result<Items<typed::Step>, Fail<Fault>>
-    ensures { Gives view_steps result (first (d.steps_from (names_of table.now) (items_of table.now) (env_at (view_ty gives.now) depth (locals scope.now)) as_value (number_of local) (view_seen start.now) (steps_of (map view_step steps.now)))) }
+    ensures { Gives view_steps result (first (d.steps_from (names_of table.now) (items_of table.now) (env_at (view_ty gives.now) depth (locals scope.now)) as_value (name_in (view_expr base.now)) (seen (c.view_expr before.now)) (steps_of (map view_step steps.now)))) }
 {
-    let mut so_far = StepsSoFar::new(alloc, local, start)?;
+    let mut so_far = StepsSoFar::new(alloc, name_in(base), seen_of(before))?;
+    let steps = steps.as_slice();
     for index in 0..steps.len() {
         let is_used = is_used(as_value, steps, index);
         let step = &steps[index];

@@ -5,6 +5,8 @@ use Rattle.vale_syntax.specs.Judged.{first}
 use Rattle.vale_syntax.specs.View.{view_expr, view_step, view_stmt, view_else_if, view_link, exprs_of, links_of, steps_of, elses_of, stmts_of}
 use Rattle.vale_syntax.specs.Typing as d
 use Rattle.vale_syntax.specs.Typed as t
+use Rattle.vale_syntax.specs.Typed.{seen}
+use Rattle.vale_syntax.specs.Typing.{name_in}
 use Rattle.vale_core.specs.Plain.{number_of}
 use Rattle.vale_core.specs.View as c
 use Rattle.vale_core.specs.View.{view_ty, view_seen}
@@ -24,12 +26,12 @@ invariant-type_exprs-loop-expr l =
 abbrev pub invariant-type_links-loop-link : goal.invariant-type_links-loop-link
 invariant-type_links-loop-link l =
     with_parts t.more_links (map c.view_link l.so_far.done) (first (d.links (names_of l.table) (items_of l.table) (env_at (view_ty l.gives) l.depth (locals l.scope)) (view_seen l.so_far.before) (links_of (map view_link (drop l.link-index l.links)))))
-    ≡ first (d.links (names_of l.table) (items_of l.table) (env_at (view_ty l.gives) l.depth (locals l.scope)) (view_seen l.start) (links_of (map view_link l.links)))
+    ≡ first (d.links (names_of l.table) (items_of l.table) (env_at (view_ty l.gives) l.depth (locals l.scope)) (seen (c.view_expr l.before)) (links_of (map view_link l.links)))
 
 abbrev pub invariant-type_steps-loop-index : goal.invariant-type_steps-loop-index
 invariant-type_steps-loop-index l =
     with_parts t.more_steps (map c.view_step l.so_far.done) (first (d.steps_from (names_of l.table) (items_of l.table) (env_at (view_ty l.gives) l.depth (locals l.scope)) l.as_value (number_of l.so_far.local) (view_seen l.so_far.base) (steps_of (map view_step (drop l.index l.steps)))))
-    ≡ first (d.steps_from (names_of l.table) (items_of l.table) (env_at (view_ty l.gives) l.depth (locals l.scope)) l.as_value (number_of l.fn.local) (view_seen l.start) (steps_of (map view_step l.steps)))
+    ≡ first (d.steps_from (names_of l.table) (items_of l.table) (env_at (view_ty l.gives) l.depth (locals l.scope)) l.as_value (name_in (view_expr l.base)) (seen (c.view_expr l.before)) (steps_of (map view_step l.steps)))
 
 abbrev pub invariant-type_else_ifs-loop-else_if : goal.invariant-type_else_ifs-loop-else_if
 invariant-type_else_ifs-loop-else_if l =

@@ -1,0 +1,123 @@
+use Rattle.std.proofs.Common.{ℕ, List, true, false, ◌+◌, map, drop, ap, sym, ◌∙◌}
+use Rattle.std.specs.Prelude.{Result, Ok, Option, None}
+use Rattle.std.proofs.lemmas.Result.{err_from_is_err_and}
+use Rattle.vale_syntax.specs.declared.fault.Fault.{Fault}
+use Rattle.vale_syntax.specs.declared.tree.Expr.{Expr}
+use Rattle.vale_base.specs.declared.name.Name.{Name}
+use Rattle.vale_syntax.specs.declared.tree.Link.{Link}
+use Rattle.vale_syntax.specs.declared.tree.Step.{Step}
+use Rattle.vale_syntax.specs.Judged.{first}
+use Rattle.vale_syntax.specs.Types.{Seen, a_value}
+use Rattle.vale_syntax.specs.TypeRules.{set_rules, set_gives}
+use Rattle.vale_syntax.specs.Typed as t
+use Rattle.vale_syntax.specs.Typed.{seen, type, may_be_set, chain_seen, steps_seen, link_seen, step_seen}
+use Rattle.vale_syntax.specs.Typing as d
+use Rattle.vale_syntax.specs.Typing.{name_in, is_used}
+use Rattle.vale_syntax.specs.View.{view_expr, view_link, view_step, exprs_of, links_of, steps_of}
+use Rattle.vale_syntax.proofs.ViewLaws.{of_set, of_chain, of_steps}
+use Rattle.vale_syntax.proofs.JudgedLaws.{◌>>=◌}
+use Rattle.vale_core.specs.Plain.{number_of}
+use Rattle.vale_core.specs.View as core
+use Rattle.vale_core.specs.View.{view_ty, view_seen}
+use Rattle.vale_type_rules.specs.Scope.{locals}
+use Rattle.vale_type_rules.specs.Table.{names_of, items_of}
+use Rattle.vale_typing.specs.Walk.{env_at, view_exprs, view_links, view_steps}
+use Rattle.vale_typing.proofs.LoopLaws.{pair_passes, after_passes, seen_passes}
+use Rattle.vale_typing.proofs.NodeLaws.{second_fails, after_fails}
+use Rattle.vale_typing.proofs.check.+check.Goals as goal
+
+-- ---- where the second part has a fault
+
+pub type_expr-returns-in_err-value-in-Set : goal.type_expr-returns-in_err-value-in-Set
+type_expr-returns-in_err-value-in-Set m c =
+    let names = names_of c.args.table.now in
+    let items = items_of c.args.table.now in
+    let env = env_at (view_ty c.args.gives.now) c.args.depth (locals c.args.scope.now) in
+    let p = err_from_is_err_and c.from_residual-in_err-value-in-Set.result c.from_residual-in_err-value-in-Set.ensures.1 in
+    rw (p.1, p.2, c.in-Set.is, of_set c.in-Set.at c.in-Set.place c.in-Set.value)
+    (second_fails c.in-Set.at (λ v. set_rules items (may_be_set v.0) (seen v.0).place (type v.1)) (λ v. t.expr (a_value (set_gives (seen v.0).place)) (t.set c.in-Set.at v.0 v.1))
+    (d.expr names items env false (view_expr c.in-Set.place)) (d.expr names items env true (view_expr c.in-Set.value)) (core.view_expr c.in_ok-place-in-Set.place)
+    core.view_expr core.view_expr c.in_err-value-in-Set.field-0.0 (rw c.get.ensures at c.in_ok-place-in-Set.ensures) (rw c.get-in-Set.ensures at c.in_err-value-in-Set.ensures))
+
+pub type_expr-returns-in_err-links-in-Chain : goal.type_expr-returns-in_err-links-in-Chain
+type_expr-returns-in_err-links-in-Chain m c =
+    let names = names_of c.args.table.now in
+    let items = items_of c.args.table.now in
+    let env = env_at (view_ty c.args.gives.now) c.args.depth (locals c.args.scope.now) in
+    let p = err_from_is_err_and c.from_residual-in_err-links-in-Chain.result c.from_residual-in_err-links-in-Chain.ensures.1 in
+    rw (p.1, p.2, c.in-Chain.is, of_chain c.in-Chain.first c.in-Chain.links)
+    (after_fails (λ v. t.expr (chain_seen (seen v.0) v.1) (t.chain v.0 v.1))
+    (d.expr names items env true (view_expr c.in-Chain.first)) (λ a. d.links names items env (seen a) (links_of (map view_link c.in-Chain.links))) (core.view_expr c.in_ok-first-in-Chain.first)
+    core.view_expr view_links c.in_err-links-in-Chain.field-0.0 (rw c.get-in-Chain.ensures at c.in_ok-first-in-Chain.ensures) c.in_err-links-in-Chain.ensures)
+
+pub type_expr-returns-in_err-steps-in-Steps : goal.type_expr-returns-in_err-steps-in-Steps
+type_expr-returns-in_err-steps-in-Steps m c =
+    let names = names_of c.args.table.now in
+    let items = items_of c.args.table.now in
+    let env = env_at (view_ty c.args.gives.now) c.args.depth (locals c.args.scope.now) in
+    let p = err_from_is_err_and c.from_residual-in_err-steps-in-Steps.result c.from_residual-in_err-steps-in-Steps.ensures.1 in
+    rw (p.1, p.2, c.in-Steps.is, of_steps c.in-Steps.base c.in-Steps.steps)
+    (after_fails (λ v. t.expr (steps_seen (seen v.0) v.1) (t.steps v.0 v.1))
+    (d.expr names items env false (view_expr c.in-Steps.base)) (λ a. d.steps_from names items env c.args.as_value (name_in (view_expr c.in-Steps.base)) (seen a) (steps_of (map view_step c.in-Steps.steps))) (core.view_expr c.in_ok-first-in-Steps.first)
+    core.view_expr view_steps c.in_err-steps-in-Steps.field-0.0 (rw c.get-in-Steps.ensures at c.in_ok-first-in-Steps.ensures) (rw c.get-base.ensures at c.in_err-steps-in-Steps.ensures))
+
+-- ---- lists, with one part more
+
+pub type_exprs-loop-expr-preserved : goal.type_exprs-loop-expr-preserved
+type_exprs-loop-expr-preserved m c =
+    let names = names_of c.args.table.now in
+    let items = items_of c.args.table.now in
+    let env = env_at (view_ty c.args.gives.now) c.args.depth (locals c.args.scope.now) in
+    let all = c.args.exprs.now in
+    let i = c.loop-expr.expr-index in
+    let x = c.expr-item.result in
+    let z = c.in_ok-type_expr.field-0 in
+    let rest : List Expr → Result t.Exprs Fault = λ xs. first (d.exprs names items env (exprs_of (map view_expr xs))) in
+    rw c.in_ok-push.ensures.ok
+    (seen_passes t.more_exprs core.view_expr c.loop-expr.done all i x x (rest all) rest (rest (drop (i + 1) all)) z c.loop-expr-test.true c.expr-item.is
+    (pair_passes (λ v. t.more_exprs v.0 v.1) (d.expr names items env true (view_expr x)) (core.view_expr z) (d.exprs names items env (exprs_of (map view_expr (drop (i + 1) all)))) c.in_ok-type_expr.ensures)
+    c.loop-expr.invariant)
+
+pub type_links-loop-link-preserved : goal.type_links-loop-link-preserved
+type_links-loop-link-preserved m c =
+    let names = names_of c.args.table.now in
+    let items = items_of c.args.table.now in
+    let env = env_at (view_ty c.args.gives.now) c.args.depth (locals c.args.scope.now) in
+    let all = c.args.links.now in
+    let i = c.loop-link.link-index in
+    let x = c.link-item.result in
+    let z = c.in_ok-link.link in
+    let here = view_seen c.loop-link.so_far.before in
+    let whole = first (d.links names items env (seen (core.view_expr c.args.before.now)) (links_of (map view_link all))) in
+    let rest : List Link → Result t.Links Fault = λ xs. first (d.links names items env here (links_of (map view_link xs))) in
+    let left : Seen → Result t.Links Fault = λ s. first (d.links names items env s (links_of (map view_link (drop (i + 1) all)))) in
+    rw c.in_ok-push.ensures.done
+    (seen_passes t.more_links core.view_link c.loop-link.so_far.done all i x x whole rest (left (view_seen c.push.new.self.before)) z c.loop-link-test.true c.link-item.is
+    (after_passes (λ v. t.more_links v.0 v.1) (d.operand names items env here (view_link x)) (core.view_link z) (λ a. d.links names items env (link_seen a) (links_of (map view_link (drop (i + 1) all)))) c.in_ok-link.ensures
+    ∙ ap (λ (s : Seen). left s >>= λ b. Ok (t.more_links (core.view_link z) b)) (sym c.in_ok-push.ensures.before))
+    c.loop-link.invariant)
+
+pub type_steps-loop-index-preserved : goal.type_steps-loop-index-preserved
+type_steps-loop-index-preserved m c =
+    let names = names_of c.args.table.now in
+    let items = items_of c.args.table.now in
+    let env = env_at (view_ty c.args.gives.now) c.args.depth (locals c.args.scope.now) in
+    let as_value = c.args.as_value in
+    let all = c.args.steps.now in
+    let i = c.loop-index.index in
+    let x = c.index-steps-index.result in
+    let z = c.in_ok-step.step in
+    let local = number_of c.loop-index.so_far.local in
+    let base = view_seen c.loop-index.so_far.base in
+    let new = c.push.new.self in
+    let whole = first (d.steps_from names items env as_value (name_in (view_expr c.args.base.now)) (seen (core.view_expr c.args.before.now)) (steps_of (map view_step all))) in
+    let rest : List Step → Result t.Steps Fault = λ xs. first (d.steps_from names items env as_value local base (steps_of (map view_step xs))) in
+    let left : Option ℕ → Seen → Result t.Steps Fault = λ l s. first (d.steps_from names items env as_value l s (steps_of (map view_step (drop (i + 1) all)))) in
+    let used = is_used as_value (steps_of (map view_step (drop (i + 1) all))) in
+    rw c.in_ok-push.ensures.done
+    (seen_passes t.more_steps core.view_step c.loop-index.so_far.done all i x x whole rest (left (number_of new.local) (view_seen new.base)) z c.loop-index-test.true c.index-steps-index.is
+    (after_passes (λ v. t.more_steps v.0 v.1) (d.step names items env used local base (view_step x)) (core.view_step z) (λ a. d.steps_from names items env as_value None (step_seen a) (steps_of (map view_step (drop (i + 1) all)))) (rw c.is_used-is_used.ensures at c.in_ok-step.ensures)
+    ∙ ap (λ (s : Seen). left None s >>= λ b. Ok (t.more_steps (core.view_step z) b)) (sym c.in_ok-push.ensures.base)
+    ∙ ap (λ (l : Option Name). left (number_of l) (view_seen new.base) >>= λ b. Ok (t.more_steps (core.view_step z) b)) (sym c.in_ok-push.ensures.local))
+    c.loop-index.invariant)
+
