@@ -141,7 +141,8 @@ fn type_links(
     ensures { Gives view_links result (first (d.links (names_of table.now) (items_of table.now) (env_at (view_ty gives.now) depth (locals scope.now)) (seen (c.view_expr before.now)) (links_of (map view_link links.now)))) }
 {
     let mut so_far = LinksSoFar::new(alloc, seen_of(before))?;
-    for link in links.as_slice() {
+    let links = links.as_slice();
+    for link in links {
         let link = type_link(alloc, table, link, gives, depth, scope, &so_far.before)?;
         so_far.push(alloc, link)?;
     }

@@ -83,7 +83,7 @@ type_links-loop-link-preserved m c =
     let names = names_of c.args.table.now in
     let items = items_of c.args.table.now in
     let env = env_at (view_ty c.args.gives.now) c.args.depth (locals c.args.scope.now) in
-    let all = c.args.links.now in
+    let all = c.as_slice-links.result.now in
     let i = c.loop-link.link-index in
     let x = c.link-item.result in
     let z = c.in_ok-link.link in
@@ -103,7 +103,7 @@ type_steps-loop-index-preserved m c =
     let items = items_of c.args.table.now in
     let env = env_at (view_ty c.args.gives.now) c.args.depth (locals c.args.scope.now) in
     let as_value = c.args.as_value in
-    let all = c.args.steps.now in
+    let all = c.as_slice-steps.result.now in
     let i = c.loop-index.index in
     let x = c.index-steps-index.result in
     let z = c.in_ok-step.step in
@@ -121,3 +121,32 @@ type_steps-loop-index-preserved m c =
     ∙ ap (λ (l : Option Name). left (number_of l) (view_seen new.base) >>= λ b. Ok (t.more_steps (core.view_step z) b)) (sym c.in_ok-push.ensures.local))
     c.loop-index.invariant)
 
+pub type_destructure-returns : goal.type_destructure-returns
+type_destructure-returns m c = ?
+
+pub type_else_ifs-loop-else_if-preserved : goal.type_else_ifs-loop-else_if-preserved
+type_else_ifs-loop-else_if-preserved m c = ?
+
+pub type_form-returns-in_err-else_ifs-in-If : goal.type_form-returns-in_err-else_ifs-in-If
+type_form-returns-in_err-else_ifs-in-If m c = ?
+
+pub type_form-returns-in_err-otherwise-in-If : goal.type_form-returns-in_err-otherwise-in-If
+type_form-returns-in_err-otherwise-in-If m c = ?
+
+pub type_form-returns-in_ok-otherwise-in-If : goal.type_form-returns-in_ok-otherwise-in-If
+type_form-returns-in_ok-otherwise-in-If m c = ?
+
+pub type_form-returns-in_err-block-in-ParallelRange : goal.type_form-returns-in_err-block-in-ParallelRange
+type_form-returns-in_err-block-in-ParallelRange m c = let h = c.in_err-block-in-ParallelRange.ensures in ?
+
+pub type_form-returns-in_ok-block-in-ParallelRange : goal.type_form-returns-in_ok-block-in-ParallelRange
+type_form-returns-in_ok-block-in-ParallelRange m c = ?
+
+pub type_stmt-returns-in_err-body-in-Foreach : goal.type_stmt-returns-in_err-body-in-Foreach
+type_stmt-returns-in_err-body-in-Foreach m c = ?
+
+pub type_stmt-returns-in_ok-body-in-Foreach : goal.type_stmt-returns-in_ok-body-in-Foreach
+type_stmt-returns-in_ok-body-in-Foreach m c = ?
+
+pub type_stmts-loop-stmt-preserved : goal.type_stmts-loop-stmt-preserved
+type_stmts-loop-stmt-preserved m c = ?
