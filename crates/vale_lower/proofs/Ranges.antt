@@ -10,12 +10,7 @@ use Rattle.std.proofs.lemmas.Int.{rem_below, fits_signed_from_abs}
 use Rattle.vale_base.specs.Limits.{text_limit}
 use Rattle.vale_base.specs.declared.trap.TrapKind.{TrapKind}
 use Rattle.vale_text.specs.Operations.{is_int, is_zero, int_or}
-
-abbrev pub is_byte : ℕ → Bool
-is_byte b = nat_le b 255
-
-abbrev pub is_lawful_text : List ℕ → Bool
-is_lawful_text t = nat_le (length t) text_limit && list_all is_byte t
+use Rattle.vale_lower.specs.Texts.{is_byte, is_lawful_text}
 
 pub record IsLawful (t : List ℕ) : Type 0 where
   pub short : length t ≤ text_limit

@@ -1,6 +1,6 @@
 -- Which programs are lowered so far: functions that aren't pure, numbers, truths and texts; names, literals, operators but `&` and
 -- `merge`, calls of functions and of the built-in functions on such values, parentheses, `if`, blocks, declarations, `set` of a local,
--- `return` and `while`.
+-- `return`, `while` and `foreach`.
 use Rattle.std.specs.Prelude.{Bool, true, false, not, ◌&&◌, ◌||◌}
 use Rattle.std.specs.List.{list_all}
 use Rattle.vale_syntax.specs.declared.built_in.BuiltIn.{BuiltIn}
@@ -91,7 +91,7 @@ abbrev mutual
   stmt_is_covered (return_nothing at) = true
   stmt_is_covered (return_value at e) = expr_is_covered e
   stmt_is_covered (while at c b) = expr_is_covered c && block_is_covered b
-  stmt_is_covered (foreach at n a e b) = false
+  stmt_is_covered (foreach at n a e b) = expr_is_covered a && expr_is_covered e && block_is_covered b
   stmt_is_covered (form_stmt f) = form_is_covered f
   stmt_is_covered (express e) = expr_is_covered e
 

@@ -63,6 +63,16 @@ loop_code place h test body =
     let t = test start in
     i.Jump start ∷ i.Tick ∷ (b ++ (t ++ (i.Unless h (start + length t + 2) ∷ i.Jump (place + 1) ∷ [])))
 
+-- A counter in h and the bound in h + 1: a turn for each number from the counter to the one before the bound. The difference of the
+-- counter to itself has no rule where it is no number; the test has none where the bound is no number then. Each turn gets a copy of
+-- the counter in the register behind both, so that what the body does with it leaves the counter as it is.
+abbrev pub count_code : ℕ → ℕ → Spot → (ℕ → List Instr) → List Instr
+count_code place h at body =
+    let r = h + 1 + 1 in
+    i.Sub r h h at ∷
+    loop_code (place + 1) r (λ place. i.Cmp r 2 h (h + 1) ∷ [])
+    (λ place. i.Copy r h ∷ (body (place + 1) ++ (i.Int r (pos 1) ∷ i.Add h h r at ∷ [])))
+
 -- ---- operators
 
 -- between h and h + 1, where the value has this type

@@ -12,9 +12,9 @@ use Rattle.vale_code.specs.Parts.{Parts as Code}
 use Rattle.vale_code.specs.declared.func.Func.{Func}
 use Rattle.vale_code.specs.declared.instr.Instr.{Instr}
 use Rattle.vale_code.specs.declared.instr.Instr.TheVariants as i
-use Rattle.vale_lower.specs.Instructions.{stuck, only_if, then_at, load, store, exchange, if_code, loop_code, link_code, unary_code, registers_from, built_in_code}
+use Rattle.vale_lower.specs.Instructions.{stuck, only_if, then_at, load, store, exchange, if_code, loop_code, count_code, link_code, unary_code, registers_from, built_in_code}
 use Rattle.vale_lower.specs.Scopes.{Scope, entry, waiting, place_of, parameters, code_type, agree, Around, number_of_text, number_of_function, may_be_called, result_type}
-use Rattle.vale_lower.specs.Texts.{function_quotes}
+use Rattle.vale_lower.specs.Texts.{function_quotes, is_lawful_text}
 
 abbrev pub count : Exprs → ℕ
 count no_exprs = 0
@@ -56,7 +56,7 @@ abbrev mutual
 
   pub node_code : Around → Bool → Node → ℕ → ℕ → Scope → List Instr
   node_code around gives (number at n) place h s = only_if (gives && is_int n) h (i.Int h n ∷ [])
-  node_code around gives (quote at text) place h s = only_if gives h (i.Text h (number_of_text text around.texts) ∷ [])
+  node_code around gives (quote at text) place h s = only_if (gives && is_lawful_text text) h (i.Text h (number_of_text text around.texts) ∷ [])
   node_code around gives (truth at b) place h s = only_if gives h (i.Truth h (truth_number b) ∷ [])
   node_code around gives (name n true) place h s = stuck h
   node_code around gives (name n false) place h s = only_if gives h (load (place_of n.name.0 s) h)
@@ -117,7 +117,11 @@ abbrev mutual
   stmt_code around (return_value at e) place h s = only_if around.gives h (value_code around e place h s ++ (i.Ret h ∷ []))
   stmt_code around (while at c b) place h s =
       loop_code place h (λ place. value_code around c place h s) (λ place. block_code around false b place h (h + 1) s)
-  stmt_code around (foreach at n a e b) place h s = stuck h
+  -- the counter in h, the bound in h + 1, and the local behind both
+  stmt_code around (foreach at n a e b) place h s =
+      then_at place (value_code around a place h s) (λ place.
+      then_at place (value_code around e place (h + 1) s) (λ place.
+      count_code place h at (λ place. block_code around false b place h (h + 1 + 1 + 1) (entry n.name.0 (h + 1 + 1) ∷ s))))
   stmt_code around (form_stmt f) place h s = form_code around false f place h s
   stmt_code around (express e) place h s = unused_code around e place h s
 
@@ -128,16 +132,35 @@ abbrev mutual
 
 -- ---- functions
 
--- more than the register that the instruction writes, and for a call the registers of its values; each register is first written by
--- one of these instructions, but for the parameters
+-- more than each of these registers
+abbrev pub room_of : List ℕ → ℕ
+room_of [] = 0
+room_of (r ∷ rs) = max (r + 1) (room_of rs)
+
+-- more than each register that the instruction names, for those that code is made of here
 abbrev pub room_for : Instr → ℕ
 room_for (i.Int to n) = to + 1
 room_for (i.Truth to n) = to + 1
 room_for (i.Text to n) = to + 1
 room_for (i.Copy to a) = max to a + 1
+room_for (i.Add to a b at) = max to (max a b) + 1
 room_for (i.Sub to a b at) = max to (max a b) + 1
-room_for (i.Call to f args at) = to + 1 + length args
+room_for (i.Mul to a b at) = max to (max a b) + 1
+room_for (i.Div to a b at) = max to (max a b) + 1
+room_for (i.Rem to a b at) = max to (max a b) + 1
 room_for (i.Cmp to n a b) = max to (max a b) + 1
+room_for (i.Not to a) = max to a + 1
+room_for (i.Join to a b at) = max to (max a b) + 1
+room_for (i.TextLen to a) = max to a + 1
+room_for (i.Slice to a x y at) = max (max to a) (max x y) + 1
+room_for (i.Byte to a x at) = max to (max a x) + 1
+room_for (i.TextOf to a) = max to a + 1
+room_for (i.IsNum to a) = max to a + 1
+room_for (i.Num to a at) = max to a + 1
+room_for (i.Print a n) = a + 1
+room_for (i.Unless a target) = a + 1
+room_for (i.Call to f args at) = max (to + 1) (room_of args)
+room_for (i.Ret a) = a + 1
 room_for _ = 0
 
 abbrev pub registers_in : List Instr → ℕ
