@@ -1,1 +1,5 @@
+mod Names
+mod Rows
+mod Runs
 mod Stands
+mod Ways

@@ -56,15 +56,15 @@ own (t.Ref m) e = absurd (cc)
 own (t.Frozen m) e = absurd (cc)
 own (t.Iso m) e = absurd (cc)
 
-pub reads_fine : {regs : List RegFact} {a : ℕ} {ty : CodeTy} {kept : Kept} → Fine kept → is_copy ty ≡ true → fact_of regs a ≡ Held ty 0 false → Fine (reads regs a ty kept)
-reads_fine {regs} {a} {ty} {kept} f copy e = record {
+pub reads_fine : (regs : List RegFact) (a : ℕ) {ty : CodeTy} {kept : Kept} → Fine kept → is_copy ty ≡ true → fact_of regs a ≡ Held ty 0 false → Fine (reads regs a ty kept)
+reads_fine regs a {ty} {kept} f copy e = record {
   types = and_from _ _ f.types (ap (has ty) e ∙ (own ty copy).has_it);
   present = and_from _ _ f.present (ap is_there e);
   depths = f.depths;
 }
 
-pub uses_fine : {depth : ℕ} {regs : List RegFact} {a : ℕ} {ty : CodeTy} {kept : Kept} → Fine kept → is_copy ty ≡ true → fact_of regs a ≡ Held ty 0 false → Fine (uses depth regs a ty kept)
-uses_fine {depth} {regs} {a} {ty} {kept} f copy e = record {
+pub uses_fine : (depth : ℕ) (regs : List RegFact) (a : ℕ) {ty : CodeTy} {kept : Kept} → Fine kept → is_copy ty ≡ true → fact_of regs a ≡ Held ty 0 false → Fine (uses depth regs a ty kept)
+uses_fine depth regs a {ty} {kept} f copy e = record {
   types = and_from _ _ f.types (ap (has ty) e ∙ (own ty copy).has_it);
   present = and_from _ _ f.present (ap is_there e);
   depths = and_from _ _ f.depths (ap (is_usable depth) e ∙ (own ty copy).usable depth);
@@ -86,7 +86,7 @@ module _ (k : Site) where
       → (room_for instr ≤ k.func.registers → numbers k.code k.func.registers instr ≡ true)
       → ((known : Known) → row_at k instr known ≡ gets known.depth known.regs (slot_register x) (code_type (slot_type x)) kept)
       → Runs k p (instr ∷ []) (mark due s ∷ []) due s false (with_slot x s)
-  sets instr x kept on no copy f number is = single k instr on no number (λ room known c. gets_does instr x kept (is known) f copy c)
+  sets instr x kept on none copy f number is = single k instr on none number (λ room known c. gets_does instr x kept (is known) f copy c)
 
   -- a register holds a value of a type
   abbrev pub Has : Stand → ℕ → CodeTy → Type 0
@@ -98,31 +98,31 @@ module _ (k : Site) where
       → (room_for instr ≤ k.func.registers → numbers k.code k.func.registers instr ≡ true)
       → ((known : Known) → row_at k instr known ≡ gets known.depth known.regs (slot_register x) (code_type (slot_type x)) (reads known.regs a ty fine))
       → Has s a ty → Says k s u → Runs k p (instr ∷ []) (mark due s ∷ []) due s false (with_slot x u)
-  from_one instr x a ty on no copy cty lt number is ha less =
-      single k instr on no number
-      (λ room known c. gets_does instr x (reads known.regs a ty fine) (is known) (reads_fine all_kept cty (c.held a ty (lt room) ha)) copy (covers_less k c less))
+  from_one instr x a ty on none copy cty lt number is ha less =
+      single k instr on none number
+      (λ room known c. gets_does instr x (reads known.regs a ty fine) (is known) (reads_fine known.regs a all_kept cty (c.held a ty (lt room) ha)) copy (covers_less k c less))
 
   pub from_two : {p : ℕ} {due : Bool} {s u : Stand} (instr : Instr) (x : Slot) (a b : ℕ) (ta tb : CodeTy) → goes_on instr ≡ true → target_of instr ≡ None → is_copy (code_type (slot_type x)) ≡ true → is_copy ta ≡ true → is_copy tb ≡ true
       → (room_for instr ≤ k.func.registers → (a < k.func.registers) × (b < k.func.registers))
       → (room_for instr ≤ k.func.registers → numbers k.code k.func.registers instr ≡ true)
       → ((known : Known) → row_at k instr known ≡ gets known.depth known.regs (slot_register x) (code_type (slot_type x)) (reads known.regs b tb (reads known.regs a ta fine)))
       → Has s a ta → Has s b tb → Says k s u → Runs k p (instr ∷ []) (mark due s ∷ []) due s false (with_slot x u)
-  from_two instr x a b ta tb on no copy ca cb lt number is ha hb less =
-      single k instr on no number
+  from_two instr x a b ta tb on none copy ca cb lt number is ha hb less =
+      single k instr on none number
       (λ room known c.
       gets_does instr x (reads known.regs b tb (reads known.regs a ta fine)) (is known)
-      (reads_fine (reads_fine all_kept ca (c.held a ta (lt room).0 ha)) cb (c.held b tb (lt room).1 hb)) copy (covers_less k c less))
+      (reads_fine known.regs b (reads_fine known.regs a all_kept ca (c.held a ta (lt room).0 ha)) cb (c.held b tb (lt room).1 hb)) copy (covers_less k c less))
 
   pub from_three : {p : ℕ} {due : Bool} {s u : Stand} (instr : Instr) (x : Slot) (a b d : ℕ) (ta tb td : CodeTy) → goes_on instr ≡ true → target_of instr ≡ None → is_copy (code_type (slot_type x)) ≡ true → is_copy ta ≡ true → is_copy tb ≡ true → is_copy td ≡ true
       → (room_for instr ≤ k.func.registers → (a < k.func.registers) × (b < k.func.registers) × (d < k.func.registers))
       → (room_for instr ≤ k.func.registers → numbers k.code k.func.registers instr ≡ true)
       → ((known : Known) → row_at k instr known ≡ gets known.depth known.regs (slot_register x) (code_type (slot_type x)) (reads known.regs d td (reads known.regs b tb (reads known.regs a ta fine))))
       → Has s a ta → Has s b tb → Has s d td → Says k s u → Runs k p (instr ∷ []) (mark due s ∷ []) due s false (with_slot x u)
-  from_three instr x a b d ta tb td on no copy ca cb cd lt number is ha hb hd less =
-      single k instr on no number
+  from_three instr x a b d ta tb td on none copy ca cb cd lt number is ha hb hd less =
+      single k instr on none number
       (λ room known c.
       gets_does instr x (reads known.regs d td (reads known.regs b tb (reads known.regs a ta fine))) (is known)
-      (reads_fine (reads_fine (reads_fine all_kept ca (c.held a ta (lt room).0 ha)) cb (c.held b tb (lt room).1 hb)) cd (c.held d td (lt room).2 hd)) copy (covers_less k c less))
+      (reads_fine known.regs d (reads_fine known.regs b (reads_fine known.regs a all_kept ca (c.held a ta (lt room).0 ha)) cb (c.held b tb (lt room).1 hb)) cd (c.held d td (lt room).2 hd)) copy (covers_less k c less))
 
   -- ---- numbers of registers
 
@@ -154,8 +154,8 @@ module _ (k : Site) where
       → (numbers k.code k.func.registers instr ≡ (nat_lt to k.func.registers && nat_lt a k.func.registers && nat_lt b k.func.registers))
       → ((known : Known) → row_at k instr known ≡ gets known.depth known.regs to t.Int (reads known.regs b t.Int (reads known.regs a t.Int fine)))
       → Has s a t.Int → Has s b t.Int → Says k s u → Runs k p (instr ∷ []) (mark due s ∷ []) due s false (with_slot (holds to y.int) u)
-  two_ints instr to a b on no room_is number is ha hb less =
-      from_two instr (holds to y.int) a b t.Int t.Int on no refl refl refl (λ room. (omega (arith, room, room_is), omega (arith, room, room_is)))
+  two_ints instr to a b on none room_is number is ha hb less =
+      from_two instr (holds to y.int) a b t.Int t.Int on none refl refl refl (λ room. (omega (arith, room, room_is), omega (arith, room, room_is)))
       (λ room. number ∙ two_below to a b (omega (arith, room, room_is))) is ha hb less
 
   pub add_runs : {p : ℕ} {due : Bool} {s u : Stand} (to a b : ℕ) (at : Spot) → Has s a t.Int → Has s b t.Int → Says k s u → Runs k p (i.Add to a b at ∷ []) (mark due s ∷ []) due s false (with_slot (holds to y.int) u)
@@ -272,9 +272,9 @@ module _ (k : Site) where
   Stored regs h (ty ∷ tys) = (fact_of regs h ≡ Held (code_type ty) 0 false) × Stored regs (h + 1) tys
 
   one_passed : (depth : ℕ) (regs : List RegFact) (h : ℕ) (ty : CodeTy) (row : Row) → is_copy ty ≡ true → fact_of regs h ≡ Held ty 0 false → row.after ≡ regs → Fine row.kept → Fine (passed depth h ty row).kept × ((passed depth h ty row).after ≡ regs)
-  one_passed depth regs h t.Int row copy e same f = (uses_fine f copy (ap (λ q. fact_of q h) same ∙ e), same)
-  one_passed depth regs h t.Truth row copy e same f = (uses_fine f copy (ap (λ q. fact_of q h) same ∙ e), same)
-  one_passed depth regs h t.Text row copy e same f = (uses_fine f copy (ap (λ q. fact_of q h) same ∙ e), same)
+  one_passed depth regs h t.Int row copy e same f = (uses_fine depth row.after h f copy (ap (λ q. fact_of q h) same ∙ e), same)
+  one_passed depth regs h t.Truth row copy e same f = (uses_fine depth row.after h f copy (ap (λ q. fact_of q h) same ∙ e), same)
+  one_passed depth regs h t.Text row copy e same f = (uses_fine depth row.after h f copy (ap (λ q. fact_of q h) same ∙ e), same)
   one_passed depth regs h t.Void row copy e same f = absurd (cc)
   one_passed depth regs h (t.Own m) row copy e same f = absurd (cc)
   one_passed depth regs h (t.Ref m) row copy e same f = absurd (cc)

@@ -72,13 +72,30 @@ module _ (k : Site) where
       or_else (fault_of (k.base + p) (broken (rules k.code k.func k.labels k.base p true instr known)))
       (W (p + 1) rest (known_after k.code k.func k.labels k.base instr known))
 
+  module _ (p : ℕ) (instr : Instr) (known : Known) where
+    abbrev into : Bool
+    into = true && enters k.code k.func k.labels k.base (target_of instr) (next_known instr known) && enters k.code k.func k.labels k.base (next_of k.code k.func k.labels k.base p instr) (next_known instr known)
+
+    abbrev places : Bool
+    places = has_target k.code k.func k.labels k.base (target_of instr) && is_place k.code k.func k.labels k.base (next_of k.code k.func k.labels k.base p instr)
+
+    abbrev last_two : Rules
+    last_two = (5, into) ∷ (7, places) ∷ []
+
+    two_kept : into ≡ true → places ≡ true → broken last_two ≡ None
+    two_kept a b = one_kept 5 into ((7, places) ∷ []) a (one_kept 7 places [] b refl)
+
+    none_broken : (row_at instr known).kept.types ≡ true → (row_at instr known).kept.present ≡ true → (row_at instr known).kept.depths ≡ true → broken last_two ≡ None → broken (rules k.code k.func k.labels k.base p true instr known) ≡ None
+    none_broken a b c two =
+        one_kept 2 (row_at instr known).kept.types ((3, (row_at instr known).kept.present) ∷ (4, (row_at instr known).kept.depths) ∷ last_two) a
+        (one_kept 3 (row_at instr known).kept.present ((4, (row_at instr known).kept.depths) ∷ last_two) b
+        (one_kept 4 (row_at instr known).kept.depths last_two c two))
+
   goes_on_well : (p : ℕ) (instr : Instr) (known : Known) (rest : List Instr) → Goes p instr known rest → go_on p instr rest known ≡ None
   goes_on_well p instr known rest g =
-      let five = one_kept 7 (has_target k.code k.func k.labels k.base (target_of instr) && is_place k.code k.func k.labels k.base (next_of k.code k.func k.labels k.base p instr)) [] (and_from _ _ g.target g.next) refl in
-      let four = one_kept 5 (true && enters k.code k.func k.labels k.base (target_of instr) (next_known instr known) && enters k.code k.func k.labels k.base (next_of k.code k.func k.labels k.base p instr) (next_known instr known)) _ (and_from _ _ g.to_target g.to_next) five in
-      let all : broken (rules k.code k.func k.labels k.base p true instr known) ≡ None =
-          one_kept 2 (row_at instr known).kept.types _ g.types (one_kept 3 (row_at instr known).kept.present _ g.present (one_kept 4 (row_at instr known).kept.depths _ g.depths four)) in
-      ap (λ b. or_else (fault_of (k.base + p) b) (W (p + 1) rest (known_after k.code k.func k.labels k.base instr known))) all ∙ g.walks
+      ap (λ b. or_else (fault_of (k.base + p) b) (W (p + 1) rest (known_after k.code k.func k.labels k.base instr known)))
+      (none_broken p instr known g.types g.present g.depths (two_kept p instr known (and_from _ _ g.to_target g.to_next) (and_from _ _ g.target g.next)))
+      ∙ g.walks
 
   walk_by : (p : ℕ) (instr : Instr) (rest : List Instr) (o : Option Known) (known : Known) → stated (label_at k.labels p) o ≡ Some known → Goes p instr known rest → W p (instr ∷ rest) o ≡ None
   walk_by p instr rest o known e g =
@@ -125,16 +142,16 @@ module _ (k : Site) where
     pub covers : Covers k (next_known instr known) u
 
   pub goes : {p : ℕ} {due d : Bool} {s u : Stand} {rest : List Instr} (instr : Instr) → goes_on instr ≡ true → target_of instr ≡ None → label_at k.labels p ≡ label_mark p (mark due s) → ((known : Known) → Covers k known s → Does instr known u) → Ready (p + 1) d u rest → Ready p due s (instr ∷ rest)
-  goes {p} {due} {d} {s} {u} {rest} instr on no e does r = step p due s instr rest e by
+  goes {p} {due} {d} {s} {u} {rest} instr on none e does r = step p due s instr rest e by
     where
       with_next : (known : Known) → Does instr known u → Arrives (p + 1) rest (next_known instr known) → Goes p instr known rest
       with_next known x a = record {
         types = x.types;
         present = x.present;
         depths = x.depths;
-        to_target = subst (λ o. enters k.code k.func k.labels k.base o (next_known instr known) ≡ true) (sym no) refl;
+        to_target = subst (λ o. enters k.code k.func k.labels k.base o (next_known instr known) ≡ true) (sym none) refl;
         to_next = subst (λ b. enters k.code k.func k.labels k.base (if b then Some (p + 1) else None) (next_known instr known) ≡ true) (sym on) a.enters;
-        target = subst (λ o. has_target k.code k.func k.labels k.base o ≡ true) (sym no) refl;
+        target = subst (λ o. has_target k.code k.func k.labels k.base o ≡ true) (sym none) refl;
         next = subst (λ b. is_place k.code k.func k.labels k.base (if b then Some (p + 1) else None) ≡ true) (sym on) (lt-ltb (p + 1) (length k.func.body) a.inside);
         inside = let lt = a.inside in omega (arith, lt);
         walks = subst (λ b. W (p + 1) rest (if b then Some (next_known instr known) else None) ≡ None) (sym on) a.walks;
@@ -213,11 +230,11 @@ module _ (k : Site) where
   back_each p q (c ∷ a) b [] mb len is f = absurd (omega (arith, len))
   back_each p q (c ∷ a) b (m ∷ ma) mb len is f = back_each (p + 1) q a b ma mb (omega (arith, len)) (omega (arith, is)) f.2
 
-  pub front : {p : ℕ} {a b : List Instr} {ma mb : Marks} → length ma ≡ length a → Fits p (a ++ b) (ma ++ mb) → Fits p a ma
-  front {p} {a} {b} {ma} {mb} len f = record { each = front_each p a b ma mb len f.each }
+  pub front : {p : ℕ} (a b : List Instr) (ma mb : Marks) → length ma ≡ length a → Fits p (a ++ b) (ma ++ mb) → Fits p a ma
+  front {p} a b ma mb len f = record { each = front_each p a b ma mb len f.each }
 
-  pub back : {p : ℕ} {a b : List Instr} {ma mb : Marks} → length ma ≡ length a → Fits p (a ++ b) (ma ++ mb) → Fits (p + length a) b mb
-  back {p} {a} {b} {ma} {mb} len f = record { each = back_each p (p + length a) a b ma mb len refl f.each }
+  pub back : {p : ℕ} (a b : List Instr) (ma mb : Marks) → length ma ≡ length a → Fits p (a ++ b) (ma ++ mb) → Fits (p + length a) b mb
+  back {p} a b ma mb len f = record { each = back_each p (p + length a) a b ma mb len refl f.each }
 
   pub tail : {p : ℕ} {c : Instr} {cs : List Instr} {m : Option Stand} {ms : Marks} → Fits p (c ∷ cs) (m ∷ ms) → Fits (p + 1) cs ms
   tail f = record { each = f.each.2 }
@@ -243,11 +260,11 @@ module _ (k : Site) where
   both {p} {a} {b} {ma} {mb} {due} {d} {e} {s} {u} {v} x z = record {
     along = length-append ma mb ∙ ap (λ n. n + length mb) x.along ∙ ap (λ n. length a + n) z.along ∙ sym (length-append a b);
     numbered = λ f.
-    list_all-append (numbers k.code k.func.registers) a b ∙ and_from _ _ (x.numbered (front x.along f)) (z.numbered (back x.along f));
+    list_all-append (numbers k.code k.func.registers) a b ∙ and_from _ _ (x.numbered (front a b ma mb x.along f)) (z.numbered (back a b ma mb x.along f));
     ready = λ f rest r.
     subst (λ l. Ready p due s l) (sym (append_assoc a b rest))
-    (x.ready (front x.along f) (b ++ rest)
-    (z.ready (back x.along f) rest (subst (λ q. Ready q e v rest) (let z : p + length (a ++ b) ≡ p + length a + length b = omega (arith, length-append a b) in z) r)));
+    (x.ready (front a b ma mb x.along f) (b ++ rest)
+    (z.ready (back a b ma mb x.along f) rest (subst (λ q. Ready q e v rest) (let z : p + length (a ++ b) ≡ p + length a + length b = omega (arith, length-append a b) in z) r)));
   }
 
   -- an instruction that goes on
@@ -255,8 +272,8 @@ module _ (k : Site) where
       → (room_for instr ≤ k.func.registers → numbers k.code k.func.registers instr ≡ true)
       → (room_for instr ≤ k.func.registers → (known : Known) → Covers k known s → Does instr known u)
       → Runs p (instr ∷ []) (mark due s ∷ []) due s false u
-  single instr on no number does = record {
+  single instr on none number does = record {
     along = refl;
     numbered = λ f. and_from _ _ (number f.each.1) refl;
-    ready = λ f rest r. goes instr on no f.each.0 (does f.each.1) r;
+    ready = λ f rest r. goes instr on none f.each.0 (does f.each.1) r;
   }

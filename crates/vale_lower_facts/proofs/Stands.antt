@@ -1,7 +1,7 @@
 -- What is known of registers against what the slots of a place say.
 use Rattle.std.proofs.Common.{◌≡◌, ◌≢◌, ℕ, zero, suc, ◌+◌, ◌<◌, ◌≤◌, List, [], ◌∷◌, length, Option, Some, None, Bool, true, false, ◌&&◌, ◌||◌, ◌==◌, if◌then◌else◌, refl, sym, ap, ◌∙◌, subst, ⊎_elim, ◌⊎◌, inl, inr, arith}
 use Rattle.std.specs.Prelude.{slice_get, slice_set}
-use Rattle.std.proofs.lemmas.Bool.{and_from, cases_eq, eq-eqb, ne_eqb}
+use Rattle.std.proofs.lemmas.Bool.{and_from, cases_eq, eq-eqb, eqb-true, ne_eqb}
 use Rattle.std.proofs.lemmas.List.{length-set}
 use Rattle.vale_syntax.specs.Types.{Ty}
 use Rattle.vale_syntax.specs.Types as y
@@ -104,12 +104,13 @@ module _ (k : Site) where
   pub record Below (h : ℕ) (s : Stand) : Type 0 where
     pub last : k.last.register < h
     pub free : (r : ℕ) → h ≤ r → slot_at s.slots r ≡ None
+    pub off_last : slot_at s.slots k.last.register ≡ None
 
   pub below_up : {h j : ℕ} {s : Stand} → h ≤ j → Below h s → Below j s
-  below_up le b = record { last = omega (arith, le, b.last); free = λ r ge. b.free r (omega (arith, le, ge)) }
+  below_up le b = record { last = omega (arith, le, b.last); free = λ r ge. b.free r (omega (arith, le, ge)); off_last = b.off_last }
 
   pub below_behind : {h : ℕ} {s : Stand} (returns : Bool) → Below h s → Below h (behind returns s)
-  below_behind returns b = record { last = b.last; free = b.free }
+  below_behind returns b = record { last = b.last; free = b.free; off_last = b.off_last }
 
   last_no : (over : Bool) (r : ℕ) → k.last.register ≢ r → or_last k.last over r None ≡ None
   last_no true r ne = ap (λ b. if b then k.last.ty else None) (ne_eqb k.last.register r ne)
@@ -133,7 +134,7 @@ module _ (k : Site) where
   type_there x s r ne = ap (or_last k.last s.over r) (slot_there x s r ne)
 
   pub below_slot : {s : Stand} (x : Slot) → Below (slot_register x) s → Below (slot_register x + 1) (with_slot x s)
-  below_slot {s} x b = record { last = let lt = b.last in omega (arith, lt); free = λ r le. slot_there x s r (omega (arith, le)) ∙ b.free r (omega (arith, le)) }
+  below_slot {s} x b = record { last = let lt = b.last in omega (arith, lt); free = λ r le. slot_there x s r (omega (arith, le)) ∙ b.free r (omega (arith, le)); off_last = slot_there x s k.last.register (let lt = b.last in omega (arith, lt)) ∙ b.off_last }
 
   -- a slot more says more
   pub says_slot : {s : Stand} (x : Slot) → Below (slot_register x) s → Says (with_slot x s) s
@@ -153,16 +154,17 @@ module _ (k : Site) where
           (λ ne. type_there x s r (λ q. ne (sym same ∙ q)) ∙ a.each r ty (sym (type_there z u r ne) ∙ e))
           (cases_eq (slot_register z) r)
 
-  or_more : (a b : Bool) (r : ℕ) (o : Option CodeTy) (ty : CodeTy) → or_last k.last a r o ≡ Some ty → or_last k.last (a || b) r o ≡ Some ty
+  or_more : (a b : Bool) (r : ℕ) (o : Option CodeTy) (ty : CodeTy) → or_last k.last a r o ≡ Some ty → or_last k.last (b || a) r o ≡ Some ty
   or_more a b r (Some u) ty e = e
-  or_more true b r None ty e = e
+  or_more true true r None ty e = e
+  or_more true false r None ty e = e
   or_more false b r None ty e = absurd (cc)
 
-  or_less : (a b c : Bool) (r : ℕ) (o : Option CodeTy) (ty : CodeTy) → (b ≡ true → c ≡ true) → or_last k.last (a || b) r o ≡ Some ty → or_last k.last (a || c) r o ≡ Some ty
+  or_less : (a b c : Bool) (r : ℕ) (o : Option CodeTy) (ty : CodeTy) → (b ≡ true → c ≡ true) → or_last k.last (b || a) r o ≡ Some ty → or_last k.last (c || a) r o ≡ Some ty
   or_less a b c r (Some u) ty f e = e
-  or_less true b c r None ty f e = e
-  or_less false true c r None ty f e = subst (λ x. or_last k.last x r None ≡ Some ty) (sym (f refl)) e
-  or_less false false c r None ty f e = absurd (cc)
+  or_less a true c r None ty f e = subst (λ x. or_last k.last (x || a) r None ≡ Some ty) (sym (f refl)) e
+  or_less a false true r None ty f e = or_more a true r None ty e
+  or_less a false false r None ty f e = e
 
   -- behind a part that has returned, more is said
   pub says_behind : (s : Stand) (returns : Bool) → Says (behind returns s) s
@@ -173,11 +175,60 @@ module _ (k : Site) where
 
   -- behind two parts
   pub says_both : (s : Stand) (a b : Bool) → Says (behind b (behind a s)) (behind (a || b) s)
-  says_both s a b = record { each = λ r ty e. subst (λ x. or_last k.last x r (slot_at s.slots r) ≡ Some ty) (sym (assoc s.over a b)) e }
+  says_both s a b = record { each = λ r ty e. subst (λ x. or_last k.last x r (slot_at s.slots r) ≡ Some ty) (sym (swap a b s.over)) e }
     where
-      assoc : (x y z : Bool) → ((x || y) || z) ≡ (x || (y || z))
-      assoc true y z = refl
-      assoc false y z = refl
+      swap : (x y z : Bool) → (y || (x || z)) ≡ ((x || y) || z)
+      swap true true z = refl
+      swap true false z = refl
+      swap false true z = refl
+      swap false false z = refl
+
+  pub says_given : (b : Bool) (h : ℕ) (ty : Ty) {s u : Stand} → Says s u → Says (given b h ty s) (given b h ty u)
+  says_given true h ty a = says_with (holds h ty) (holds h ty) refl refl a
+  says_given false h ty a = a
+
+  pub says_ungiven : (b : Bool) (h : ℕ) (ty : Ty) {s : Stand} → Below h s → Says (given b h ty s) s
+  says_ungiven true h ty b = says_slot (holds h ty) b
+  says_ungiven false h ty {s} b = says_same s
+
+  -- ---- a place in a block, and the place where the block stands
+
+  pub record Within (s o : Stand) : Type 0 where
+    pub over : s.over ≡ o.over
+    pub slots : (r : ℕ) (ty : CodeTy) → slot_at o.slots r ≡ Some ty → slot_at s.slots r ≡ Some ty
+    pub off_last : slot_at s.slots k.last.register ≡ None
+
+  pub within_same : {h : ℕ} {s : Stand} → Below h s → Within s s
+  within_same b = record { over = refl; slots = λ r ty e. e; off_last = b.off_last }
+
+  pub within_behind : {s o : Stand} (returns : Bool) → Within s o → Within (behind returns s) (behind returns o)
+  within_behind returns w = record { over = ap (λ x. returns || x) w.over; slots = w.slots; off_last = w.off_last }
+
+  pub within_slot : {s o : Stand} (x : Slot) → Below (slot_register x) s → Within s o → Within (with_slot x s) o
+  within_slot {s} {o} x b w = record {
+    over = w.over;
+    slots = λ r ty e. ⊎_elim (λ same. absurd (none r ty same (w.slots r ty e))) (λ ne. slot_there x s r ne ∙ w.slots r ty e) (cases_eq (slot_register x) r);
+    off_last = slot_there x s k.last.register (let lt = b.last in omega (arith, lt)) ∙ w.off_last;
+  }
+    where
+      none : (r : ℕ) (ty : CodeTy) → slot_register x ≡ r → slot_at s.slots r ≡ Some ty → ⊥
+      none r ty same e = let n : slot_at s.slots r ≡ None = b.free r (omega (arith, same)) in cc
+
+  pub says_within : {s o : Stand} → Within s o → Says s o
+  says_within {s} {o} w = record { each = λ r ty e. by r ty (slot_at o.slots r) refl e }
+    where
+      at_last : (r : ℕ) (ty : CodeTy) (a b : Bool) → o.over ≡ a → (k.last.register == r) ≡ b → (if a && b then k.last.ty else None) ≡ Some ty → type_at k.last s r ≡ Some ty
+      at_last r ty true true ea eb e =
+          let here : k.last.register ≡ r = eqb-true k.last.register r eb in
+          ap (or_last k.last s.over r) (ap (slot_at s.slots) (sym here) ∙ w.off_last)
+          ∙ ap (λ x. if x && (k.last.register == r) then k.last.ty else None) (w.over ∙ ea)
+          ∙ ap (λ x. if true && x then k.last.ty else None) eb ∙ e
+      at_last r ty true false ea eb e = absurd (cc)
+      at_last r ty false b ea eb e = absurd (cc)
+
+      by : (r : ℕ) (ty : CodeTy) (x : Option CodeTy) → slot_at o.slots r ≡ x → or_last k.last o.over r x ≡ Some ty → type_at k.last s r ≡ Some ty
+      by r ty (Some u) q e = let same : slot_at o.slots r ≡ Some ty = q ∙ e in ap (or_last k.last s.over r) (w.slots r ty same)
+      by r ty None q e = at_last r ty o.over (k.last.register == r) refl refl e
 
   -- ---- a register is written
 
@@ -255,7 +306,7 @@ module _ (k : Site) where
   or_copy a b r None ty h e = last_copy (b && (k.last.register == r)) ty e
 
   pub plain_behind : {s : Stand} (returns : Bool) → Plain s → Plain (behind returns s)
-  plain_behind {s} returns p = record { each = λ r ty lt e. or_copy s.over (s.over || returns) r (slot_at s.slots r) ty (p.each r ty lt) e }
+  plain_behind {s} returns p = record { each = λ r ty lt e. or_copy s.over (returns || s.over) r (slot_at s.slots r) ty (p.each r ty lt) e }
 
   type_same : (ty : CodeTy) → is_copy ty ≡ true → same_type ty ty ≡ true
   type_same t.Int e = refl

@@ -41,10 +41,10 @@ module _ (k : Site) where
   assoc_if : (test one two rest : List Instr) (x y : Instr) → (test ++ (x ∷ (one ++ (y ∷ two)))) ++ rest ≡ test ++ (x ∷ (one ++ (y ∷ (two ++ rest))))
   assoc_if test one two rest x y = append_assoc test (x ∷ (one ++ (y ∷ two))) rest ∙ ap (λ l. test ++ (x ∷ l)) (append_assoc one (y ∷ two) rest)
 
-  module _ {p h : ℕ} {test one two : List Instr} {tm om tw : Marks} {due dt d1 d2 : Bool} {s tested s1 b1 s2 b2 u : Stand} (x : Runs k p test tm due s dt tested) (is : type_at k.last tested h ≡ Some t.Truth)
+  module _ (p h : ℕ) (test one two : List Instr) (tm om tw : Marks) (due dt d1 d2 : Bool) (s tested s1 b1 s2 b2 u : Stand) (x : Runs k p test tm due s dt tested) (is : type_at k.last tested h ≡ Some t.Truth)
       (y : Runs k (p + length test + 1) one om false s1 d1 b1) (z : Runs k (p + length test + 1 + length one + 1) two tw true s2 d2 b2)
       (a1 : Says k tested s1) (a2 : Says k tested s2) (a3 : Says k b1 s2) (a4 : Says k b1 u) (a5 : Says k b2 u)
-  where
+      where
     abbrev other : ℕ
     other = p + length test + 1 + length one + 1
 
@@ -64,34 +64,41 @@ module _ (k : Site) where
 
     if_numbered : Fits k p whole (if_marks tm dt tested om d1 b1 tw) → numbered whole ≡ true
     if_numbered f =
-        let f2 = back k x.along f in
+        let f2 = back k test (i.Unless h other ∷ sides) tm (mark dt tested ∷ (om ++ (mark d1 b1 ∷ tw))) x.along f in
         let f3 = tail k f2 in
-        let f4 = back k y.along f3 in
+        let f4 = back k one (i.Jump end ∷ two) om (mark d1 b1 ∷ tw) y.along f3 in
         let room = f2.each.1 in
-        numbered_both test (i.Unless h other ∷ sides) (x.numbered (front k x.along f))
+        numbered_both test (i.Unless h other ∷ sides) (x.numbered (front k test (i.Unless h other ∷ sides) tm (mark dt tested ∷ (om ++ (mark d1 b1 ∷ tw))) x.along f))
         (and_from _ _ (lt-ltb h k.func.registers (omega (arith, room)))
-        (numbered_both one (i.Jump end ∷ two) (y.numbered (front k y.along f3)) (z.numbered (tail k f4))))
+        (numbered_both one (i.Jump end ∷ two) (y.numbered (front k one (i.Jump end ∷ two) om (mark d1 b1 ∷ tw) y.along f3)) (z.numbered (tail k f4))))
 
     if_ready : Fits k p whole (if_marks tm dt tested om d1 b1 tw) → (rest : List Instr) → Ready k (p + length whole) true u rest → Ready k p due s (whole ++ rest)
     if_ready f rest r =
-        let f2 = back k x.along f in
+        let f2 = back k test (i.Unless h other ∷ sides) tm (mark dt tested ∷ (om ++ (mark d1 b1 ∷ tw))) x.along f in
         let f3 = tail k f2 in
-        let f4 = back k y.along f3 in
+        let f4 = back k one (i.Jump end ∷ two) om (mark d1 b1 ∷ tw) y.along f3 in
         let room = f2.each.1 in
         let len : p + length whole ≡ end = omega (arith, length-append test (i.Unless h other ∷ sides), length-append one (i.Jump end ∷ two)) in
         let r' : Ready k end true u rest = ready_at len r in
         let two_ready : Ready k other true s2 (two ++ rest) = z.ready (tail k f4) rest (ready_due d2 (ready_more k a5 r')) in
         let jump_ready : Ready k (p + length test + 1 + length one) d1 b1 (i.Jump end ∷ (two ++ rest)) = jumps k end f4.each.0 (target_ready k r') a4 two_ready (λ pl. less a3 pl) in
-        let one_ready = y.ready (front k y.along f3) (i.Jump end ∷ (two ++ rest)) jump_ready in
+        let one_ready = y.ready (front k one (i.Jump end ∷ two) om (mark d1 b1 ∷ tw) y.along f3) (i.Jump end ∷ (two ++ rest)) jump_ready in
         ready_in (sym (assoc_if test one two rest (i.Unless h other) (i.Jump end)))
-        (x.ready (front k x.along f) (i.Unless h other ∷ (one ++ (i.Jump end ∷ (two ++ rest))))
+        (x.ready (front k test (i.Unless h other ∷ sides) tm (mark dt tested ∷ (om ++ (mark d1 b1 ∷ tw))) x.along f) (i.Unless h other ∷ (one ++ (i.Jump end ∷ (two ++ rest))))
         (tests k h other f2.each.0 (omega (arith, room)) is (target_ready k two_ready) a2 one_ready a1))
       where
         less : {v w : Stand} → Says k v w → Plain k v → Plain k w
         less a pl = record { each = λ r ty lt e. pl.each r ty lt (a.each r ty e) }
 
-    pub if_runs : Runs k p whole (if_marks tm dt tested om d1 b1 tw) due s true u
-    if_runs = record { along = if_along; numbered = if_numbered; ready = if_ready }
+    if_whole : Runs k p whole (if_marks tm dt tested om d1 b1 tw) due s true u
+    if_whole = record { along = if_along; numbered = if_numbered; ready = if_ready }
+
+  pub if_runs : {p : ℕ} (h : ℕ) {test one two : List Instr} {tm om tw : Marks} {due dt d1 d2 : Bool} {s tested s1 b1 s2 b2 u : Stand} → Runs k p test tm due s dt tested → type_at k.last tested h ≡ Some t.Truth
+      → Runs k (p + length test + 1) one om false s1 d1 b1 → Runs k (p + length test + 1 + length one + 1) two tw true s2 d2 b2
+      → Says k tested s1 → Says k tested s2 → Says k b1 s2 → Says k b1 u → Says k b2 u
+      → Runs k p (test ++ (i.Unless h (p + length test + 1 + length one + 1) ∷ (one ++ (i.Jump (p + length test + 1 + length one + 1 + length two) ∷ two)))) (if_marks tm dt tested om d1 b1 tw) due s true u
+  if_runs {p} h {test} {one} {two} {tm} {om} {tw} {due} {dt} {d1} {d2} {s} {tested} {s1} {b1} {s2} {b2} {u} x is y z a1 a2 a3 a4 a5 =
+      if_whole p h test one two tm om tw due dt d1 d2 s tested s1 b1 s2 b2 u x is y z a1 a2 a3 a4 a5
 
   -- a side that is run only where the register is true
   pub and_runs : {p h : ℕ} {one : List Instr} {om : Marks} {due d : Bool} {tested s1 b1 u : Stand} → type_at k.last tested h ≡ Some t.Truth → Runs k (p + 1) one om false s1 d b1 → Says k tested s1 → Says k tested u → Says k b1 u → Runs k p (i.Unless h (p + 1 + length one) ∷ one) (mark due tested ∷ om) due tested true u
@@ -109,9 +116,9 @@ module _ (k : Site) where
   ticks : {s : Stand} (known : Known) → Covers k known s → Does k i.Tick known s
   ticks known c = record { types = refl; present = refl; depths = refl; covers = covers_kept k c }
 
-  module _ {p h : ℕ} {body test : List Instr} {bm tm : Marks} (due : Bool) {d dt : Bool} {s b tested : Stand} (x : Runs k (p + 2) body bm false s d b) (y : Runs k (p + 2 + length body) test tm true s dt tested)
+  module _ (p h : ℕ) (body test : List Instr) (bm tm : Marks) (due d dt : Bool) (s b tested : Stand) (x : Runs k (p + 2) body bm false s d b) (y : Runs k (p + 2 + length body) test tm true s dt tested)
       (is : type_at k.last tested h ≡ Some t.Truth) (a1 : Says k b s) (a2 : Says k tested s)
-  where
+      where
     abbrev start : ℕ
     start = p + 2 + length body
 
@@ -138,32 +145,37 @@ module _ (k : Site) where
     loop_numbered : Fits k p loop loop_ms → numbered loop ≡ true
     loop_numbered f =
         let fb = inner f in
-        let ft = back k x.along fb in
-        let fe = back k y.along ft in
+        let ft = back k body (test ++ turns) bm (tm ++ (mark dt tested ∷ None ∷ [])) x.along fb in
+        let fe = back k test turns tm (mark dt tested ∷ None ∷ []) y.along ft in
         let room = fe.each.1 in
-        numbered_both body (test ++ turns) (x.numbered (front k x.along fb))
-        (numbered_both test turns (y.numbered (front k y.along ft)) (and_from _ _ (lt-ltb h k.func.registers (omega (arith, room))) refl))
+        numbered_both body (test ++ turns) (x.numbered (front k body (test ++ turns) bm (tm ++ (mark dt tested ∷ None ∷ [])) x.along fb))
+        (numbered_both test turns (y.numbered (front k test turns tm (mark dt tested ∷ None ∷ []) y.along ft)) (and_from _ _ (lt-ltb h k.func.registers (omega (arith, room))) refl))
 
     loop_ready : Fits k p loop loop_ms → (rest : List Instr) → Ready k (p + length loop) true s rest → Ready k p due s (loop ++ rest)
     loop_ready f rest r =
         let fb = inner f in
-        let ft = back k x.along fb in
-        let fe = back k y.along ft in
+        let ft = back k body (test ++ turns) bm (tm ++ (mark dt tested ∷ None ∷ [])) x.along fb in
+        let fe = back k test turns tm (mark dt tested ∷ None ∷ []) y.along ft in
         let room = fe.each.1 in
         let len : p + length loop ≡ loop_end = omega (arith, length-append body (test ++ turns), length-append test turns) in
         let r' : Ready k loop_end true s rest = ready_at len r in
         let r'' : Ready k (start + length test + 1 + 1) true s rest = ready_at (let z : loop_end ≡ start + length test + 1 + 1 = omega arith in z) r' in
         let back_ready : Ready k (start + length test + 1) false s (i.Jump (p + 1) ∷ rest) = jumps k (p + 1) fe.each.2.0 (target_label k f.each.2.0) (says_same k s) r'' (λ pl. pl) in
         let test_ready : Ready k start true s (test ++ (turns ++ rest)) =
-            y.ready (front k y.along ft) (turns ++ rest) (tests k h loop_end fe.each.0 (omega (arith, room)) is (target_ready k r') a2 back_ready a2) in
-        let body_ready : Ready k (p + 2) false s (body ++ (test ++ (turns ++ rest))) = x.ready (front k x.along fb) (test ++ (turns ++ rest)) (ready_due d (ready_more k a1 test_ready)) in
+            y.ready (front k test turns tm (mark dt tested ∷ None ∷ []) y.along ft) (turns ++ rest) (tests k h loop_end fe.each.0 (omega (arith, room)) is (target_ready k r') a2 back_ready a2) in
+        let body_ready : Ready k (p + 2) false s (body ++ (test ++ (turns ++ rest))) = x.ready (front k body (test ++ turns) bm (tm ++ (mark dt tested ∷ None ∷ [])) x.along fb) (test ++ (turns ++ rest)) (ready_due d (ready_more k a1 test_ready)) in
         let tick_ready : Ready k (p + 1) true s (i.Tick ∷ (body ++ (test ++ (turns ++ rest)))) =
             goes k i.Tick refl refl f.each.2.0 ticks (ready_at (let z : p + 2 ≡ p + 1 + 1 = omega arith in z) body_ready) in
         let all : Ready k p due s (i.Jump start ∷ i.Tick ∷ (body ++ (test ++ (turns ++ rest)))) = jumps k start f.each.0 (target_ready k test_ready) (says_same k s) tick_ready (λ pl. pl) in
         ready_in (ap (λ l. i.Jump start ∷ i.Tick ∷ l) (sym (append_assoc body (test ++ turns) rest ∙ ap (λ l. body ++ l) (append_assoc test turns rest)))) all
 
-    pub loop_runs : Runs k p loop loop_ms due s true s
-    loop_runs = record { along = loop_along; numbered = loop_numbered; ready = loop_ready }
+    loop_whole : Runs k p loop loop_ms due s true s
+    loop_whole = record { along = loop_along; numbered = loop_numbered; ready = loop_ready }
+
+  pub loop_runs : {p : ℕ} (h : ℕ) {body test : List Instr} {bm tm : Marks} (due : Bool) {d dt : Bool} {s b tested : Stand} → Runs k (p + 2) body bm false s d b → Runs k (p + 2 + length body) test tm true s dt tested
+      → type_at k.last tested h ≡ Some t.Truth → Says k b s → Says k tested s
+      → Runs k p (i.Jump (p + 2 + length body) ∷ i.Tick ∷ (body ++ (test ++ (i.Unless h (p + 2 + length body + length test + 2) ∷ i.Jump (p + 1) ∷ [])))) (loop_marks due s bm tm dt tested) due s true s
+  loop_runs {p} h {body} {test} {bm} {tm} due {d} {dt} {s} {b} {tested} x y is a1 a2 = loop_whole p h body test bm tm due d dt s b tested x y is a1 a2
 
   -- ---- returns
 
@@ -185,23 +197,17 @@ module _ (k : Site) where
     pub depths : (row_at k instr known).kept.depths ≡ true
 
   own_types : (ty : CodeTy) (x : RegFact) → is_plain x ≡ true → x ≡ Held ty 0 false → (has ty x ≡ true) × (is_there x ≡ true) × ((depth : ℕ) → is_usable depth x ≡ true)
-  own_types ty x pl e = by ty (subst (λ q. is_plain q ≡ true) e pl)
+  own_types ty x pl e = subst (λ x. (has ty x ≡ true) × (is_there x ≡ true) × ((depth : ℕ) → is_usable depth x ≡ true)) (sym e) (cases ty (subst (λ q. is_plain q ≡ true) e pl))
     where
-      all : (ty : CodeTy) → (has ty (Held ty 0 false) ≡ true) × ((depth : ℕ) → is_usable depth (Held ty 0 false) ≡ true) → (has ty (Held ty 0 false) ≡ true) × (is_there (Held ty 0 false) ≡ true) × ((depth : ℕ) → is_usable depth (Held ty 0 false) ≡ true)
-      all ty h = (h.0, refl, h.1)
-
-      cases : (ty : CodeTy) → is_plain (Held ty 0 false) ≡ true → (has ty (Held ty 0 false) ≡ true) × ((depth : ℕ) → is_usable depth (Held ty 0 false) ≡ true)
-      cases t.Int q = (refl, λ depth. refl)
-      cases t.Truth q = (refl, λ depth. refl)
-      cases t.Text q = (refl, λ depth. refl)
+      cases : (ty : CodeTy) → is_plain (Held ty 0 false) ≡ true → (has ty (Held ty 0 false) ≡ true) × (is_there (Held ty 0 false) ≡ true) × ((depth : ℕ) → is_usable depth (Held ty 0 false) ≡ true)
+      cases t.Int q = (refl, refl, λ depth. refl)
+      cases t.Truth q = (refl, refl, λ depth. refl)
+      cases t.Text q = (refl, refl, λ depth. refl)
       cases t.Void q = absurd (cc)
       cases (t.Own m) q = absurd (cc)
       cases (t.Ref m) q = absurd (cc)
       cases (t.Frozen m) q = absurd (cc)
       cases (t.Iso m) q = absurd (cc)
-
-      by : (ty : CodeTy) → is_plain (Held ty 0 false) ≡ true → (has ty x ≡ true) × (is_there x ≡ true) × ((depth : ℕ) → is_usable depth x ≡ true)
-      by u q = subst (λ x. (has ty x ≡ true) × (is_there x ≡ true) × ((depth : ℕ) → is_usable depth x ≡ true)) (sym e) (all ty (cases ty (subst (λ q. is_plain q ≡ true) e pl)))
 
   pub value_leaves : {s : Stand} (h : ℕ) (known : Known) → h < k.func.registers → type_at k.last s h ≡ Some k.func.result → Covers k known s → Leaves (i.Ret h) known
   value_leaves h known lt is c =

@@ -23,7 +23,7 @@ use Rattle.vale_lower.specs.Instructions.{load, unary_code}
 use Rattle.vale_lower.specs.Scopes.{code_type, place_of, agree, Around, result_type}
 use Rattle.vale_lower.specs.Texts.{is_lawful_text}
 use Rattle.vale_lower.specs.Lowered.{count, callee_code, set_code, store_code, around_of, names_in, lowered_function, functions_in, texts_in}
-use Rattle.vale_lower_facts.specs.Returned.{block_returns, stmt_returns}
+use Rattle.vale_lower_facts.specs.Returned.{block_returns, stmt_returns, expr_returns}
 use Rattle.vale_lower_facts.specs.Slots.{Slots, local, waits, holds, Stand, scope_at, with_slot, given, behind, Last, label_for}
 
 -- what each instruction of some code is marked with
@@ -118,7 +118,23 @@ if_marks test due tested one due_behind behind_one two = test ++ (mark due teste
 abbrev pub loop_marks : Bool → Stand → Marks → Marks → Bool → Stand → Marks
 loop_marks due s body test due_behind tested = mark due s ∷ Some s ∷ (body ++ (test ++ (mark due_behind tested ∷ None ∷ [])))
 
+-- of a loop over numbers, by what is known behind the bounds, behind the body and behind the test
+abbrev pub count_marks : Bool → Stand → Marks → Bool → Stand → Stand → Marks
+count_marks due s body due_behind behind_body tested =
+    mark due s ∷ loop_marks false s (None ∷ (body ++ (mark due_behind behind_body ∷ None ∷ []))) (Some s ∷ []) false tested
+
+-- of an operator between h, which holds a value of the type x, and an operand of the type y
+abbrev pub link_marks : BinaryOp → Ty → Ty → Bool → (ℕ → Stand → Bool → Marks) → ℕ → Stand → Bool → Marks
+link_marks op.Or x y due_behind operand h s due = if_marks [] due (with_slot (holds h x) s) [] false s (operand h s true)
+link_marks op.And x y due_behind operand h s due = mark due (with_slot (holds h x) s) ∷ operand h s false
+link_marks o x y due_behind operand h s due =
+    operand (h + 1) (with_slot (holds h x) s) due ++ (mark due_behind (with_slot (holds (h + 1) y) (with_slot (holds h x) s)) ∷ [])
+
 -- ---- the marks of the parts of a program
+
+-- what is known where a loop over numbers begins: h and h + 1 hold the counter and the bound
+abbrev pub counted : Ty → Ty → ℕ → Stand → Stand
+counted x y h s = with_slot (holds (h + 1) y) (with_slot (holds h x) s)
 
 -- the values of a call's arguments, from a register on
 abbrev pub with_args : Exprs → ℕ → Stand → Stand
@@ -161,14 +177,7 @@ abbrev mutual
   pub links_marks : Around → Ty → Links → ℕ → Stand → Bool → Marks
   links_marks around x no_links h s due = []
   links_marks around x (more_links (link y at op e) ls) h s due =
-      link_marks around x op e h s due ++ links_marks around y.value ls h s (link_due op)
-
-  pub link_marks : Around → Ty → BinaryOp → Expr → ℕ → Stand → Bool → Marks
-  link_marks around x op.Or e h s due = if_marks [] due (with_slot (holds h x) s) [] false s (value_marks around e h s true)
-  link_marks around x op.And e h s due = mark due (with_slot (holds h x) s) ∷ value_marks around e h s false
-  link_marks around x op e h s due =
-      value_marks around e (h + 1) (with_slot (holds h x) s) due
-      ++ (mark (value_due e) (with_slot (holds (h + 1) (type e)) (with_slot (holds h x) s)) ∷ [])
+      link_marks op x (type e) (value_due e) (λ h s due. value_marks around e h s due) h s due ++ links_marks around y.value ls h s (link_due op)
 
   pub form_marks : Around → Bool → Form → ℕ → Stand → Bool → Marks
   form_marks around gives (branch at c b es) h s due =
@@ -193,7 +202,7 @@ abbrev mutual
   pub stmts_marks : Around → Bool → Stmts → ℕ → Stand → Bool → Marks
   stmts_marks around gives no_stmts h s due = only_marks (agree gives false) due s []
   stmts_marks around true (last e) h s due =
-      value_marks around e h s due ++ (mark (value_due e) (with_slot (holds h (type e)) s) ∷ [])
+      value_marks around e h s due ++ (mark (value_due e) (with_slot (holds h (type e)) (behind (expr_returns e) s)) ∷ [])
   stmts_marks around false (last e) h s due = only_marks (agree false (is_copy (type e))) due s (expr_marks around e h s due)
   stmts_marks around gives (more_stmts (declare n x e) ss) h s due =
       value_marks around e h s due ++ stmts_marks around gives ss (h + 1) (with_slot (local n.name.0 h x) s) (value_due e)
@@ -213,18 +222,12 @@ abbrev mutual
   stmt_marks around (foreach at n a e b) h s due =
       value_marks around a h s due
       ++ (value_marks around e (h + 1) (with_slot (holds h (type a)) s) (value_due a)
-      ++ count_marks around n b h (with_slot (holds (h + 1) (type e)) (with_slot (holds h (type a)) s)) (value_due e))
+      ++ count_marks (value_due e) (counted (type a) (type e) h s)
+      (block_marks around false b (h + 1 + 1 + 1) (with_slot (local n.name.0 (h + 1 + 1) int) (counted (type a) (type e) h s)) false)
+      (block_due around.gives false b false) (behind (block_returns b) (counted (type a) (type e) h s))
+      (with_slot (holds (h + 1 + 1) bool) (counted (type a) (type e) h s)))
   stmt_marks around (form_stmt f) h s due = form_marks around false f h s due
   stmt_marks around (express e) h s due = unused_marks around e h s due
-
-  -- of a loop over numbers, where h and h + 1 hold the counter and the bound
-  pub count_marks : Around → NameAt → Block → ℕ → Stand → Bool → Marks
-  count_marks around n b h s due =
-      mark due s
-      ∷ loop_marks false s
-      (None ∷ (block_marks around false b (h + 1 + 1 + 1) (with_slot (local n.name.0 (h + 1 + 1) int) s) false
-      ++ (mark (block_due around.gives false b false) (behind (block_returns b) s) ∷ None ∷ [])))
-      (Some s ∷ []) false (with_slot (holds (h + 1 + 1) bool) s)
 
   pub unused_marks : Around → Expr → ℕ → Stand → Bool → Marks
   unused_marks around (expr x (set at p e)) h s due =

@@ -53,7 +53,7 @@ given false h ty s = s
 
 -- behind a part that has returned on every way, or hasn't
 abbrev pub behind : Bool → Stand → Stand
-behind returns s = record { slots = s.slots; over = s.over || returns }
+behind returns s = record { slots = s.slots; over = returns || s.over }
 
 -- ---- registers
 

@@ -77,9 +77,9 @@ module _ (functions : List Function) where
     exprs_suit env no_exprs = Unit {0}
     exprs_suit env (more_exprs e es) = expr_suits env e × exprs_suit env es
 
-    -- behind an operand of the type ty
+    -- behind an operand of the type ty; an operand that no operator follows is a value
     pub links_suit : Env → Ty → Ty → Links → Type 0
-    links_suit env ty x no_links = x ≡ ty
+    links_suit env ty x no_links = (x ≡ ty) × (is_void ty ≡ false)
     links_suit env ty x (more_links (link s at op e) ls) =
         (takes_operands op ty (type e) ≡ true) × (s.value ≡ link_gives op ty) × expr_suits env e × links_suit env s.value x ls
 
