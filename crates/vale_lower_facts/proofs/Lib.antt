@@ -1,4 +1,6 @@
+mod Callees
 mod Names
+mod Operators
 mod Rows
 mod Runs
 mod Stands
