@@ -4,4 +4,5 @@ mod Operators
 mod Rows
 mod Runs
 mod Stands
+mod Tree
 mod Ways

@@ -281,7 +281,7 @@ module _ (k : Site) where
   one_passed depth regs h (t.Frozen m) row copy e same f = absurd (cc)
   one_passed depth regs h (t.Iso m) row copy e same f = absurd (cc)
 
-  all_passed : (depth : ℕ) (regs : List RegFact) (h : ℕ) (tys : List Ty) (row : Row) → list_all y.is_copy tys ≡ true → Stored regs h tys → row.after ≡ regs → Fine row.kept
+  pub all_passed : (depth : ℕ) (regs : List RegFact) (h : ℕ) (tys : List Ty) (row : Row) → list_all y.is_copy tys ≡ true → Stored regs h tys → row.after ≡ regs → Fine row.kept
       → Fine (passes_all depth (map code_type tys) (registers_from h (length tys)) row).kept × ((passes_all depth (map code_type tys) (registers_from h (length tys)) row).after ≡ regs)
   all_passed depth regs h [] row copy st same f = (f, same)
   all_passed depth regs h (ty ∷ tys) row copy st same f =

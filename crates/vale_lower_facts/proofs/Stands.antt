@@ -76,6 +76,8 @@ pub record Site : Type 0 where
   pub func : Func
   pub labels : List Label
   pub base : ℕ
+  -- the type of the function's result, in the program
+  pub result : Ty
   pub last : Last
   pub last_plain : (ty : CodeTy) → last.ty ≡ Some ty → is_copy ty ≡ true
 
@@ -142,6 +144,13 @@ module _ (k : Site) where
     where
       none : (r : ℕ) (ty : CodeTy) → slot_register x ≡ r → type_at k.last s r ≡ Some ty → ⊥
       none r ty same e = let n : type_at k.last s r ≡ None = nothing_at b r (omega (arith, same)) in cc
+
+  -- a slot that says what is said already
+  pub says_again : (x : Slot) (s : Stand) → type_at k.last s (slot_register x) ≡ Some (code_type (slot_type x)) → Says (with_slot x s) s
+  says_again x s has = record { each = λ r ty e. ⊎_elim (λ same. here r ty same e) (λ ne. type_there x s r ne ∙ e) (cases_eq (slot_register x) r) }
+    where
+      here : (r : ℕ) (ty : CodeTy) → slot_register x ≡ r → type_at k.last s r ≡ Some ty → type_at k.last (with_slot x s) r ≡ Some ty
+      here r ty same e = type_here x s r same ∙ sym has ∙ ap (type_at k.last s) same ∙ e
 
   -- the same slot over more
   pub says_with : {s u : Stand} (x z : Slot) → slot_register x ≡ slot_register z → slot_type x ≡ slot_type z → Says s u → Says (with_slot x s) (with_slot z u)
