@@ -1,6 +1,9 @@
 mod Callees
+mod Entries
+mod Labels
 mod Names
 mod Operators
+pub mod Program
 mod Rows
 mod Runs
 mod Stands

@@ -314,6 +314,19 @@ module _ (k : Site) where
   or_copy a b r (Some u) ty h e = h e
   or_copy a b r None ty h e = last_copy (b && (k.last.register == r)) ty e
 
+  pub plain_less : {s u : Stand} → Says s u → Plain s → Plain u
+  plain_less a p = record { each = λ r ty lt e. p.each r ty lt (a.each r ty e) }
+
+  pub plain_slot : {s : Stand} (x : Slot) → is_copy (code_type (slot_type x)) ≡ true → Plain s → Plain (with_slot x s)
+  plain_slot {s} x copy p = record { each = λ r ty lt e. ⊎_elim (λ same. here r ty same e) (λ ne. p.each r ty lt (sym (type_there x s r ne) ∙ e)) (cases_eq (slot_register x) r) }
+    where
+      here : (r : ℕ) (ty : CodeTy) → slot_register x ≡ r → type_at k.last (with_slot x s) r ≡ Some ty → is_copy ty ≡ true
+      here r ty same e = let is : code_type (slot_type x) ≡ ty = (let a = type_here x s r same in cc) in subst (λ q. is_copy q ≡ true) is copy
+
+  pub plain_given : {s : Stand} (b : Bool) (h : ℕ) (x : Ty) → (b ≡ true → is_copy (code_type x) ≡ true) → Plain s → Plain (given b h x s)
+  plain_given true h x copy p = plain_slot (holds h x) (copy refl) p
+  plain_given false h x copy p = p
+
   pub plain_behind : {s : Stand} (returns : Bool) → Plain s → Plain (behind returns s)
   plain_behind {s} returns p = record { each = λ r ty lt e. or_copy s.over (returns || s.over) r (slot_at s.slots r) ty (p.each r ty lt) e }
 
