@@ -45,11 +45,11 @@ module _ (code : Parts) (k : Where) (n : ℕ) (again : Again) (p h : ℕ) (s : S
   prints line v x pv ag e d =
       surely_nothing code k n p h h s base l regs w x at (print line v w) (agrees_down s l base (with_all h (v ∷ []) base) h (h + 1) regs (omega arith) (with_all_below h (v ∷ []) base) ag) few (fit.print_fits w line v) e d
 
-  lengths : (v : Value) → (text_length v w ≡ len v w) ⊎ (text_length v w ≡ fails) → Agrees (h + 1) s l (with_all h (v ∷ []) base) regs → read regs h ≡ Some v → fetch code k.function p ≡ Some (i.TextLen h h) → Reaches code k n (p + 1) (In true h s base) (conf k p regs w) (answered at (len v w) (calls_in k) l w)
-  lengths v (inl is) ag r e =
+  lengths : (v : Value) → IsPlain v → (text_length v w ≡ len v w) ⊎ (text_length v w ≡ fails) → Agrees (h + 1) s l (with_all h (v ∷ []) base) regs → read regs h ≡ Some v → fetch code k.function p ≡ Some (i.TextLen h h) → Reaches code k n (p + 1) (In true h s base) (conf k p regs w) (answered at (len v w) (calls_in k) l w)
+  lengths v pv (inl is) ag r e =
       subst (λ a. Reaches code k n (p + 1) (In true h s base) (conf k p regs w) (answered at a (calls_in k) l w)) is
-      (sure (v ∷ []) (i.TextLen h h) (text_length v w) (fit.length_fits w v) ag e (reads_one regs w h v (λ v. steps.certain (active k p regs) (Some h) regs k.below w (text_length v w)) r))
-  lengths v (inr is) ag r e =
+      (sure (v ∷ []) (i.TextLen h h) (text_length v w) (fit.length_fits w v pv) ag e (reads_one regs w h v (λ v. steps.certain (active k p regs) (Some h) regs k.below w (text_length v w)) r))
+  lengths v pv (inr is) ag r e =
       wrongs code k n p (p + 1) (In true h s base) regs w (i.TextLen h h) (answered at (len v w) (calls_in k) l w) w None e
       (reads_one regs w h v (λ v. steps.certain (active k p regs) (Some h) regs k.below w (text_length v w)) r ∙ ap (λ a. steps.certain (active k p regs) (Some h) regs k.below w a) is)
 
@@ -65,29 +65,29 @@ module _ (code : Parts) (k : Where) (n : ℕ) (again : Again) (p h : ℕ) (s : S
   built_ins b.Drop vs gives pvs st ag has = none_here b.Drop vs gives refl pvs st ag has
   built_ins b.Push vs gives pvs st ag has = none_here b.Push vs gives refl pvs st ag has
   built_ins b.Pop vs gives pvs st ag has = none_here b.Pop vs gives refl pvs st ag has
-  built_ins b.Len (v ∷ []) true pvs st ag has = lengths v (fit.lengths w v) ag st.0 has.0
+  built_ins b.Len (v ∷ []) true pvs st ag has = lengths v pvs.0 (fit.lengths w v) ag st.0 has.0
   built_ins b.Len [] gives pvs st ag has = none_here b.Len [] gives refl pvs st ag has
   built_ins b.Len (v ∷ []) false pvs st ag has = none_here b.Len (v ∷ []) false refl pvs st ag has
   built_ins b.Len (v ∷ u ∷ vs) gives pvs st ag has = none_here b.Len (v ∷ u ∷ vs) gives refl pvs st ag has
-  built_ins b.Text (v ∷ []) true pvs st ag has = sure (v ∷ []) (i.TextOf h h) (o.text_of v w) (fit.text_of_fits w v) ag has.0 (reads_one regs w h v (λ v. steps.certain (active k p regs) (Some h) regs k.below w (o.text_of v w)) st.0)
+  built_ins b.Text (v ∷ []) true pvs st ag has = sure (v ∷ []) (i.TextOf h h) (o.text_of v w) (fit.text_of_fits w v pvs.0) ag has.0 (reads_one regs w h v (λ v. steps.certain (active k p regs) (Some h) regs k.below w (o.text_of v w)) st.0)
   built_ins b.Text [] gives pvs st ag has = none_here b.Text [] gives refl pvs st ag has
   built_ins b.Text (v ∷ []) false pvs st ag has = none_here b.Text (v ∷ []) false refl pvs st ag has
   built_ins b.Text (v ∷ u ∷ vs) gives pvs st ag has = none_here b.Text (v ∷ u ∷ vs) gives refl pvs st ag has
-  built_ins b.IsNumber (v ∷ []) true pvs st ag has = sure (v ∷ []) (i.IsNum h h) (o.is_number v w) (fit.is_number_fits w v) ag has.0 (reads_one regs w h v (λ v. steps.certain (active k p regs) (Some h) regs k.below w (o.is_number v w)) st.0)
+  built_ins b.IsNumber (v ∷ []) true pvs st ag has = sure (v ∷ []) (i.IsNum h h) (o.is_number v w) (fit.is_number_fits w v pvs.0) ag has.0 (reads_one regs w h v (λ v. steps.certain (active k p regs) (Some h) regs k.below w (o.is_number v w)) st.0)
   built_ins b.IsNumber [] gives pvs st ag has = none_here b.IsNumber [] gives refl pvs st ag has
   built_ins b.IsNumber (v ∷ []) false pvs st ag has = none_here b.IsNumber (v ∷ []) false refl pvs st ag has
   built_ins b.IsNumber (v ∷ u ∷ vs) gives pvs st ag has = none_here b.IsNumber (v ∷ u ∷ vs) gives refl pvs st ag has
-  built_ins b.Number (v ∷ []) true pvs st ag has = may (v ∷ []) (i.Num h h at) (o.number v w) (fit.number_fits w v) ag has.0 (reads_one regs w h v (λ v. steps.answered (active k p regs) (Some h) regs at k.below w (o.number v w)) st.0)
+  built_ins b.Number (v ∷ []) true pvs st ag has = may (v ∷ []) (i.Num h h at) (o.number v w) (fit.number_fits w v pvs.0) ag has.0 (reads_one regs w h v (λ v. steps.answered (active k p regs) (Some h) regs at k.below w (o.number v w)) st.0)
   built_ins b.Number [] gives pvs st ag has = none_here b.Number [] gives refl pvs st ag has
   built_ins b.Number (v ∷ []) false pvs st ag has = none_here b.Number (v ∷ []) false refl pvs st ag has
   built_ins b.Number (v ∷ u ∷ vs) gives pvs st ag has = none_here b.Number (v ∷ u ∷ vs) gives refl pvs st ag has
-  built_ins b.Byte (v ∷ u ∷ []) true pvs st ag has = may (v ∷ u ∷ []) (i.Byte h h (h + 1) at) (o.byte v u w) (fit.byte_fits w v u) ag has.0 (reads_two regs w h (h + 1) v u (λ v u. steps.answered (active k p regs) (Some h) regs at k.below w (o.byte v u w)) st.0 st.1.0)
+  built_ins b.Byte (v ∷ u ∷ []) true pvs st ag has = may (v ∷ u ∷ []) (i.Byte h h (h + 1) at) (o.byte v u w) (fit.byte_fits w v u pvs.0 pvs.1.0) ag has.0 (reads_two regs w h (h + 1) v u (λ v u. steps.answered (active k p regs) (Some h) regs at k.below w (o.byte v u w)) st.0 st.1.0)
   built_ins b.Byte [] gives pvs st ag has = none_here b.Byte [] gives refl pvs st ag has
   built_ins b.Byte (v ∷ []) gives pvs st ag has = none_here b.Byte (v ∷ []) gives refl pvs st ag has
   built_ins b.Byte (v ∷ u ∷ []) false pvs st ag has = none_here b.Byte (v ∷ u ∷ []) false refl pvs st ag has
   built_ins b.Byte (v ∷ u ∷ x ∷ vs) gives pvs st ag has = none_here b.Byte (v ∷ u ∷ x ∷ vs) gives refl pvs st ag has
   built_ins b.Slice (v ∷ a ∷ c ∷ []) true pvs st ag has =
-      may (v ∷ a ∷ c ∷ []) (i.Slice h h (h + 1) (h + 1 + 1) at) (o.slice v a c w) (fit.slice_fits w v a c) ag has.0
+      may (v ∷ a ∷ c ∷ []) (i.Slice h h (h + 1) (h + 1 + 1) at) (o.slice v a c w) (fit.slice_fits w v a c pvs.0 pvs.1.0 pvs.1.1.0) ag has.0
       (reads_one regs w h v (λ v. with_value (read regs (h + 1)) w (λ a. with_value (read regs (h + 1 + 1)) w (λ c. steps.answered (active k p regs) (Some h) regs at k.below w (o.slice v a c w)))) st.0
       ∙ reads_two regs w (h + 1) (h + 1 + 1) a c (λ a c. steps.answered (active k p regs) (Some h) regs at k.below w (o.slice v a c w)) st.1.0 st.1.1.0)
   built_ins b.Slice [] gives pvs st ag has = none_here b.Slice [] gives refl pvs st ag has

@@ -56,6 +56,10 @@ put_names true d h s base (Some v) l regs a = a.1.names
 put_names false d h s base None l regs a = a.names
 put_names false d h s base (Some v) l regs a = absurd a
 
+pub put_keeps : (d h : ℕ) (s : Scope) (base : Base) (v : Held) (l : Locals) (regs : Registers) → Put false d h s base v l regs → Agrees h s l base regs
+put_keeps d h s base None l regs a = a
+put_keeps d h s base (Some v) l regs a = absurd a
+
 -- a scope ends
 pub put_pop : (gives : Bool) (d h n : ℕ) (s : Scope) (base : Base) (v : Held) (l : Locals) (regs : Registers) → Put gives d (h + 1) (entry n h ∷ s) base v l regs → Put gives d h s base v (outer l) regs
 put_pop true d h n s base None l regs a = absurd a

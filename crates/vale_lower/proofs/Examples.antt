@@ -13,7 +13,7 @@ use Rattle.vale_syntax.specs.declared.tree.NameAt.{NameAt}
 use Rattle.vale_syntax.specs.Judged.{Judged, fine, faulty}
 use Rattle.vale_syntax.specs.Typed.{Typed}
 use Rattle.vale_syntax.specs.Typing.{typed}
-use Rattle.vale_syntax.specs.Tree.{int_type, set, chain, number, quote, truth, name, call, paren, no_exprs, more_exprs, link, no_links, more_links, branch, no_else, block, declare, return_value, while, form_stmt, express, no_stmts, more_stmts, param, head, function, function_item, Tree, tree}
+use Rattle.vale_syntax.specs.Tree.{int_type, set, chain, number, quote, truth, name, call, paren, no_exprs, more_exprs, link, no_links, more_links, branch, no_else, block, declare, return_value, while, foreach, form_stmt, express, no_stmts, more_stmts, param, head, function, function_item, Tree, tree}
 use Rattle.vale_code.specs.Run.{run_code}
 use Rattle.vale_lower.specs.Lowered.{lowered}
 
@@ -66,6 +66,27 @@ for_ever = tree (codes "main" ∷ codes "println" ∷ []) (function_item (functi
 
 a_loop_is_cut : run for_ever 3 ≡ gives (piece 2 (line 1) ∷ piece 3 (line 1) ∷ []) Cut 3
 a_loop_is_cut = refl
+
+-- func main() { s = 0; foreach i in 1..4 { set s = s + i; set i = 100; println(s); } }
+abbrev a_count : Tree
+a_count = tree (codes "main" ∷ codes "s" ∷ codes "i" ∷ codes "println" ∷ []) (function_item (function (head false (n 0 1 6) ([]) None) (block (at 1 13) (at 1 84) (more_stmts (declare (n 1 1 15) (number (at 1 19) (pos 0))) (more_stmts (foreach (at 1 22) (n 2 1 30) (number (at 1 35) (pos 1)) (number (at 1 38) (pos 4)) (block (at 1 40) (at 1 82) (more_stmts (express (set (at 1 42) (name (n 1 1 46)) (chain (name (n 1 1 50)) (more_links (link (at 1 52) Add (name (n 2 1 54))) no_links)))) (more_stmts (express (set (at 1 57) (name (n 2 1 61)) (number (at 1 65) (pos 100)))) (more_stmts (express (call (n 3 1 70) (more_exprs (name (n 1 1 78)) no_exprs))) no_stmts))))) no_stmts)))) ∷ [])
+
+-- each turn has the next number, whatever the body sets
+numbers_are_counted : run a_count 1000 ≡ gives (piece 2 (line 1) ∷ piece 3 (line 3) ∷ piece 4 (line 6) ∷ []) Done 4
+numbers_are_counted = refl
+
+a_count_is_cut : run a_count 3 ≡ gives (piece 2 (line 1) ∷ piece 3 (line 3) ∷ []) Cut 3
+a_count_is_cut = refl
+
+-- func main() { foreach i in 9223372036854775806..9223372036854775807 { println(i); } foreach i in 1..0 { println(i); } }
+abbrev to_the_greatest : Tree
+to_the_greatest = tree (codes "main" ∷ codes "i" ∷ codes "println" ∷ []) (function_item (function (head false (n 0 1 6) ([]) None) (block (at 1 13) (at 1 119)
+    (more_stmts (foreach (at 1 15) (n 1 1 23) (number (at 1 28) (pos 9223372036854775806)) (number (at 1 49) (pos 9223372036854775807)) (block (at 1 69) (at 1 83) (more_stmts (express (call (n 2 1 71) (more_exprs (name (n 1 1 79)) no_exprs))) no_stmts)))
+    (more_stmts (foreach (at 1 85) (n 1 1 93) (number (at 1 98) (pos 1)) (number (at 1 101) (pos 0)) (block (at 1 103) (at 1 117) (more_stmts (express (call (n 2 1 105) (more_exprs (name (n 1 1 113)) no_exprs))) no_stmts))) no_stmts)))) ∷ [])
+
+-- the counter comes to the greatest int, and no further; where the bound is below the first number, there is no turn
+the_greatest_is_no_turn : run to_the_greatest 1000 ≡ gives (piece 2 (line 9223372036854775806) ∷ []) Done 2
+the_greatest_is_no_turn = refl
 
 -- func f(k int) int { if k < 2 { return k; } return f(k - 1) + f(k - 2); }
 -- func main() {

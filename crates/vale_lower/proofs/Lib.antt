@@ -1,5 +1,6 @@
 pub mod BuiltIns
 pub mod Calls
+pub mod Counts
 pub mod Drops
 pub mod Entry
 mod Examples

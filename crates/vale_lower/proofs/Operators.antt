@@ -23,10 +23,11 @@ use Rattle.vale_code.specs.declared.instr.Instr.{Instr}
 use Rattle.vale_code.specs.declared.instr.Instr.TheVariants as i
 use Rattle.vale_lower.specs.Instructions.{if_code, and_code, operator, link_code, unary_code}
 use Rattle.vale_lower.specs.Scopes.{Scope}
-use Rattle.vale_lower.proofs.Registers.{Base, with_at, Falls, falls_up, Agrees, agrees_down, top_read, next_read, one_above, two_above, pick_same, pick_other, read_put}
+use Rattle.vale_lower.proofs.Registers.{IsPlain, Base, with_at, Falls, falls_up, Agrees, agrees_down, top_read, next_read, one_above, two_above, pick_same, pick_other, read_put}
 use Rattle.vale_lower.proofs.Reaches.{Where, active, conf, calls_in, Reaches, StepFits, HasAt, Val, In, has_front, has_back, does, moves, wrongs, comes_reaches, then_reaches, ends_at, stays, is_stuck, values, answers, surely, chooses}
 use Rattle.vale_lower.proofs.Shapes.{if_runs}
 use Rattle.vale_lower.proofs.Operations as fit
+use Rattle.vale_lower.proofs.Ranges.{add_keeps, sub_keeps, mul_keeps, div_keeps, rem_keeps}
 
 pub reads_two : (regs : Registers) (w : State) (a b : ℕ) (v u : Value) (go : Value → Value → Next) → read regs a ≡ Some v → read regs b ≡ Some u → with_value (read regs a) w (λ v. with_value (read regs b) w (λ u. go v u)) ≡ go v u
 reads_two regs w a b v u go e d =
@@ -37,7 +38,7 @@ reads_one regs w a v go e = ap (λ x. with_value x w go) e
 
 module _ (code : Parts) (k : Where) (n : ℕ) where
   -- ---- an instruction between two registers
-  module _ (p h m : ℕ) (s : Scope) (base base' : Base) (l : Locals) (regs : Registers) (w : State) (at : Spot) (v u : Value) (fa : Falls h s) (below : (r : ℕ) → r < h → base' r ≡ base r) (le : h ≤ m) (ag : Agrees m s l base' regs) (few : w.left ≤ n) (first : read regs h ≡ Some v) (second : read regs (h + 1) ≡ Some u) where
+  module _ (p h m : ℕ) (s : Scope) (base base' : Base) (l : Locals) (regs : Registers) (w : State) (at : Spot) (v u : Value) (fa : Falls h s) (below : (r : ℕ) → r < h → base' r ≡ base r) (le : h ≤ m) (ag : Agrees m s l base' regs) (few : w.left ≤ n) (pv : IsPlain v) (pu : IsPlain u) (first : read regs h ≡ Some v) (second : read regs (h + 1) ≡ Some u) where
     compares : (choice : ℕ) (c : o.Comparison) → fetch code k.function p ≡ Some (i.Cmp h choice h (h + 1)) → does code k n p regs w (i.Cmp h choice h (h + 1)) ≡ with_value (read regs h) w (λ v. with_value (read regs (h + 1)) w (λ u. steps.certain (active k p regs) (Some h) regs k.below w (o.compare c v u w))) → Reaches code k n (p + 1) (In true h s base) (conf k p regs w) (answered at (o.compare c v u w) (calls_in k) l w)
     compares choice c e d =
         surely code k n p h m s base base' l regs w (i.Cmp h choice h (h + 1)) at (o.compare c v u w) fa below le ag few (fit.compare_fits w c v u) e
@@ -55,7 +56,7 @@ module _ (code : Parts) (k : Where) (n : ℕ) where
         ∙ ap (λ y. steps.answered (active k p regs) (Some h) regs at k.below w y) is)
 
     adds : fetch code k.function p ≡ Some (i.Add h h (h + 1) at) → Reaches code k n (p + 1) (In true h s base) (conf k p regs w) (answered at (plus v u w) (calls_in k) l w)
-    adds e = one_of (i.Add h h (h + 1) at) (λ v u. o.add v u w) (plus v u w) (fit.adds w v u) (fit.ints_fit w number.add v u) e refl
+    adds e = one_of (i.Add h h (h + 1) at) (λ v u. o.add v u w) (plus v u w) (fit.adds w v u) (fit.ints_fit w number.add v u add_keeps pv pu) e refl
 
     pub operates : (op : BinaryOp) (x : Ty) → fetch code k.function p ≡ Some (operator op x at h) → Reaches code k n (p + 1) (In true h s base) (conf k p regs w) (answered at (operated op v u w) (calls_in k) l w)
     operates op.Equal x e = compares 0 o.equal e refl
@@ -64,7 +65,7 @@ module _ (code : Parts) (k : Where) (n : ℕ) where
     operates op.LessEqual x e = compares 3 o.less_equal e refl
     operates op.Greater x e = compares 4 o.greater e refl
     operates op.GreaterEqual x e = compares 5 o.greater_equal e refl
-    operates op.Add y.str e = one_of (i.Join h h (h + 1) at) (λ v u. o.join v u w) (plus v u w) (fit.joins w v u) (fit.join_fits w v u) e refl
+    operates op.Add y.str e = one_of (i.Join h h (h + 1) at) (λ v u. o.join v u w) (plus v u w) (fit.joins w v u) (fit.join_fits w v u pv pu) e refl
     operates op.Add y.void e = adds e
     operates op.Add y.int e = adds e
     operates op.Add y.bool e = adds e
@@ -73,10 +74,10 @@ module _ (code : Parts) (k : Where) (n : ℕ) where
     operates op.Add (y.ref x) e = adds e
     operates op.Add (y.imm x) e = adds e
     operates op.Add (y.iso x) e = adds e
-    operates op.Sub x e = one_of (i.Sub h h (h + 1) at) (λ v u. o.sub v u w) (o.sub v u w) (inl refl) (fit.ints_fit w number.sub v u) e refl
-    operates op.Mul x e = one_of (i.Mul h h (h + 1) at) (λ v u. o.mul v u w) (o.mul v u w) (inl refl) (fit.ints_fit w number.mul v u) e refl
-    operates op.Div x e = one_of (i.Div h h (h + 1) at) (λ v u. o.div v u w) (o.div v u w) (inl refl) (fit.ints_fit w number.div v u) e refl
-    operates op.Rem x e = one_of (i.Rem h h (h + 1) at) (λ v u. o.rem v u w) (o.rem v u w) (inl refl) (fit.ints_fit w number.rem v u) e refl
+    operates op.Sub x e = one_of (i.Sub h h (h + 1) at) (λ v u. o.sub v u w) (o.sub v u w) (inl refl) (fit.ints_fit w number.sub v u sub_keeps pv pu) e refl
+    operates op.Mul x e = one_of (i.Mul h h (h + 1) at) (λ v u. o.mul v u w) (o.mul v u w) (inl refl) (fit.ints_fit w number.mul v u mul_keeps pv pu) e refl
+    operates op.Div x e = one_of (i.Div h h (h + 1) at) (λ v u. o.div v u w) (o.div v u w) (inl refl) (fit.ints_fit w number.div v u div_keeps pv pu) e refl
+    operates op.Rem x e = one_of (i.Rem h h (h + 1) at) (λ v u. o.rem v u w) (o.rem v u w) (inl refl) (fit.ints_fit w number.rem v u rem_keeps pv pu) e refl
     operates op.Or x e = wrongs code k n p (p + 1) (In true h s base) regs w (i.Truth h 2) (ended Wrong w) w None e refl
     operates op.And x e = wrongs code k n p (p + 1) (In true h s base) regs w (i.Truth h 2) (ended Wrong w) w None e refl
 
@@ -97,7 +98,7 @@ module _ (code : Parts) (k : Where) (n : ℕ) where
         (then_reaches code k n p1 (p1 + 1) (Val (h + 1) s (with_at h (Some v) base)) (In true h s base) (conf k p regs w) (valued operand (calls_in k) l w) _
         (values code k n p1 (h + 1) s (with_at h (Some v) base) (conf k p regs w) (operand (calls_in k) l w) (runs p (h + 1) (with_at h (Some v) base) l regs w up here.1 few (has_front code k.function (co p (h + 1)) _ p has)))
         (λ u l w regs ag few.
-        operates p1 h (h + 1 + 1) s base (with_at (h + 1) (Some u) (with_at h (Some v) base)) l regs w at v u fa (two_above base h (Some v) (Some u)) (omega arith) ag.1 few
+        operates p1 h (h + 1 + 1) s base (with_at (h + 1) (Some u) (with_at h (Some v) base)) l regs w at v u fa (two_above base h (Some v) (Some u)) (omega arith) ag.1 few here.0 ag.0
         (next_read s l base h (h + 1 + 1) (Some v) (Some u) regs fa (omega arith) ag.1) (top_read s l (with_at h (Some v) base) (h + 1) (h + 1 + 1) (Some u) regs up (omega arith) ag.1) op x (has_back code k.function (co p (h + 1)) _ p has).0))
       where
         p1 : ℕ
@@ -147,7 +148,7 @@ module _ (code : Parts) (k : Where) (n : ℕ) where
     negates has =
         ends_at code k n (p + 1 + 1) (p + 2) (In true h s base) (conf k p regs w) _ (omega arith)
         (comes_reaches code k n (p + 1 + 1) (In true h s base) (conf k p regs w) (conf k (p + 1) regs1 w) _ (moves code k n p regs w (i.Int (h + 1) (pos 0)) _ has.0 refl)
-        (answers code k n (p + 1) h h s base base l regs1 w (i.Sub h (h + 1) h at) at (o.minus v w) fa (λ r lt. refl) (omega arith) kept few (fit.minus_fits w v) has.1.0
+        (answers code k n (p + 1) h h s base base l regs1 w (i.Sub h (h + 1) h at) at (o.minus v w) fa (λ r lt. refl) (omega arith) kept few (fit.minus_fits w v here.0) has.1.0
         (reads_two regs1 w (h + 1) h (Int (pos 0)) v (λ v u. steps.answered (active k (p + 1) regs1) (Some h) regs1 at k.below w (o.sub v u w))
         (read_put regs (h + 1) (h + 1) (Some (Int (pos 0))) ∙ pick_same (h + 1) (Some (Int (pos 0))) (read regs (h + 1))) still)))
       where

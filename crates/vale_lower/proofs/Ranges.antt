@@ -1,6 +1,6 @@
 -- The operations keep numbers within the range of int, and texts short and of bytes.
-use Rattle.std.proofs.Common.{◌≡◌, ℕ, zero, suc, ◌+◌, ◌^◌, ◌<◌, ◌≤◌, ℤ, pos, negsuc, List, [], ◌∷◌, ◌++◌, length, Some, Bool, true, false, ◌&&◌, nat_le, if◌then◌else◌, Ok, Err, FitsSigned, w64, refl, ap, ◌∙◌, subst, arith, length-append}
-use Rattle.std.specs.Prelude.{slice_get, take, drop, int_rem, unsigned_abs}
+use Rattle.std.proofs.Common.{◌≡◌, ℕ, zero, suc, ◌+◌, ◌^◌, ◌<◌, ◌≤◌, ℤ, pos, negsuc, List, [], ◌∷◌, ◌++◌, length, Option, Some, None, Bool, true, false, ◌&&◌, nat_le, if◌then◌else◌, Result, Ok, Err, FitsSigned, w64, refl, ap, ◌∙◌, subst, arith, length-append}
+use Rattle.std.specs.Prelude.{slice_get, take, drop, ◌-◌, int_div, int_rem, unsigned_abs, ◌+ℤ◌, ◌-ℤ◌, ◌*ℤ◌}
 use Rattle.std.specs.List.{list_all}
 use Rattle.std.specs.Str.{IsAscii}
 use Rattle.std.specs.Fmt.{decimal, signed_decimal}
@@ -9,7 +9,9 @@ use Rattle.std.proofs.lemmas.Fmt.{length-decimal-le, IsAscii-decimal}
 use Rattle.std.proofs.lemmas.Int.{rem_below, fits_signed_from_abs}
 use Rattle.vale_base.specs.Limits.{text_limit}
 use Rattle.vale_base.specs.declared.trap.TrapKind.{TrapKind}
-use Rattle.vale_text.specs.Operations.{is_int, is_zero, int_or}
+use Rattle.vale_base.specs.declared.trap.TrapKind.TheVariants.{Overflow, DivisionByZero, IndexOutOfRange, TextTooLong, NotANumber}
+use Rattle.vale_text.specs.Operations.{is_int, is_zero, int_or, byte_of, number_of, written_in}
+use Rattle.vale_text.specs.Operations as o
 use Rattle.vale_lower.specs.Texts.{is_byte, is_lawful_text}
 
 pub record IsLawful (t : List ℕ) : Type 0 where
@@ -117,3 +119,76 @@ text_of_is_lawful (negsuc n) h =
     let small : n < 2 ^ 63 = grind (arith, nat_tests, h) in
     let few = length-decimal-le 19 (suc n) (omega arith) (omega arith) (omega arith) in
     record { short = omega (arith, few); bytes = from_ascii (decimal (suc n)) (IsAscii-decimal (suc n) (omega arith)) }
+
+-- ---- what operations give
+
+abbrev pub GivesInt : Result ℤ TrapKind → Type 0
+GivesInt r = (z : ℤ) → r ≡ Ok z → is_int z ≡ true
+
+abbrev pub GivesText : Result (List ℕ) TrapKind → Type 0
+GivesText r = (t : List ℕ) → r ≡ Ok t → IsLawful t
+
+-- an operator on two ints
+abbrev pub KeepsInts : (ℤ → ℤ → Result ℤ TrapKind) → Type 0
+KeepsInts f = (x y : ℤ) → is_int x ≡ true → is_int y ≡ true → GivesInt (f x y)
+
+pub add_keeps : KeepsInts o.add
+add_keeps x y hx hy z e = int_or_is Overflow (x +ℤ y) z e
+
+pub sub_keeps : KeepsInts o.sub
+sub_keeps x y hx hy z e = int_or_is Overflow (x -ℤ y) z e
+
+pub mul_keeps : KeepsInts o.mul
+mul_keeps x y hx hy z e = int_or_is Overflow (x *ℤ y) z e
+
+pub div_keeps : KeepsInts o.div
+div_keeps x y hx hy z e = by (is_zero y) e
+  where
+    by : (b : Bool) → (if b then Err DivisionByZero else int_or Overflow (int_div x y)) ≡ Ok z → is_int z ≡ true
+    by true e = absurd (cc)
+    by false e = int_or_is Overflow (int_div x y) z e
+
+pub rem_keeps : KeepsInts o.rem
+rem_keeps x y hx hy z e = by (is_zero y) refl e
+  where
+    within : (b : Bool) → is_zero y ≡ false → (if b then Ok (int_rem x y) else Err Overflow) ≡ Ok z → is_int z ≡ true
+    within true some e = let same : int_rem x y ≡ z = cc in subst (λ q. is_int q ≡ true) same (rem_is_int x y some hy)
+    within false some e = absurd (cc)
+
+    by : (b : Bool) → is_zero y ≡ b → (if b then Err DivisionByZero else if is_int (int_div x y) then Ok (int_rem x y) else Err Overflow) ≡ Ok z → is_int z ≡ true
+    by true some e = absurd (cc)
+    by false some e = within (is_int (int_div x y)) some e
+
+pub number_gives : (t : List ℕ) → GivesInt (o.number t)
+number_gives t z e = by (written_in t) e
+  where
+    by : (n : Option ℤ) → number_of n ≡ Ok z → is_int z ≡ true
+    by None e = absurd (cc)
+    by (Some n) e = int_or_is NotANumber n z e
+
+pub byte_gives : (t : List ℕ) (x : ℤ) → IsLawful t → GivesInt (o.byte t x)
+byte_gives t (negsuc i) h z e = absurd (cc)
+byte_gives t (pos i) h z e = by (slice_get t i) refl e
+  where
+    by : (b : Option ℕ) → slice_get t i ≡ b → byte_of b ≡ Ok z → is_int z ≡ true
+    by None at e = absurd (cc)
+    by (Some b) at e = let same : pos b ≡ z = cc in subst (λ q. is_int q ≡ true) same (byte_is_int b (byte_at t i b h.bytes at))
+
+pub join_gives : (s t : List ℕ) → IsLawful s → IsLawful t → GivesText (o.join s t)
+join_gives s t h k u e = by (nat_le (length s + length t) text_limit) refl e
+  where
+    by : (b : Bool) → nat_le (length s + length t) text_limit ≡ b → (if b then Ok (s ++ t) else Err TextTooLong) ≡ Ok u → IsLawful u
+    by true few e =
+        let short : length s + length t ≤ text_limit = grind (arith, few) in
+        let same : s ++ t ≡ u = cc in
+        subst (λ q. IsLawful q) same (join_is_lawful s t h k short)
+    by false few e = absurd (cc)
+
+pub slice_gives : (t : List ℕ) (x y : ℤ) → IsLawful t → GivesText (o.slice t x y)
+slice_gives t (negsuc a) y h u e = absurd (cc)
+slice_gives t (pos a) (negsuc b) h u e = absurd (cc)
+slice_gives t (pos a) (pos b) h u e = by (nat_le a b && nat_le b (length t)) e
+  where
+    by : (c : Bool) → (if c then Ok (take (b - a) (drop a t)) else Err IndexOutOfRange) ≡ Ok u → IsLawful u
+    by true e = let same : take (b - a) (drop a t) ≡ u = cc in subst (λ q. IsLawful q) same (slice_is_lawful (b - a) a t h)
+    by false e = absurd (cc)

@@ -2,18 +2,20 @@
 use Rattle.std.proofs.Common.{Option, Some, None, Bool, true, false, if◌then◌else◌, length, ◌≡◌, ◌≢◌, ℕ, zero, suc, ◌+◌, ◌<◌, ◌≤◌, List, [], ◌∷◌, refl, sym, ap, ◌∙◌, subst, ⊎_elim, arith}
 use Rattle.std.proofs.lemmas.Bool.{cases_lt}
 use Rattle.vale_base.specs.World.{Value, Int, Truth, Text, Own, Ref, Iso}
+use Rattle.vale_text.specs.Operations.{is_int}
 use Rattle.vale_model.specs.Runs.{Local, Locals, has_name, held_by, with_held, outer, innermost}
 use Rattle.vale_code.specs.Registers.{Registers, read, put}
 use Rattle.vale_lower.specs.Scopes.{Entry, Scope, entry, waiting, place_of}
+use Rattle.vale_lower.proofs.Ranges.{IsLawful}
 
 abbrev pub Held : Type 0
 Held = Option Value
 
--- numbers, truths and texts
+-- ints, truths and the texts that a `str` may have
 abbrev pub IsPlain : Value → Type 0
-IsPlain (Int z) = Unit {0}
+IsPlain (Int z) = is_int z ≡ true
 IsPlain (Truth b) = Unit {0}
-IsPlain (Text t) = Unit {0}
+IsPlain (Text t) = IsLawful t
 IsPlain (Own n) = ⊥
 IsPlain (Ref n) = ⊥
 IsPlain (Iso n) = ⊥

@@ -52,6 +52,28 @@ module _ (code : Parts) (k : Where) (n : ℕ) where
       at_no : HasAt code k.function other two
       at_no = hj.1
 
+  -- the parts of a loop
+  module _ (p h : ℕ) (tc bc : ℕ → List Instr) (has : HasAt code k.function p (loop_code p h tc bc)) where
+    abbrev test_place : ℕ
+    test_place = p + 2 + length (bc (p + 2))
+
+    abbrev behind_test : List Instr
+    behind_test = i.Unless h (test_place + length (tc test_place) + 2) ∷ i.Jump (p + 1) ∷ []
+
+    behind_tick : HasAt code k.function (p + 2) (bc (p + 2) ++ (tc test_place ++ behind_test))
+    behind_tick =
+        let e : p + 1 + 1 ≡ p + 2 = omega arith in
+        subst (λ q. HasAt code k.function q (bc (p + 2) ++ (tc test_place ++ behind_test))) e has.1.1
+
+    pub loop_body : HasAt code k.function (p + 2) (bc (p + 2))
+    loop_body = has_front code k.function (bc (p + 2)) _ (p + 2) behind_tick
+
+    pub loop_test : HasAt code k.function test_place (tc test_place)
+    loop_test = has_front code k.function (tc test_place) _ test_place (has_back code k.function (bc (p + 2)) _ (p + 2) behind_tick)
+
+    pub loop_end : HasAt code k.function (test_place + length (tc test_place)) behind_test
+    loop_end = has_back code k.function (tc test_place) _ test_place (has_back code k.function (bc (p + 2)) _ (p + 2) behind_tick)
+
   -- the test of a loop, from which its turns follow
   pub loop_tests : (p h : ℕ) (s : Scope) (base : Base) (tc bc : ℕ → List Instr) (c : Config) (rt : Result Value) (turn : Run (Option Value)) → Falls h s → HasAt code k.function p (loop_code p h tc bc) → Reaches code k n (p + 2 + length (bc (p + 2)) + length (tc (p + 2 + length (bc (p + 2))))) (Val h s base) c rt → ((l : Locals) (w : State) (regs : Registers) → Agrees h s l base regs → w.left < n → Reaches code k n (p + length (loop_code p h tc bc)) (In false h s base) (conf k (p + 2) regs w) (turn (calls_in k) l w)) → Reaches code k n (p + length (loop_code p h tc bc)) (In false h s base) c (then_do rt (λ v. choose v (tick >>= (λ _. turn)) nothing (calls_in k)))
   loop_tests p h s base tc bc c rt turn fa has test again =
@@ -82,27 +104,11 @@ module _ (code : Parts) (k : Where) (n : ℕ) where
       two_on : p + 2 ≡ p + 1 + 1
       two_on = omega arith
 
-      hb : HasAt code k.function (p + 2) (b ++ (t ++ (i.Unless h end ∷ i.Jump (p + 1) ∷ [])))
-      hb = subst (λ q. HasAt code k.function q (b ++ (t ++ (i.Unless h end ∷ i.Jump (p + 1) ∷ [])))) (sym two_on) has.1.1
-
       he : HasAt code k.function p2 (i.Unless h end ∷ i.Jump (p + 1) ∷ [])
-      he = has_back code k.function t _ begins (has_back code k.function b _ (p + 2) hb)
+      he = loop_end p h tc bc has
 
       len : end ≡ p + length (loop_code p h tc bc)
       len = omega (arith, length-append b (t ++ (i.Unless h end ∷ i.Jump (p + 1) ∷ [])), length-append t (i.Unless h end ∷ i.Jump (p + 1) ∷ []))
-
-  -- the parts of a loop
-  pub loop_body : (p h : ℕ) (tc bc : ℕ → List Instr) → HasAt code k.function p (loop_code p h tc bc) → HasAt code k.function (p + 2) (bc (p + 2))
-  loop_body p h tc bc has =
-      let e : p + 1 + 1 ≡ p + 2 = omega arith in
-      let b = bc (p + 2) in
-      has_front code k.function b _ (p + 2) (subst (λ q. HasAt code k.function q (b ++ (tc (p + 2 + length b) ++ (i.Unless h (p + 2 + length b + length (tc (p + 2 + length b)) + 2) ∷ i.Jump (p + 1) ∷ [])))) e has.1.1)
-
-  pub loop_test : (p h : ℕ) (tc bc : ℕ → List Instr) → HasAt code k.function p (loop_code p h tc bc) → HasAt code k.function (p + 2 + length (bc (p + 2))) (tc (p + 2 + length (bc (p + 2))))
-  loop_test p h tc bc has =
-      let e : p + 1 + 1 ≡ p + 2 = omega arith in
-      let b = bc (p + 2) in
-      has_front code k.function (tc (p + 2 + length b)) _ (p + 2 + length b) (has_back code k.function b _ (p + 2) (subst (λ q. HasAt code k.function q (b ++ (tc (p + 2 + length b) ++ (i.Unless h (p + 2 + length b + length (tc (p + 2 + length b)) + 2) ∷ i.Jump (p + 1) ∷ [])))) e has.1.1))
 
   -- ---- locals
 

@@ -1,5 +1,5 @@
 -- The code of each part of a program does what the part means: by induction on the tree.
-use Rattle.std.proofs.Common.{◌≡◌, ◌≢◌, ℕ, suc, ◌+◌, ◌<◌, ◌≤◌, List, [], ◌∷◌, ◌++◌, length, Option, Some, None, Bool, true, false, ◌&&◌, refl, sym, ap, subst, ◌⊎◌, inl, inr, arith, length-append}
+use Rattle.std.proofs.Common.{◌≡◌, ◌≢◌, ℕ, suc, ℤ, ◌+◌, ◌<◌, ◌≤◌, List, [], ◌∷◌, ◌++◌, length, Option, Some, None, Bool, true, false, ◌&&◌, refl, sym, ap, subst, ◌⊎◌, inl, inr, arith, length-append}
 use Rattle.std.specs.Prelude.{slice_get}
 use Rattle.vale_base.specs.State.{State}
 use Rattle.vale_base.specs.World.{Value, Int, Truth, Text}
@@ -11,27 +11,34 @@ use Rattle.vale_syntax.specs.Typed.{Callee, built_in, constructor, function, Exp
 use Rattle.vale_model.specs.Parts.{Parts}
 use Rattle.vale_model.specs.Runs.{Locals, Result, goes, returned, ended, Run, then_do, the_value, valued, give, held_by, with_held, outer, innermost, while_waits}
 use Rattle.vale_model.specs.Destruction.{Again, drop, leave, with_local}
-use Rattle.vale_model.specs.Expressions.{expr_run, node_run, exprs_run, links_run, link_run, set_run, form_run, elses_run, block_run, stmts_run, stmt_run, callee_run, expr_spot}
+use Rattle.vale_model.specs.Expressions.{expr_run, node_run, exprs_run, links_run, link_run, set_run, form_run, elses_run, block_run, stmts_run, stmt_run, callee_run, iteration_body, expr_spot}
 use Rattle.vale_code.specs.Instructions.{onward, with_choice}
 use Rattle.vale_code.specs.Parts.{Parts as Code}
 use Rattle.vale_code.specs.Registers.{Registers, put}
 use Rattle.vale_code.specs.declared.instr.Instr.{Instr}
 use Rattle.vale_code.specs.declared.instr.Instr.TheVariants as i
-use Rattle.vale_lower.specs.Instructions.{stuck, only_if, load, loop_code, link_code, unary_code}
+use Rattle.vale_lower.specs.Instructions.{only_if, load, loop_code, count_code, link_code, unary_code}
 use Rattle.vale_lower.specs.Scopes.{Scope, entry, waiting, place_of, agree, Around, number_of_text}
+use Rattle.vale_lower.specs.Texts.{is_lawful_text}
 use Rattle.vale_lower.specs.Lowered.{count, callee_code, set_code, store_code, unused_code, expr_code, value_code, node_code, args_code, links_code, form_code, elses_code, block_code, stmts_code, stmt_code}
+use Rattle.vale_lower.proofs.Ranges.{IsLawful, lawful}
 use Rattle.vale_lower.proofs.Registers.{Base, with_at, with_all, Falls, falls_up, Agrees, agrees_dest, agrees_push, agrees_wait, agrees_done, all_stand, Fresh, fresh_above, top_read, one_above, meets, changes, innermost_plain}
 use Rattle.vale_lower.proofs.Reaches.{Where, active, conf, calls_in, IsIn, Post, Reaches, Fits, HasAt, Val, In, Put, Keeps, All, has_front, has_back, moves, wrongs, comes_reaches, then_reaches, ends_at, weaker, stays, is_stuck, only_if_runs, values, literal, free_on, jumps, leaves, leaves_void}
 use Rattle.vale_lower.proofs.Shapes.{if_runs, loop_tests, loop_test, copy_does, loads, stores, exchanges}
 use Rattle.vale_lower.proofs.Operators.{links, unaries}
+use Rattle.vale_lower.proofs.Counts.{count_runs}
 use Rattle.vale_lower.proofs.BuiltIns.{built_ins}
 use Rattle.vale_lower.proofs.Lookups.{text_or_none, agree_same}
-use Rattle.vale_lower.proofs.Drops.{drop_plain, drop_fitting, leave_plain, in_fits, in_keeps, put_names, put_pop, put_in, in_put}
+use Rattle.vale_lower.proofs.Drops.{drop_plain, drop_fitting, leave_plain, in_fits, in_keeps, put_names, put_keeps, put_pop, put_in, in_put}
 use Rattle.vale_lower.proofs.Calls.{program_code, texts, around, Follows, call_runs}
 
 and_first : (a b : Bool) → (a && b) ≡ true → a ≡ true
 and_first true b e = refl
 and_first false b e = e
+
+and_second : (a b : Bool) → (a && b) ≡ true → b ≡ true
+and_second true b e = e
+and_second false b e = absurd (cc)
 
 then_then : {A B C : Type 0} (r : Result A) (f : A → Locals → State → Result B) (g : B → Locals → State → Result C) → then_do (then_do r f) g ≡ then_do r (λ v l w. then_do (f v l w) g)
 then_then (goes v l w) f g = refl
@@ -49,11 +56,15 @@ module _ (parts : Parts) (k : Where) (is : IsIn (program_code parts) k) (n : ℕ
   abbrev Runs : {A : Type 0} → List Instr → Post A → ℕ → Registers → State → Result A → Type 0
   Runs cs post p regs w r = HasAt code k.function p cs → Reaches code k n (p + length cs) post (conf k p regs w) r
 
-  -- a value where one is wanted
-  given : (b gives : Bool) (cs : List Instr) (p h : ℕ) (s : Scope) (base : Base) (regs : Registers) (w : State) (r : Result (Option Value)) → (b ≡ true → gives ≡ true) → Runs cs (In true h s base) p regs w r → Runs (only_if b h cs) (In gives h s base) p regs w r
-  given b gives cs p h s base regs w r so run has =
+  -- a value where one is wanted and may be
+  given_if : (b gives : Bool) (cs : List Instr) (p h : ℕ) (s : Scope) (base : Base) (regs : Registers) (w : State) (r : Result (Option Value)) → (b ≡ true → gives ≡ true) → (b ≡ true → Runs cs (In true h s base) p regs w r) → Runs (only_if b h cs) (In gives h s base) p regs w r
+  given_if b gives cs p h s base regs w r so run has =
       only_if_runs code k n b h p cs (In gives h s base) regs w r has
-      (λ e has. subst (λ g. Reaches code k n (p + length cs) (In g h s base) (conf k p regs w) r) (sym (so e)) (run has))
+      (λ e has. subst (λ g. Reaches code k n (p + length cs) (In g h s base) (conf k p regs w) r) (sym (so e)) (run e has))
+
+  -- a value where one is wanted
+  given : (gives : Bool) (cs : List Instr) (p h : ℕ) (s : Scope) (base : Base) (regs : Registers) (w : State) (r : Result (Option Value)) → Runs cs (In true h s base) p regs w r → Runs (only_if gives h cs) (In gives h s base) p regs w r
+  given gives cs p h s base regs w r run = given_if gives gives cs p h s base regs w r (λ e. e) (λ e. run)
 
   -- one part and then another
   joined : {A B : Type 0} (cs ds : List Instr) (post : Post A) (post' : Post B) (p : ℕ) (regs : Registers) (w : State) (r : Result A) (go : A → Locals → State → Result B) → Runs cs post p regs w r → ((v : A) (l : Locals) (w : State) (regs : Registers) → post v l regs → w.left ≤ n → Runs ds post' (p + length cs) regs w (go v l w)) → Runs (cs ++ ds) post' p regs w (then_do r go)
@@ -63,14 +74,14 @@ module _ (parts : Parts) (k : Where) (is : IsIn (program_code parts) k) (n : ℕ
       (then_reaches code k n (p + length cs) _ post post' (conf k p regs w) r go (first (has_front code k.function cs ds p has))
       (λ v l w regs ag few. second v l w regs ag few (has_back code k.function cs ds p has)))
 
-  text_runs : (text : List ℕ) (p h : ℕ) (s : Scope) (base : Base) (l : Locals) (regs : Registers) (w : State) → Falls h s → Agrees h s l base regs → w.left ≤ n → Runs (i.Text h (number_of_text text (texts parts)) ∷ []) (In true h s base) p regs w (goes (Some (Text text)) l w)
-  text_runs text p h s base l regs w fa ag few has = by (text_or_none text (texts parts))
+  text_runs : (text : List ℕ) (p h : ℕ) (s : Scope) (base : Base) (l : Locals) (regs : Registers) (w : State) → Falls h s → Agrees h s l base regs → w.left ≤ n → IsLawful text → Runs (i.Text h (number_of_text text (texts parts)) ∷ []) (In true h s base) p regs w (goes (Some (Text text)) l w)
+  text_runs text p h s base l regs w fa ag few pt has = by (text_or_none text (texts parts))
     where
       j : ℕ
       j = number_of_text text (texts parts)
 
       by : (slice_get (texts parts) j ≡ Some text) ⊎ (slice_get (texts parts) j ≡ None) → Reaches code k n (p + 1) (In true h s base) (conf k p regs w) (goes (Some (Text text)) l w)
-      by (inl e) = literal code k n p h h s base base l regs w (i.Text h j) (Text text) fa (λ r lt. refl) (omega arith) ag few tt has.0 (ap (λ o. with_choice o w (λ t. onward (active k p regs) (put regs h (Some (Text t))) k.below w)) e)
+      by (inl e) = literal code k n p h h s base base l regs w (i.Text h j) (Text text) fa (λ r lt. refl) (omega arith) ag few pt has.0 (ap (λ o. with_choice o w (λ t. onward (active k p regs) (put regs h (Some (Text t))) k.below w)) e)
       by (inr e) = wrongs code k n p (p + 1) (In true h s base) regs w (i.Text h j) (goes (Some (Text text)) l w) w None has.0 (ap (λ o. with_choice o w (λ t. onward (active k p regs) (put regs h (Some (Text t))) k.below w)) e)
 
   -- ---- the set of a local
@@ -203,34 +214,35 @@ module _ (parts : Parts) (k : Where) (is : IsIn (program_code parts) k) (n : ℕ
 
     node_runs : (node : Node) (x : Ty) (gives : Bool) (p h : ℕ) (s : Scope) (base : Base) (l : Locals) (regs : Registers) (w : State) → Falls h s → Agrees h s l base regs → w.left ≤ n → Runs (node_code a gives node p h s) (In gives h s base) p regs w (node_run again x node (calls_in k) l w)
     node_runs (number at z) x gives p h s base l regs w fa ag few has =
-        given (gives && is_int z) gives (i.Int h z ∷ []) p h s base regs w (goes (Some (Int z)) l w) (and_first gives (is_int z))
-        (λ has. literal code k n p h h s base base l regs w (i.Int h z) (Int z) fa (λ r lt. refl) (omega arith) ag few tt has.0 refl) has
+        given_if (gives && is_int z) gives (i.Int h z ∷ []) p h s base regs w (goes (Some (Int z)) l w) (and_first gives (is_int z))
+        (λ e has. literal code k n p h h s base base l regs w (i.Int h z) (Int z) fa (λ r lt. refl) (omega arith) ag few (and_second gives (is_int z) e) has.0 refl) has
     node_runs (quote at t) x gives p h s base l regs w fa ag few has =
-        given gives gives _ p h s base regs w (goes (Some (Text t)) l w) (λ e. e) (text_runs t p h s base l regs w fa ag few) has
+        given_if (gives && is_lawful_text t) gives _ p h s base regs w (goes (Some (Text t)) l w) (and_first gives (is_lawful_text t))
+        (λ e. text_runs t p h s base l regs w fa ag few (lawful t (and_second gives (is_lawful_text t) e))) has
     node_runs (truth at true) x gives p h s base l regs w fa ag few has =
-        given gives gives (i.Truth h 1 ∷ []) p h s base regs w (goes (Some (Truth true)) l w) (λ e. e)
+        given gives (i.Truth h 1 ∷ []) p h s base regs w (goes (Some (Truth true)) l w)
         (λ has. literal code k n p h h s base base l regs w (i.Truth h 1) (Truth true) fa (λ r lt. refl) (omega arith) ag few tt has.0 refl) has
     node_runs (truth at false) x gives p h s base l regs w fa ag few has =
-        given gives gives (i.Truth h 0 ∷ []) p h s base regs w (goes (Some (Truth false)) l w) (λ e. e)
+        given gives (i.Truth h 0 ∷ []) p h s base regs w (goes (Some (Truth false)) l w)
         (λ has. literal code k n p h h s base base l regs w (i.Truth h 0) (Truth false) fa (λ r lt. refl) (omega arith) ag few tt has.0 refl) has
     node_runs (name m true) x gives p h s base l regs w fa ag few has = is_stuck code k n p (p + 1) h (In gives h s base) regs w (node_run again x (name m true) (calls_in k) l w) has
     node_runs (name m false) x gives p h s base l regs w fa ag few has =
-        given gives gives (load (place_of m.name.0 s) h) p h s base regs w (node_run again x (name m false) (calls_in k) l w) (λ e. e)
+        given gives (load (place_of m.name.0 s) h) p h s base regs w (node_run again x (name m false) (calls_in k) l w)
         (λ has. loads code k n p h s base l regs w (place_of m.name.0 s) (held_by m.name.0 l) fa ag few (meets m.name.0 h s l fa ag.names) has) has
     node_runs (paren at e) x gives p h s base l regs w fa ag few has =
         only_if_runs code k n (agree gives (is_copy (type e))) h p (expr_code a e p h s) (In gives h s base) regs w (expr_run again e (calls_in k) l w) has
         (λ same has. subst (λ g. Reaches code k n (p + length (expr_code a e p h s)) (In g h s base) (conf k p regs w) (expr_run again e (calls_in k) l w)) (sym (agree_same gives (is_copy (type e)) same))
         (expr_runs e p h s base l regs w fa ag few has))
     node_runs (chain e ls) x gives p h s base l regs w fa ag few has =
-        given gives gives (value_code a e p h s ++ links_code a ls (p + length (value_code a e p h s)) h s) p h s base regs w (node_run again x (chain e ls) (calls_in k) l w) (λ e. e)
+        given gives (value_code a e p h s ++ links_code a ls (p + length (value_code a e p h s)) h s) p h s base regs w (node_run again x (chain e ls) (calls_in k) l w)
         (joined (value_code a e p h s) _ (Val h s base) (In true h s base) p regs w (valued (expr_run again e) (calls_in k) l w) (λ v. links_run again v ls (calls_in k)) (value_runs e p h s base l regs w fa ag few)
         (λ v l w regs ag few. links_runs ls v (p + length (value_code a e p h s)) h s base l regs w fa ag few)) has
     node_runs (unary at op e) x gives p h s base l regs w fa ag few has =
-        given gives gives (value_code a e p h s ++ unary_code op at h) p h s base regs w (node_run again x (unary at op e) (calls_in k) l w) (λ e. e)
+        given gives (value_code a e p h s ++ unary_code op at h) p h s base regs w (node_run again x (unary at op e) (calls_in k) l w)
         (joined (value_code a e p h s) (unary_code op at h) (Val h s base) (In true h s base) p regs w (valued (expr_run again e) (calls_in k) l w) _ (value_runs e p h s base l regs w fa ag few)
         (λ v l w regs ag few. unaries code k n (p + length (value_code a e p h s)) h s base at v l regs w fa ag few op)) has
     node_runs (set at q e) x gives p h s base l regs w fa ag few has =
-        given gives gives (value_code a e p h s ++ set_code q h s) p h s base regs w (node_run again x (set at q e) (calls_in k) l w) (λ e. e)
+        given gives (value_code a e p h s ++ set_code q h s) p h s base regs w (node_run again x (set at q e) (calls_in k) l w)
         (joined (value_code a e p h s) (set_code q h s) (Val h s base) (In true h s base) p regs w (valued (expr_run again e) (calls_in k) l w) _ (value_runs e p h s base l regs w fa ag few)
         (λ v l w regs ag few. set_runs q v (p + length (value_code a e p h s)) h s base l regs w fa ag few)) has
     node_runs (call m f es) x gives p h s base l regs w fa ag few has =
@@ -337,8 +349,28 @@ module _ (parts : Parts) (k : Where) (is : IsIn (program_code parts) k) (n : ℕ
         (value_runs c start h s base l regs w fa ag few (loop_test code k n p h tc bc has))
         (λ l w regs ag less. follows.turns k c b p h s base l regs w is less fa ag has)))
         (λ v l w regs ag few. stmts_runs ss end gives _ d h s base l regs w fa lt fr (in_keeps false h s base v l regs ag) few) has
-    stmts_runs (more_stmts (foreach at m e f b) ss) end gives p d h s base l regs w fa lt fr ag few has =
-        is_stuck code k n p _ h (Put gives d h s base) regs w (stmts_run again end (more_stmts (foreach at m e f b) ss) (calls_in k) l w) (has_front code k.function (stuck h) _ p has)
+    stmts_runs (more_stmts (foreach at m e f (block bat bend bx bs)) ss) end gives p d h s base l regs w fa lt fr ag few has =
+        let b = block bat bend bx bs in
+        let r = h + 1 + 1 in
+        let inner = entry m.name.0 r ∷ s in
+        let ce = value_code a e p h s in
+        let q = p + length ce in
+        let cf = value_code a f q (h + 1) s in
+        let body = λ (q : ℕ). block_code a false b q h (r + 1) inner in
+        let run = λ (z : ℤ). iteration_body again m (Int z) b in
+        let ne : h ≢ r = omega arith in
+        joined (stmt_code a (foreach at m e f b) p h s) (stmts_code a gives ss (p + length (stmt_code a (foreach at m e f b) p h s)) d h s) (In false h s base) (Put gives d h s base) p regs w (stmt_run again (foreach at m e f b) (calls_in k) l w) _
+        (joined ce (cf ++ count_code (q + length cf) h at body) (Val h s base) (In false h s base) p regs w (valued (expr_run again e) (calls_in k) l w) _ (value_runs e p h s base l regs w fa ag few)
+        (λ v l w regs ag few.
+        joined cf (count_code (q + length cf) h at body) (Val (h + 1) s (with_at h (Some v) base)) (In false h s base) q regs w (valued (expr_run again f) (calls_in k) l w) _ (value_runs f q (h + 1) s (with_at h (Some v) base) l regs w (falls_up s h (h + 1) (omega arith) fa) ag.1 few)
+        (λ u l w regs ag' few has.
+        count_runs code k n (q + length cf) h s base at body run fa has l regs w few
+        (λ q x base l regs w hx ag few has.
+        weaker code k n _ (Put false h r s base) (Keeps {A = Option Value} r s base) (conf k q regs w) (run x (calls_in k) l w) (put_keeps h r s base)
+        (scoped false bend m.name.0 h r q (Int x) (body q) s base l regs w (stmts_run again bend bs)
+        (stmts_runs bs bend false q h (r + 1) inner base (record { name = Some m.name.0; value = Some (Int x) } ∷ l) regs w (omega arith, falls_up s h r (omega arith) fa) (omega arith) (ne, fresh_above s h h fa (omega arith)) (agrees_push s l base r m.name.0 (Int x) regs hx (falls_up s h r (omega arith) fa) ag) few) has))
+        v u ag.0 ag')))
+        (λ v l w regs ag few. stmts_runs ss end gives _ d h s base l regs w fa lt fr (in_keeps false h s base v l regs ag) few) has
     stmts_runs (more_stmts (form_stmt f) ss) end gives p d h s base l regs w fa lt fr ag few has =
         joined (form_code a false f p h s) (stmts_code a gives ss (p + length (form_code a false f p h s)) d h s) (In false h s base) (Put gives d h s base) p regs w (form_run again void f (calls_in k) l w) _ (form_runs f void false p h s base l regs w fa ag few)
         (λ v l w regs ag few. stmts_runs ss end gives _ d h s base l regs w fa lt fr (in_keeps false h s base v l regs ag) few) has
