@@ -1,5 +1,6 @@
 mod Callees
 mod Entries
+mod Examples
 mod Labels
 mod Names
 mod Operators
