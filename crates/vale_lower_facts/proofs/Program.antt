@@ -5,6 +5,7 @@ use Rattle.std.specs.List.{list_all}
 use Rattle.std.proofs.lemmas.Bool.{and_parts, and_from, lt-ltb, le-leb, eq-eqb, eqb-true}
 use Rattle.std.proofs.lemmas.List.Folds.{list_all-append}
 use Rattle.std.proofs.lemmas.Option.{slice_get_within}
+use Rattle.vale_base.specs.State.{no_input}
 use Rattle.vale_syntax.specs.Tree.{Head, head, Param}
 use Rattle.vale_syntax.specs.Declarations.{head_params, param_type}
 use Rattle.vale_syntax.specs.Types.{Ty, type_of}
@@ -22,6 +23,7 @@ use Rattle.vale_code.specs.declared.instr.Instr.TheVariants as i
 use Rattle.vale_code.specs.declared.ty.Ty.{Ty as CodeTy}
 use Rattle.vale_code.specs.declared.ty.Ty.TheVariants as t
 use Rattle.vale_cert.specs.Certificate.{first_fault, rule_one, Certified}
+use Rattle.vale_cert.specs.Input.{takes_input, function_takes, params_take}
 use Rattle.vale_cert.specs.Known.{Known, entry, label_at, may_enter, rise}
 use Rattle.vale_cert.specs.Numbers.{numbers}
 use Rattle.vale_cert.specs.Shape.{shape_fault, or_else as or_number, counted_after, funcs_fault, func_is_lawful, head_is_lawful, body_is_lawful, has_live, has_form, has_input, label_is_lawful, is_main}
@@ -427,7 +429,19 @@ module _ (p : Parts) (covered : list_all function_is_covered (functions_in p) �
       ap (λ o. or_else (rule_one (counted_after 0 o)) (functions_fault code 0 code.funcs (facts_of_parts p))) (no_shape_fault (reaches_isolate code) fs 0 (omega arith) suffix)
       ∙ no_walk_fault fs 0 0 suffix
 
+module _ (p : Parts) (suits : PartsSuit p) where
+  -- `main` takes no input
+  main_takes_nothing : takes_input (lowered_parts p) no_input ≡ true
+  main_takes_nothing =
+      let fs = functions_in p in
+      let there = found_function (has_text p (codes "main")) fs suits.main.is suits.main.found in
+      ap (function_takes (lowered_parts p) no_input) (map_at (lowered_function p (texts_in p fs) fs) fs (lowered_parts p).main suits.main.is there)
+      ∙ ap (λ ps. params_take (lowered_parts p) (map code_param ps) no_input) suits.main.takes_nothing
+
 -- ---- programs
+
+pub takes_no_input : (program : Typed) → Suits program → takes_input (lowered program) no_input ≡ true
+takes_no_input program su = main_takes_nothing (parts_of program) su
 
 functions_covered : (items : List Item) → list_all item_is_covered items ≡ true → list_all function_is_covered (flat_map functions_of items) ≡ true
 functions_covered [] e = refl
