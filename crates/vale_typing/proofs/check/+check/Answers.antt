@@ -1,4 +1,4 @@
-use Rattle.std.proofs.Common.{ℕ, List, true, false, ◌+◌, map, drop, ap, sym, ◌∙◌, [], ◌≡◌}
+use Rattle.std.proofs.Common.{ℕ, List, true, false, ◌+◌, map, drop, ap, sym, ◌∙◌, []}
 use Rattle.std.specs.Prelude.{Result, Ok, Option, None, option_map}
 use Rattle.std.proofs.lemmas.Result.{err_from_is_err_and}
 use Rattle.vale_syntax.specs.declared.fault.Fault.{Fault}
@@ -21,7 +21,7 @@ use Rattle.vale_core.specs.View as core
 use Rattle.vale_core.specs.View.{view_ty, view_seen}
 use Rattle.vale_type_rules.specs.Scope.{locals, framed}
 use Rattle.vale_type_rules.specs.Table.{names_of, items_of}
-use Rattle.vale_typing.specs.Walk.{env_at, view_exprs, view_links, view_steps, view_elses, view_else}
+use Rattle.vale_typing.specs.Walk.{env_at, view_links, view_steps, view_elses, view_else}
 use Rattle.vale_typing.proofs.LoopLaws.{pair_passes, after_passes, seen_passes}
 use Rattle.vale_typing.proofs.NodeLaws.{second_fails, after_fails, second_ends, fourth_fails, fourth_ends}
 use Rattle.vale_syntax.specs.declared.tree.ElseIf.{ElseIf}
@@ -179,7 +179,7 @@ type_destructure-returns m c =
     let ms = c.in_ok-names.names in
     let same = c.in_ok-names.ensures (view_ty c.args.gives.now) in
     let whole = second_ends at (λ v. destructure_rules (struct_fields items (type v.1)) ns) (λ v. t.destructure at ns (option_map_or field_types (struct_fields items (type v.1)) []) v.1)
-        (d.new_names env ns) (d.expr names items env true (view_expr c.args.value.now)) ms (core.view_expr c.in_ok-value.value) same c.in_ok-value.ensures in
+    (d.new_names env ns) (d.expr names items env true (view_expr c.args.value.now)) ms (core.view_expr c.in_ok-value.value) same c.in_ok-value.ensures in
     rw whole (rw (new_names_same env ns ms same) at c.destructure.ensures)
 
 pub type_form-returns-in_err-else_ifs-in-If : goal.type_form-returns-in_err-else_ifs-in-If
@@ -208,7 +208,7 @@ type_form-returns-in_ok-otherwise-in-If m c =
     let items = items_of c.args.table.now in
     let env = env_at (view_ty c.args.gives.now) c.args.depth (locals c.args.scope.now) in
     let whole = if_ends names items env c.in-If.at c.in-If.condition c.in-If.block c.in-If.else_ifs c.as_slice.result.now c.in-If.otherwise (core.view_expr c.in_ok-condition-in-If.condition) (core.view_block c.in_ok-block-in-If.block) c.as_slice.ensures c.in_ok-condition-in-If.ensures c.in_ok-block-in-If.ensures
-        (map core.view_else_if c.in_ok-else_ifs-in-If.else_ifs) (view_else c.in_ok-otherwise-in-If.otherwise) c.in_ok-else_ifs-in-If.ensures c.in_ok-otherwise-in-If.ensures in
+    (map core.view_else_if c.in_ok-else_ifs-in-If.else_ifs) (view_else c.in_ok-otherwise-in-If.otherwise) c.in_ok-else_ifs-in-If.ensures c.in_ok-otherwise-in-If.ensures in
     rw (c.in-If.is, whole) c.branch-alloc.ensures
 
 pub type_form-returns-in_err-block-in-ParallelRange : goal.type_form-returns-in_err-block-in-ParallelRange
@@ -233,9 +233,9 @@ type_form-returns-in_ok-block-in-ParallelRange m c =
     let at = c.in-ParallelRange.at in
     let n = c.in-ParallelRange.name in
     let whole = fourth_ends {E = y.Ty × t.Form} at (λ v. bounds_rules (type v.1.0) (type v.1.1.0)) (λ v. (parallel_gives items (block_type v.1.1.1), t.parallel_range at n v.1.0 v.1.1.0 v.1.1.1))
-        (d.new_name env n) (d.expr names items env true (view_expr c.in-ParallelRange.from)) (d.expr names items env true (view_expr c.in-ParallelRange.to)) (d.in_block names items (with_local n y.int (deeper env)) (view_block c.in-ParallelRange.block))
-        n (core.view_expr c.in_ok-from-in-ParallelRange.from) (core.view_expr c.in_ok-to-in-ParallelRange.to) (core.view_block c.in_ok-block-in-ParallelRange.block)
-        c.in_ok-new_name-in-ParallelRange.ensures c.in_ok-from-in-ParallelRange.ensures c.in_ok-to-in-ParallelRange.ensures (rw (c.in_ok-depth-in-ParallelRange.ensures, of_int) at c.in_ok-block-in-ParallelRange.ensures) in
+    (d.new_name env n) (d.expr names items env true (view_expr c.in-ParallelRange.from)) (d.expr names items env true (view_expr c.in-ParallelRange.to)) (d.in_block names items (with_local n y.int (deeper env)) (view_block c.in-ParallelRange.block))
+    n (core.view_expr c.in_ok-from-in-ParallelRange.from) (core.view_expr c.in_ok-to-in-ParallelRange.to) (core.view_block c.in_ok-block-in-ParallelRange.block)
+    c.in_ok-new_name-in-ParallelRange.ensures c.in_ok-from-in-ParallelRange.ensures c.in_ok-to-in-ParallelRange.ensures (rw (c.in_ok-depth-in-ParallelRange.ensures, of_int) at c.in_ok-block-in-ParallelRange.ensures) in
     rw (c.in-ParallelRange.is, of_parallel_range at n c.in-ParallelRange.from c.in-ParallelRange.to c.in-ParallelRange.block, whole) c.parallel_range.ensures
 
 pub type_stmt-returns-in_err-body-in-Foreach : goal.type_stmt-returns-in_err-body-in-Foreach
@@ -260,7 +260,7 @@ type_stmt-returns-in_ok-body-in-Foreach m c =
     let at = c.in-Foreach.at in
     let n = c.in-Foreach.name in
     let whole = fourth_ends at (λ v. bounds_rules (type v.1.0) (type v.1.1.0)) (λ v. t.foreach at n v.1.0 v.1.1.0 v.1.1.1)
-        (d.new_name env n) (d.expr names items env true (view_expr c.in-Foreach.from)) (d.expr names items env true (view_expr c.in-Foreach.to)) (d.void_block names items (with_local n y.int env) (view_block c.in-Foreach.block))
-        n (core.view_expr c.in_ok-from-in-Foreach.from) (core.view_expr c.in_ok-to-in-Foreach.to) (core.view_block c.in_ok-body-in-Foreach.body)
-        c.in_ok-new_name-in-Foreach.ensures c.in_ok-from-in-Foreach.ensures c.in_ok-to-in-Foreach.ensures (rw of_int at c.in_ok-body-in-Foreach.ensures) in
+    (d.new_name env n) (d.expr names items env true (view_expr c.in-Foreach.from)) (d.expr names items env true (view_expr c.in-Foreach.to)) (d.void_block names items (with_local n y.int env) (view_block c.in-Foreach.block))
+    n (core.view_expr c.in_ok-from-in-Foreach.from) (core.view_expr c.in_ok-to-in-Foreach.to) (core.view_block c.in_ok-body-in-Foreach.body)
+    c.in_ok-new_name-in-Foreach.ensures c.in_ok-from-in-Foreach.ensures c.in_ok-to-in-Foreach.ensures (rw of_int at c.in_ok-body-in-Foreach.ensures) in
     rw (c.in-Foreach.is, of_foreach at n c.in-Foreach.from c.in-Foreach.to c.in-Foreach.block, whole) c.foreach.ensures
