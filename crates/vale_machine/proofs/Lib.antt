@@ -1,0 +1,4 @@
+pub mod Passing
+pub mod Operands
+pub mod Stack
+pub mod Told

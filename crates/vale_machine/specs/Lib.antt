@@ -1,0 +1,6 @@
+pub mod Calls
+pub mod Cells
+pub mod Lawful
+pub mod Replies
+pub mod UnderWay
+pub mod View
