@@ -15,7 +15,7 @@ use Rattle.vale_machine.specs.declared.cell.Cell.{Cell}
 use Rattle.vale_machine.specs.declared.machine.Frame.{Frame}
 use Rattle.vale_machine.proofs.Operands.{put_values}
 
-drop_less : {A : Type 0} (xs : List A) (b n : ℕ) → b + n < length xs → n < length (drop b xs)
+pub drop_less : {A : Type 0} (xs : List A) (b n : ℕ) → b + n < length xs → n < length (drop b xs)
 drop_less [] b n lt = absurd (omega arith)
 drop_less (x ∷ xs) zero n lt = omega arith
 drop_less (x ∷ xs) (suc b) n lt = drop_less xs b n (omega arith)

@@ -1,5 +1,5 @@
 // How functions are entered and left.
-ghost use Rattle.std.specs.Prelude.{◌≡◌, ◌+◌, ◌-◌, ◌<◌, ◌≤◌, ◌^◌, ◌++◌, List, Some, OnOk, length, drop, replicate};
+ghost use Rattle.std.specs.Prelude.{◌≡◌, ◌+◌, ◌-◌, ◌<◌, ◌≤◌, ◌^◌, ◌++◌, List, Some, OnOk, length, drop, replicate, reverse, slice_get};
 ghost use Rattle.vale_base.specs.State.{State, gives};
 ghost use Rattle.vale_base.specs.declared.piece.Piece.{Piece};
 ghost use Rattle.vale_code.specs.Act as a;
@@ -11,7 +11,7 @@ ghost use Rattle.vale_code.specs.Registers.{read, give_all, given_value};
 ghost use Rattle.vale_machine.specs.Calls.{ArePassed, HasRegister, IsCallable, IsEntered};
 ghost use Rattle.vale_machine.specs.Cells.{value_in, values_in};
 ghost use Rattle.vale_machine.specs.Replies.{Replies, on_value};
-ghost use Rattle.vale_machine.specs.View.{IfGoing, IsLaid, KeepsTicks, Stepped, active, below, config_of, state_of};
+ghost use Rattle.vale_machine.specs.View.{HasRoom, IfGoing, IsLaid, KeepsTicks, Stepped, active, below, config_of, state_of};
 
 use crate::cell::Cell;
 use crate::machine::{Frame, Machine, Step};
@@ -20,7 +20,7 @@ use crate::values::copy_at;
 use std::alloc::Global;
 use std::mem;
 use vale_base::{DEPTH_LIMIT, Memory, Spot, TrapKind};
-use vale_code::{Code, Ty};
+use vale_code::{Code, Func, Ty};
 
 // What passing values comes to.
 #[derive(Drop)]
@@ -58,13 +58,13 @@ fn pass(
     }
     for (i, from) in args.iter().enumerate() {
         match given(alloc, &cells[base..end], *from, &params[i]) {
-            Reply::Gives(cell) => {
-                if cells.push(cell).is_err() {
-                    return Passing::Memory;
-                }
-            }
+            Reply::Gives(cell) => match cells.push(cell) {
+                Ok(()) => {}
+                Err(_) => return Passing::Memory,
+            },
+            Reply::Traps(_) => unreachable!(),
             Reply::Memory => return Passing::Memory,
-            _ => return Passing::Wrong,
+            Reply::Wrong => return Passing::Wrong,
         }
     }
     Passing::All
@@ -90,6 +90,14 @@ fn dest_of(result_type: &Ty, to: u32) -> Option<u32>
     }
 }
 
+// A function of a code.
+fn function_of(code: &Code, function: u32) -> &Func
+    requires { function < length code.now.funcs }
+    ensures { slice_get code.now.funcs function ≡ Some result.now }
+{
+    &code.funcs.as_slice()[function as usize]
+}
+
 impl Machine {
     // A function is called with the values of these registers.
     pub fn call(
@@ -109,7 +117,7 @@ impl Machine {
         ensures laid { IfGoing result (IsLaid code.now self.new) }
         ensures ticks { KeepsTicks self.old self.new }
     {
-        let callee = &code.funcs.as_slice()[function as usize];
+        let callee = function_of(code, function);
         let base = self.cells.len();
         match pass(
             self.alloc,
@@ -128,17 +136,17 @@ impl Machine {
         if !self.take_tick() {
             return Step::Cut;
         }
-        if fill(&mut self.cells, base + callee.registers as usize).is_err() {
-            return Step::Memory;
+        match fill(&mut self.cells, base + callee.registers as usize) {
+            Ok(()) => self.enter(Frame {
+                function,
+                name: callee.name,
+                at,
+                dest: dest_of(&callee.result, to),
+                place: 0,
+                base,
+            }),
+            Err(_) => Step::Memory,
         }
-        self.enter(Frame {
-            function,
-            name: callee.name,
-            at,
-            dest: dest_of(&callee.result, to),
-            place: 0,
-            base,
-        })
     }
 
     // The caller goes on behind its instruction later; this frame is the innermost.
@@ -156,21 +164,25 @@ impl Machine {
 
     // A function is left with the value of a register.
     pub fn ret(&mut self, from: u32) -> Step
-        requires { self.old.top.base + from < length self.old.cells.items }
+        requires register { self.old.top.base + from < length self.old.cells.items }
+        requires room { HasRoom self.old.top.dest self.old.top.base (reverse self.old.below.items) }
         ensures step { (code : Parts) (taken : List Piece) → IsLaid code self.old → Stepped code taken result
             (with_value (read (active code self.old).registers from) (state_of taken self.old)
                 (λ v. leave (below code self.old) self.old.top.dest (Some v) (state_of taken self.old))) self.new }
         ensures laid { (code : Parts) → IsLaid code self.old → IfGoing result (IsLaid code self.new) }
         ensures ticks { KeepsTicks self.old self.new }
     {
-        match mem::replace(&mut self.cells[self.top.base + from as usize], Cell::Empty) {
-            Cell::Empty => Step::Wrong,
-            cell => self.leave(cell),
+        let cell = mem::replace(&mut self.cells[self.top.base + from as usize], Cell::Empty);
+        if cell.is_empty() {
+            return Step::Wrong;
         }
+        self.leave(cell)
     }
 
     // The innermost function is left with this value, or with none.
     pub fn leave(&mut self, cell: Cell) -> Step
+        requires base { self.old.top.base ≤ length self.old.cells.items }
+        requires room { HasRoom self.old.top.dest self.old.top.base (reverse self.old.below.items) }
         ensures step { (code : Parts) (taken : List Piece) → IsLaid code self.old → Stepped code taken result
             (leave (below code self.old) self.old.top.dest (value_in cell) (state_of taken self.old)) self.new }
         ensures laid { (code : Parts) → IsLaid code self.old → IfGoing result (IsLaid code self.new) }
@@ -196,10 +208,10 @@ impl Machine {
         ensures laid { (code : Parts) → IsLaid code self.old → IsLaid code self.new }
         ensures ticks { KeepsTicks self.old self.new }
     {
-        match (dest, cell) {
-            (None, _) => {}
-            (Some(_), Cell::Empty) => {}
-            (Some(to), cell) => self.cells[self.top.base + to as usize] = cell,
+        if let Some(to) = dest {
+            if !cell.is_empty() {
+                self.cells[self.top.base + to as usize] = cell;
+            }
         }
     }
 }

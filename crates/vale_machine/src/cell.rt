@@ -1,5 +1,5 @@
 // What registers hold, and how they are read.
-ghost use Rattle.std.specs.Prelude.{◌≡◌, MatchOption, None, option_map};
+ghost use Rattle.std.specs.Prelude.{◌≡◌, MatchOption, None, is_none, option_map};
 ghost use Rattle.vale_code.specs.Registers.{read};
 ghost use Rattle.vale_machine.specs.Cells.{value_in, values_in, int_in, ints_in, truth_in, truths_in, text_in};
 
@@ -15,6 +15,17 @@ pub enum Cell {
 }
 
 impl Cell {
+    pub fn is_empty(&self) -> bool
+        ensures { result ≡ is_none (value_in self.now) }
+    {
+        match self {
+            Cell::Empty => true,
+            Cell::Int(_) => false,
+            Cell::Truth(_) => false,
+            Cell::Text(_) => false,
+        }
+    }
+
     fn int(&self) -> Option<i64>
         ensures { result ≡ int_in (value_in self.now) }
     {

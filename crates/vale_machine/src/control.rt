@@ -1,5 +1,5 @@
 // Jumps and ticks.
-ghost use Rattle.std.specs.Prelude.{◌≡◌, ◌+◌, ◌<◌, ◌^◌, ◌||◌, ◌≤◌, nat_lt, List, length, option_map};
+ghost use Rattle.std.specs.Prelude.{◌≡◌, ◌+◌, ◌<◌, ◌^◌, ◌||◌, ◌≤◌, nat_lt, IfSome, List, length, option_map};
 ghost use Rattle.vale_base.specs.declared.piece.Piece.{Piece};
 ghost use Rattle.vale_code.specs.Frames.{after_tick};
 ghost use Rattle.vale_code.specs.Instructions.{fetch, is_tick, jump, jump_unless, onward, with_truth};
@@ -13,7 +13,8 @@ use vale_code::{Code, Instr};
 
 // The instruction at a place of a function.
 pub fn fetched(code: &Code, function: u32, place: usize) -> Option<&Instr>
-    ensures { option_map (λ instr. instr.now) result ≡ fetch code.now function place }
+    ensures fetched { option_map (λ instr. instr.now) result ≡ fetch code.now function place }
+    ensures place { IfSome result (λ _. place + 1 < 2 ^ 64) }
 {
     let functions = code.funcs.as_slice();
     if function as usize >= functions.len() {

@@ -13,6 +13,7 @@ ghost use Rattle.vale_machine.specs.View.{IsLaid, KeepsTicks, Stepped, active, b
 
 use crate::cell::{Cell, cell_at};
 use crate::machine::{Machine, Step};
+use crate::values::chosen;
 use std::alloc::Global;
 use vale_base::{Memory, Piece, Text};
 
@@ -98,15 +99,13 @@ impl Machine {
         ensures laid { (code : Parts) → IsLaid code self.old → IsLaid code self.new }
         ensures ticks { KeepsTicks self.old self.new }
     {
-        let line = match choice {
-            0 => false,
-            1 => true,
-            _ => return Step::Wrong,
-        };
-        match bytes_at(self.alloc, self.registers(), from) {
-            Ok(Some(bytes)) => self.put_out(bytes, line),
-            Ok(None) => Step::Wrong,
-            Err(_) => Step::Memory,
+        match chosen(choice) {
+            Some(line) => match bytes_at(self.alloc, self.registers(), from) {
+                Ok(Some(bytes)) => self.put_out(bytes, line),
+                Ok(None) => Step::Wrong,
+                Err(_) => Step::Memory,
+            },
+            None => Step::Wrong,
         }
     }
 }

@@ -5,6 +5,7 @@ ghost use Rattle.vale_code.specs.Kinds.{text_at};
 ghost use Rattle.vale_machine.specs.View.{call_of, calls_of, frames_of};
 
 use crate::machine::{Frame, Machine};
+use crate::values::text_numbered;
 use std::alloc::Global;
 use vale_base::{FrameAt, Frames, Memory, REPORT_FRAMES, Spot, Text, TrapInfo, TrapKind};
 use vale_code::Code;
@@ -13,11 +14,10 @@ use vale_code::Code;
 fn text_of(alloc: Global, code: &Code, number: u32) -> Result<Text, Memory>
     ensures { IfOk result (λ text. text ≡ text_at code.now number) }
 {
-    let texts = code.texts.as_slice();
-    if number as usize >= texts.len() {
-        return Ok(Text::new(alloc));
+    match text_numbered(code, number) {
+        Some(text) => Text::from_slice(alloc, text.as_slice()),
+        None => Ok(Text::new(alloc)),
     }
-    Text::from_slice(alloc, texts[number as usize].as_slice())
 }
 
 // The call of a frame.

@@ -1,10 +1,11 @@
 // Instructions that set a register to a value that they name.
-ghost use Rattle.std.specs.Prelude.{◌≡◌, ◌+◌, ◌<◌, ◌^◌, List, Some, length};
+ghost use Rattle.std.specs.Prelude.{◌≡◌, ◌+◌, ◌<◌, ◌^◌, List, Some, length, option_map, slice_get};
 ghost use Rattle.vale_base.specs.State.{State, gives};
 ghost use Rattle.vale_base.specs.World.{Value};
 ghost use Rattle.vale_base.specs.declared.piece.Piece.{Piece};
 ghost use Rattle.vale_code.specs.Act.{act, sets};
 ghost use Rattle.vale_code.specs.Frames.{Config};
+ghost use Rattle.vale_code.specs.Instructions.{truth_of};
 ghost use Rattle.vale_code.specs.Parts.{Parts};
 ghost use Rattle.vale_code.specs.Registers.{read};
 ghost use Rattle.vale_code.specs.declared.instr.Instr.{Instr};
@@ -34,6 +35,28 @@ pub fn copy_at(alloc: Global, registers: &[Cell], from: u32) -> Reply
     }
 }
 
+// False for 0, and true for 1.
+pub fn chosen(choice: u8) -> Option<bool>
+    ensures { result ≡ truth_of choice }
+{
+    match choice {
+        0 => Some(false),
+        1 => Some(true),
+        _ => None,
+    }
+}
+
+// The text of a number among the texts of a code.
+pub fn text_numbered(code: &Code, number: u32) -> Option<&Text>
+    ensures { option_map (λ text. text.now) result ≡ slice_get code.now.texts number }
+{
+    let texts = code.texts.as_slice();
+    if number as usize >= texts.len() {
+        return None;
+    }
+    Some(&texts[number as usize])
+}
+
 impl Machine {
     // A register gets this value.
     pub fn set(&mut self, to: u32, cell: Cell) -> Step
@@ -56,10 +79,9 @@ impl Machine {
         ensures laid { (code : Parts) → IsLaid code self.old → IsLaid code self.new }
         ensures ticks { KeepsTicks self.old self.new }
     {
-        match choice {
-            0 => self.set(to, Cell::Truth(false)),
-            1 => self.set(to, Cell::Truth(true)),
-            _ => Step::Wrong,
+        match chosen(choice) {
+            Some(truth) => self.set(to, Cell::Truth(truth)),
+            None => Step::Wrong,
         }
     }
 
@@ -71,13 +93,12 @@ impl Machine {
         ensures laid { IsLaid code.now self.old → IsLaid code.now self.new }
         ensures ticks { KeepsTicks self.old self.new }
     {
-        let texts = code.texts.as_slice();
-        if text as usize >= texts.len() {
-            return Step::Wrong;
-        }
-        match Text::from_slice(self.alloc, texts[text as usize].as_slice()) {
-            Ok(copy) => self.set(to, Cell::Text(copy)),
-            Err(_) => Step::Memory,
+        match text_numbered(code, text) {
+            Some(text) => match Text::from_slice(self.alloc, text.as_slice()) {
+                Ok(copy) => self.set(to, Cell::Text(copy)),
+                Err(_) => Step::Memory,
+            },
+            None => Step::Wrong,
         }
     }
 
