@@ -229,7 +229,7 @@ filled_all cells all count le e =
     append_nil [] = refl
     append_nil (x ∷ xs) = ap (λ l. x ∷ l) (append_nil xs)
 
-empties : (n : ℕ) → values_in (replicate n cell.Empty) ≡ replicate n None
+pub empties : (n : ℕ) → values_in (replicate n cell.Empty) ≡ replicate n None
 empties zero = refl
 empties (suc n) = ap (λ l. None ∷ l) (empties n)
 

@@ -20,12 +20,16 @@ use Rattle.vale_machine.specs.declared.turn.Turn.TheVariants as turn
 abbrev pub IsSafe : Parts → Config → Type 0
 IsSafe code c = (n : ℕ) (v : Option Value) (s : State) → steps code n c ≢ Over Wrong v s
 
--- The machine was started with this code, which is certified, and its run hasn't ended.
-pub record IsUnderWay (code : Parts) (m : Machine) : Type 0 where
+-- The machine was started with this code, which is certified, these pieces were taken, and its run hasn't ended.
+pub record IsUnderWay (code : Parts) (taken : List Piece) (m : Machine) : Type 0 where
   pub runnable : IsRunnable code
   pub laid : IsLaid code m
   pub ticks : m.left + m.spent ≤ ticks_limit
-  pub safe : (taken : List Piece) → IsSafe code (config_of code taken m)
+  pub safe : IsSafe code (config_of code taken m)
+
+-- the same, whatever was taken
+abbrev pub IsRunning : Parts → Machine → Type 0
+IsRunning code m = (taken : List Piece) × IsUnderWay code taken m
 
 -- an end of the machine is the one that the step leads to; of the want of memory nothing is said
 abbrev pub Ends : End → Next → State → Type 0
@@ -39,6 +43,6 @@ abbrev pub Turned : Parts → List Piece → Turn → Next → Machine → Type 
 Turned code taken turn.Going next m = next ≡ On (config_of code taken m)
 Turned code taken (turn.Ended e) next m = Ends e next (state_of taken m)
 
-abbrev pub IsStillUnderWay : Parts → Turn → Machine → Type 0
-IsStillUnderWay code turn.Going m = IsUnderWay code m
-IsStillUnderWay code (turn.Ended e) m = Unit {0}
+abbrev pub IsStillUnderWay : Parts → List Piece → Turn → Machine → Type 0
+IsStillUnderWay code taken turn.Going m = IsUnderWay code taken m
+IsStillUnderWay code taken (turn.Ended e) m = Unit {0}

@@ -71,7 +71,7 @@ fn pass(
 }
 
 // Empty cells behind all cells, until there are so many.
-fn fill(cells: &mut Vec<Cell>, count: usize) -> Result<(), Memory>
+pub fn fill(cells: &mut Vec<Cell>, count: usize) -> Result<(), Memory>
     ensures { OnOk result (cells.new.items ≡ cells.old.items ++ replicate (count - length cells.old.items) Cell.Empty) }
 {
     while cells.len() < count {
@@ -91,7 +91,7 @@ fn dest_of(result_type: &Ty, to: u32) -> Option<u32>
 }
 
 // A function of a code.
-fn function_of(code: &Code, function: u32) -> &Func
+pub fn function_of(code: &Code, function: u32) -> &Func
     requires { function < length code.now.funcs }
     ensures { slice_get code.now.funcs function ≡ Some result.now }
 {
@@ -100,7 +100,7 @@ fn function_of(code: &Code, function: u32) -> &Func
 
 impl Machine {
     // A function is called with the values of these registers.
-    pub fn call(
+    pub(crate) fn call(
         &mut self,
         code: &Code,
         to: u32,
@@ -163,7 +163,7 @@ impl Machine {
     }
 
     // A function is left with the value of a register.
-    pub fn ret(&mut self, from: u32) -> Step
+    pub(crate) fn ret(&mut self, from: u32) -> Step
         requires register { self.old.top.base + from < length self.old.cells.items }
         requires room { HasRoom self.old.top.dest self.old.top.base (reverse self.old.below.items) }
         ensures step { (code : Parts) (taken : List Piece) → IsLaid code self.old → Stepped code taken result
@@ -180,7 +180,7 @@ impl Machine {
     }
 
     // The innermost function is left with this value, or with none.
-    pub fn leave(&mut self, cell: Cell) -> Step
+    pub(crate) fn leave(&mut self, cell: Cell) -> Step
         requires base { self.old.top.base ≤ length self.old.cells.items }
         requires room { HasRoom self.old.top.dest self.old.top.base (reverse self.old.below.items) }
         ensures step { (code : Parts) (taken : List Piece) → IsLaid code self.old → Stepped code taken result

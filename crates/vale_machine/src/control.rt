@@ -41,7 +41,7 @@ impl Machine {
         }
     }
 
-    pub fn jump(&mut self, code: &Code, target: u32) -> Step
+    pub(crate) fn jump(&mut self, code: &Code, target: u32) -> Step
         requires { self.old.left + self.old.spent < 2 ^ 64 }
         ensures step { (taken : List Piece) → Stepped code.now taken result (jump code.now (active code.now self.old) target (below code.now self.old) (state_of taken self.old)) self.new }
         ensures laid { IsLaid code.now self.old → IsLaid code.now self.new }
@@ -57,7 +57,7 @@ impl Machine {
         Step::Going
     }
 
-    pub fn unless(&mut self, code: &Code, condition: u32, target: u32) -> Step
+    pub(crate) fn unless(&mut self, code: &Code, condition: u32, target: u32) -> Step
         requires ticks { self.old.left + self.old.spent < 2 ^ 64 }
         requires place { self.old.top.place + 1 < 2 ^ 64 }
         requires base { self.old.top.base ≤ length self.old.cells.items }
@@ -78,7 +78,7 @@ impl Machine {
     }
 
     // The tick of a loop's turn.
-    pub fn tick(&mut self) -> Step
+    pub(crate) fn tick(&mut self) -> Step
         requires ticks { self.old.left + self.old.spent < 2 ^ 64 }
         requires place { self.old.top.place + 1 < 2 ^ 64 }
         ensures step { (code : Parts) (taken : List Piece) → Stepped code taken result

@@ -16,8 +16,8 @@ use crate::reply::Reply;
 use std::alloc::Global;
 use vale_base::{Piece, Spot, TrapKind};
 
-/// A function under way: its name among the texts, the spot of its call, the register of the frame below for its value,
-/// the place of its next instruction, and where its registers begin.
+// A function under way: its name among the texts, the spot of its call, the register of the frame below for its value,
+// the place of its next instruction, and where its registers begin.
 #[derive(Drop)]
 pub struct Frame {
     pub function: u32,
@@ -31,13 +31,13 @@ pub struct Frame {
 /// A machine. The registers of all frames lie in one row, those of the innermost last.
 #[derive(Drop)]
 pub struct Machine {
-    pub alloc: Global,
-    pub cells: Vec<Cell>,
-    pub top: Frame,
-    pub below: Vec<Frame>,
-    pub left: u64,
-    pub spent: u64,
-    pub pieces: Vec<Piece>,
+    pub(crate) alloc: Global,
+    pub(crate) cells: Vec<Cell>,
+    pub(crate) top: Frame,
+    pub(crate) below: Vec<Frame>,
+    pub(crate) left: u64,
+    pub(crate) spent: u64,
+    pub(crate) pieces: Vec<Piece>,
 }
 
 // What one step comes to. `Wrong`, where no rule gives it, never comes in certified code.
@@ -53,7 +53,7 @@ pub enum Step {
 
 impl Machine {
     // The registers of the innermost frame.
-    pub fn registers(&self) -> &[Cell]
+    pub(crate) fn registers(&self) -> &[Cell]
         requires { self.now.top.base ≤ length self.now.cells.items }
         ensures { result.now ≡ drop self.now.top.base self.now.cells.items }
     {
@@ -61,7 +61,7 @@ impl Machine {
     }
 
     // A value goes to a register, and the next instruction is the one behind.
-    pub fn receive(&mut self, to: u32, cell: Cell)
+    pub(crate) fn receive(&mut self, to: u32, cell: Cell)
         requires room { self.old.top.base + to < length self.old.cells.items }
         requires place { self.old.top.place + 1 < 2 ^ 64 }
         ensures step { (code : Parts) (taken : List Piece) (v : Value) → value_in cell ≡ Some v
@@ -74,7 +74,7 @@ impl Machine {
     }
 
     // The next instruction is the one behind.
-    pub fn pass(&mut self)
+    pub(crate) fn pass(&mut self)
         requires { self.old.top.place + 1 < 2 ^ 64 }
         ensures step { (code : Parts) (taken : List Piece)
             → onward (active code self.old) (active code self.old).registers (below code self.old) (state_of taken self.old) ≡ On (config_of code taken self.new) }
@@ -85,7 +85,7 @@ impl Machine {
     }
 
     // The value of an instruction goes to its register, or its trap is told.
-    pub fn answer(&mut self, to: u32, at: Spot, reply: Reply) -> Step
+    pub(crate) fn answer(&mut self, to: u32, at: Spot, reply: Reply) -> Step
         requires room { self.old.top.base + to < length self.old.cells.items }
         requires place { self.old.top.place + 1 < 2 ^ 64 }
         ensures step { (code : Parts) (taken : List Piece) (a : Answer) → Replies reply a (state_of taken self.old)
@@ -105,7 +105,7 @@ impl Machine {
     }
 
     // The same of an instruction that has no trap.
-    pub fn surely(&mut self, to: u32, reply: Reply) -> Step
+    pub(crate) fn surely(&mut self, to: u32, reply: Reply) -> Step
         requires room { self.old.top.base + to < length self.old.cells.items }
         requires place { self.old.top.place + 1 < 2 ^ 64 }
         ensures step { (code : Parts) (taken : List Piece) (a : Answer) → Replies reply a (state_of taken self.old)
@@ -125,7 +125,7 @@ impl Machine {
     }
 
     // Whether a tick was left, which is then spent.
-    pub fn take_tick(&mut self) -> bool
+    pub(crate) fn take_tick(&mut self) -> bool
         requires { self.old.left + self.old.spent < 2 ^ 64 }
         ensures { IsTicked result self.old self.new }
     {

@@ -120,7 +120,7 @@ fn comparison(registers: &[Cell], choice: u8, left: u32, right: u32) -> Reply
 }
 
 impl Machine {
-    pub fn add(&mut self, to: u32, left: u32, right: u32, at: Spot) -> Step
+    pub(crate) fn add(&mut self, to: u32, left: u32, right: u32, at: Spot) -> Step
         requires room { self.old.top.base + to < length self.old.cells.items }
         requires place { self.old.top.place + 1 < 2 ^ 64 }
         ensures step { (code : Parts) (last : Config → State) (taken : List Piece) → Stepped code taken result
@@ -132,7 +132,7 @@ impl Machine {
         self.answer(to, at, reply)
     }
 
-    pub fn sub(&mut self, to: u32, left: u32, right: u32, at: Spot) -> Step
+    pub(crate) fn sub(&mut self, to: u32, left: u32, right: u32, at: Spot) -> Step
         requires room { self.old.top.base + to < length self.old.cells.items }
         requires place { self.old.top.place + 1 < 2 ^ 64 }
         ensures step { (code : Parts) (last : Config → State) (taken : List Piece) → Stepped code taken result
@@ -144,7 +144,7 @@ impl Machine {
         self.answer(to, at, reply)
     }
 
-    pub fn mul(&mut self, to: u32, left: u32, right: u32, at: Spot) -> Step
+    pub(crate) fn mul(&mut self, to: u32, left: u32, right: u32, at: Spot) -> Step
         requires room { self.old.top.base + to < length self.old.cells.items }
         requires place { self.old.top.place + 1 < 2 ^ 64 }
         ensures step { (code : Parts) (last : Config → State) (taken : List Piece) → Stepped code taken result
@@ -156,7 +156,7 @@ impl Machine {
         self.answer(to, at, reply)
     }
 
-    pub fn div(&mut self, to: u32, left: u32, right: u32, at: Spot) -> Step
+    pub(crate) fn div(&mut self, to: u32, left: u32, right: u32, at: Spot) -> Step
         requires room { self.old.top.base + to < length self.old.cells.items }
         requires place { self.old.top.place + 1 < 2 ^ 64 }
         ensures step { (code : Parts) (last : Config → State) (taken : List Piece) → Stepped code taken result
@@ -168,7 +168,7 @@ impl Machine {
         self.answer(to, at, reply)
     }
 
-    pub fn rem(&mut self, to: u32, left: u32, right: u32, at: Spot) -> Step
+    pub(crate) fn rem(&mut self, to: u32, left: u32, right: u32, at: Spot) -> Step
         requires room { self.old.top.base + to < length self.old.cells.items }
         requires place { self.old.top.place + 1 < 2 ^ 64 }
         ensures step { (code : Parts) (last : Config → State) (taken : List Piece) → Stepped code taken result
@@ -180,7 +180,7 @@ impl Machine {
         self.answer(to, at, reply)
     }
 
-    pub fn compare(&mut self, to: u32, choice: u8, left: u32, right: u32) -> Step
+    pub(crate) fn compare(&mut self, to: u32, choice: u8, left: u32, right: u32) -> Step
         requires room { self.old.top.base + to < length self.old.cells.items }
         requires place { self.old.top.place + 1 < 2 ^ 64 }
         ensures step { (code : Parts) (last : Config → State) (taken : List Piece) → Stepped code taken result
@@ -192,7 +192,7 @@ impl Machine {
         self.surely(to, reply)
     }
 
-    pub fn not(&mut self, to: u32, from: u32) -> Step
+    pub(crate) fn not(&mut self, to: u32, from: u32) -> Step
         requires room { self.old.top.base + to < length self.old.cells.items }
         requires place { self.old.top.place + 1 < 2 ^ 64 }
         ensures step { (code : Parts) (last : Config → State) (taken : List Piece) → Stepped code taken result

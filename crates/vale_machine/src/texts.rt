@@ -96,7 +96,7 @@ fn number_in(registers: &[Cell], from: u32) -> Reply
 }
 
 impl Machine {
-    pub fn join(&mut self, to: u32, left: u32, right: u32, at: Spot) -> Step
+    pub(crate) fn join(&mut self, to: u32, left: u32, right: u32, at: Spot) -> Step
         requires room { self.old.top.base + to < length self.old.cells.items }
         requires place { self.old.top.place + 1 < 2 ^ 64 }
         ensures step { (code : Parts) (last : Config → State) (taken : List Piece) → Stepped code taken result
@@ -108,7 +108,7 @@ impl Machine {
         self.answer(to, at, reply)
     }
 
-    pub fn text_len(&mut self, to: u32, from: u32) -> Step
+    pub(crate) fn text_len(&mut self, to: u32, from: u32) -> Step
         requires room { self.old.top.base + to < length self.old.cells.items }
         requires place { self.old.top.place + 1 < 2 ^ 64 }
         ensures step { (code : Parts) (last : Config → State) (taken : List Piece) → Stepped code taken result
@@ -120,7 +120,7 @@ impl Machine {
         self.surely(to, reply)
     }
 
-    pub fn slice(&mut self, to: u32, from: u32, first: u32, end: u32, at: Spot) -> Step
+    pub(crate) fn slice(&mut self, to: u32, from: u32, first: u32, end: u32, at: Spot) -> Step
         requires room { self.old.top.base + to < length self.old.cells.items }
         requires place { self.old.top.place + 1 < 2 ^ 64 }
         ensures step { (code : Parts) (last : Config → State) (taken : List Piece) → Stepped code taken result
@@ -132,7 +132,7 @@ impl Machine {
         self.answer(to, at, reply)
     }
 
-    pub fn byte(&mut self, to: u32, from: u32, index: u32, at: Spot) -> Step
+    pub(crate) fn byte(&mut self, to: u32, from: u32, index: u32, at: Spot) -> Step
         requires room { self.old.top.base + to < length self.old.cells.items }
         requires place { self.old.top.place + 1 < 2 ^ 64 }
         ensures step { (code : Parts) (last : Config → State) (taken : List Piece) → Stepped code taken result
@@ -144,7 +144,7 @@ impl Machine {
         self.answer(to, at, reply)
     }
 
-    pub fn text_of(&mut self, to: u32, from: u32) -> Step
+    pub(crate) fn text_of(&mut self, to: u32, from: u32) -> Step
         requires room { self.old.top.base + to < length self.old.cells.items }
         requires place { self.old.top.place + 1 < 2 ^ 64 }
         ensures step { (code : Parts) (last : Config → State) (taken : List Piece) → Stepped code taken result
@@ -156,7 +156,7 @@ impl Machine {
         self.surely(to, reply)
     }
 
-    pub fn is_num(&mut self, to: u32, from: u32) -> Step
+    pub(crate) fn is_num(&mut self, to: u32, from: u32) -> Step
         requires room { self.old.top.base + to < length self.old.cells.items }
         requires place { self.old.top.place + 1 < 2 ^ 64 }
         ensures step { (code : Parts) (last : Config → State) (taken : List Piece) → Stepped code taken result
@@ -168,7 +168,7 @@ impl Machine {
         self.surely(to, reply)
     }
 
-    pub fn num(&mut self, to: u32, from: u32, at: Spot) -> Step
+    pub(crate) fn num(&mut self, to: u32, from: u32, at: Spot) -> Step
         requires room { self.old.top.base + to < length self.old.cells.items }
         requires place { self.old.top.place + 1 < 2 ^ 64 }
         ensures step { (code : Parts) (last : Config → State) (taken : List Piece) → Stepped code taken result

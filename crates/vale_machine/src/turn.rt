@@ -7,7 +7,7 @@ ghost use Rattle.vale_code.specs.Frames.{Config};
 ghost use Rattle.vale_code.specs.Instructions.{fetch};
 ghost use Rattle.vale_code.specs.Run.{step};
 ghost use Rattle.vale_machine.specs.Lawful.{IsFit, IsRunnable};
-ghost use Rattle.vale_machine.specs.UnderWay.{IsUnderWay, Turned, IsStillUnderWay};
+ghost use Rattle.vale_machine.specs.UnderWay.{IsRunning, IsStillUnderWay, IsUnderWay, Turned};
 ghost use Rattle.vale_machine.specs.View.{IfGoing, IsLaid, KeepsTicks, Stepped, active, below, config_of, state_of};
 
 use crate::cell::Cell;
@@ -16,6 +16,7 @@ use crate::machine::{Machine, Step};
 use crate::trap::trap_at;
 use vale_base::TrapInfo;
 use vale_code::{Code, Instr};
+use vale_verifier::Verified;
 
 /// How a run ends, with the ticks that it spent: it is done, or stopped by a trap. A run that is cut spent all its ticks,
 /// and one that wants memory says nothing of them.
@@ -114,16 +115,16 @@ impl Machine {
 
     /// One step of the code's meaning: an instruction, with the entry or the leaving that it leads to. The code is the one
     /// that the machine was started with, and the machine hasn't ended.
-    pub fn turn(&mut self, code: &Code) -> Turn
-        requires { IsUnderWay code.now self.old }
-        ensures step { (taken : List Piece) → Turned code.now taken result (step code.now (config_of code.now taken self.old)) self.new }
-        ensures under_way { IsStillUnderWay code.now result self.new }
+    pub fn turn(&mut self, code: &Verified) -> Turn
+        requires { IsRunning code.now.code self.old }
+        ensures step { (taken : List Piece) → Turned code.now.code taken result (step code.now.code (config_of code.now.code taken self.old)) self.new }
+        ensures under_way { (taken : List Piece) → IsUnderWay code.now.code taken self.old → IsStillUnderWay code.now.code taken result self.new }
         ensures ticks { KeepsTicks self.old self.new }
     {
-        match self.step(code) {
+        match self.step(&code.code) {
             Step::Going => Turn::Going,
             Step::Done => Turn::Ended(End::Done { ticks: self.spent }),
-            Step::Trap(kind, at) => match trap_at(self.alloc, code, self, kind, at) {
+            Step::Trap(kind, at) => match trap_at(self.alloc, &code.code, self, kind, at) {
                 Ok(info) => Turn::Ended(End::Trap {
                     ticks: self.spent,
                     info,

@@ -59,7 +59,7 @@ pub fn text_numbered(code: &Code, number: u32) -> Option<&Text>
 
 impl Machine {
     // A register gets this value.
-    pub fn set(&mut self, to: u32, cell: Cell) -> Step
+    pub(crate) fn set(&mut self, to: u32, cell: Cell) -> Step
         requires room { self.old.top.base + to < length self.old.cells.items }
         requires place { self.old.top.place + 1 < 2 ^ 64 }
         ensures step { (code : Parts) (last : Config → State) (taken : List Piece) (v : Value) → value_in cell ≡ Some v → Stepped code taken result
@@ -71,7 +71,7 @@ impl Machine {
         Step::Going
     }
 
-    pub fn choose(&mut self, to: u32, choice: u8) -> Step
+    pub(crate) fn choose(&mut self, to: u32, choice: u8) -> Step
         requires room { self.old.top.base + to < length self.old.cells.items }
         requires place { self.old.top.place + 1 < 2 ^ 64 }
         ensures step { (code : Parts) (last : Config → State) (taken : List Piece) → Stepped code taken result
@@ -85,7 +85,7 @@ impl Machine {
         }
     }
 
-    pub fn quote(&mut self, code: &Code, to: u32, text: u32) -> Step
+    pub(crate) fn quote(&mut self, code: &Code, to: u32, text: u32) -> Step
         requires room { self.old.top.base + to < length self.old.cells.items }
         requires place { self.old.top.place + 1 < 2 ^ 64 }
         ensures step { (last : Config → State) (taken : List Piece) → Stepped code.now taken result
@@ -102,7 +102,7 @@ impl Machine {
         }
     }
 
-    pub fn copy(&mut self, to: u32, from: u32) -> Step
+    pub(crate) fn copy(&mut self, to: u32, from: u32) -> Step
         requires room { self.old.top.base + to < length self.old.cells.items }
         requires place { self.old.top.place + 1 < 2 ^ 64 }
         ensures step { (code : Parts) (last : Config → State) (taken : List Piece) → Stepped code taken result
