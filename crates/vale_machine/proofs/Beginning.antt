@@ -1,5 +1,5 @@
 -- How a run of certified code begins.
-use Rattle.std.proofs.Common.{◌≡◌, ℕ, zero, suc, ◌+◌, ◌-◌, ◌<◌, ◌≤◌, List, [], ◌∷◌, ◌++◌, length, map, drop, take, reverse, replicate, Option, Some, None, true, ◌==◌, refl, sym, ap, ◌∙◌, subst, arith}
+use Rattle.std.proofs.Common.{◌≡◌, ℕ, zero, suc, ◌+◌, ◌-◌, ◌<◌, ◌≤◌, List, [], ◌∷◌, ◌++◌, length, drop, take, reverse, replicate, Option, Some, None, true, ◌==◌, refl, sym, ap, ◌∙◌, subst, arith}
 use Rattle.std.specs.Prelude.{slice_get, IfOk, Result, Ok, Err}
 use Rattle.std.proofs.Math.Logic.{∥∥₁_elim}
 use Rattle.std.proofs.lemmas.Bool.{and_parts}
@@ -9,7 +9,7 @@ use Rattle.vale_base.specs.Limits.{ticks_limit}
 use Rattle.vale_base.specs.State.{State, Given, no_input, begin, function_frame}
 use Rattle.vale_base.specs.World.{Value}
 use Rattle.vale_base.specs.declared.piece.Piece.{Piece}
-use Rattle.vale_code.specs.Enter.{Form, Plain, form_of, function, with_func, with_form, enter}
+use Rattle.vale_code.specs.Enter.{Form, Plain, form_of, with_func, with_form, enter}
 use Rattle.vale_code.specs.Frames.{Active, Running, Next, On}
 use Rattle.vale_code.specs.Kinds.{kind_of, text_at}
 use Rattle.vale_code.specs.Parts.{Parts}
@@ -21,7 +21,6 @@ use Rattle.vale_code.specs.declared.ty.Ty.{Ty}
 use Rattle.vale_code.specs.declared.ty.Ty.TheVariants as t
 use Rattle.vale_cert.specs.Certificate.{Certified, first_fault}
 use Rattle.vale_cert.specs.Input.{function_takes, is_input_of, params_take, takes_input}
-use Rattle.vale_cert.specs.Shape.{has_input, is_main}
 use Rattle.vale_cert.specs.declared.facts.FuncFacts.{FuncFacts}
 use Rattle.vale_cert.specs.declared.fault.Fault.{Fault}
 use Rattle.vale_cert.proofs.Safe.{ConfigFits, NextFits}

@@ -1,5 +1,5 @@
 -- What the machine relies on holds of certified code.
-use Rattle.std.proofs.Common.{◌≡◌, ◌≢◌, ℕ, zero, suc, ◌+◌, ◌<◌, ◌≤◌, List, [], ◌∷◌, length, Option, Some, None, Bool, true, false, ◌&&◌, ◌==◌, nat_lt, nat_le, refl, sym, ap, ◌∙◌, subst, arith}
+use Rattle.std.proofs.Common.{◌≡◌, ◌≢◌, ℕ, zero, suc, ◌+◌, ◌<◌, List, [], ◌∷◌, length, Option, Some, None, Bool, true, false, ◌&&◌, ◌==◌, nat_lt, nat_le, refl, subst, arith}
 use Rattle.std.specs.Prelude.{slice_get}
 use Rattle.std.specs.List.{list_all}
 use Rattle.std.proofs.lemmas.Bool.{and_parts}
@@ -7,11 +7,10 @@ use Rattle.std.proofs.lemmas.Bool.Decides.{nat_tests}
 use Rattle.vale_base.specs.Outcome.{End, Wrong}
 use Rattle.vale_base.specs.State.{State}
 use Rattle.vale_base.specs.World.{Value}
-use Rattle.vale_base.specs.declared.piece.Piece.{Piece}
 use Rattle.vale_code.specs.Frames.{Config, Next, On, Over}
 use Rattle.vale_code.specs.Kinds.{result_to}
 use Rattle.vale_code.specs.Parts.{Parts}
-use Rattle.vale_code.specs.Run.{Ending, exec, then_go, go_on, step, steps, last_state}
+use Rattle.vale_code.specs.Run.{exec, then_go, go_on, step, steps, last_state}
 use Rattle.vale_code.specs.declared.func.Func.{Func}
 use Rattle.vale_code.specs.declared.instr.Instr.{Instr}
 use Rattle.vale_code.specs.declared.instr.Instr.TheVariants as i
@@ -19,7 +18,7 @@ use Rattle.vale_code.specs.declared.ty.Ty.{Ty}
 use Rattle.vale_code.specs.declared.ty.Ty.TheVariants as t
 use Rattle.vale_cert.specs.Certificate.{Certified}
 use Rattle.vale_cert.specs.Known.{Known, entry}
-use Rattle.vale_cert.specs.Numbers.{numbers, is_register, calls_function, takes_result, are_registers}
+use Rattle.vale_cert.specs.Numbers.{numbers, calls_function, takes_result}
 use Rattle.vale_cert.specs.Rules.{row, call_by_form, calls}
 use Rattle.vale_cert.specs.Walk.{row_of, walk, known_after}
 use Rattle.vale_cert.specs.declared.facts.FuncFacts.{FuncFacts}

@@ -1,5 +1,5 @@
 -- Comparisons of what registers hold.
-use Rattle.std.proofs.Common.{◌≡◌, ℕ, ℤ, List, Option, Some, None, Bool, refl, sym, ap, ◌∙◌}
+use Rattle.std.proofs.Common.{◌≡◌, ℕ, ℤ, List, Option, Some, Bool, ap, ◌∙◌}
 use Rattle.std.specs.Ordering.{int_cmp, nat_cmp}
 use Rattle.std.proofs.lemmas.Int.{to_z-of_z}
 use mir.Syntax.{w64}

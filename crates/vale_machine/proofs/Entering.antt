@@ -1,15 +1,14 @@
 -- How functions are entered and left.
-use Rattle.std.proofs.Common.{◌≡◌, ℕ, zero, suc, ◌+◌, ◌-◌, ◌<◌, ◌≤◌, List, [], ◌∷◌, ◌++◌, length, take, drop, get_or, reverse, map, Option, Some, None, Bool, true, false, nat_le, if◌then◌else◌, refl, sym, ap, ◌∙◌, subst, arith}
+use Rattle.std.proofs.Common.{◌≡◌, ℕ, zero, suc, ◌+◌, ◌-◌, ◌<◌, ◌≤◌, List, [], ◌∷◌, ◌++◌, length, take, drop, get_or, reverse, map, Option, Some, None, true, false, nat_le, if◌then◌else◌, refl, sym, ap, ◌∙◌, subst, arith}
 use Rattle.std.specs.Prelude.{slice_get, slice_set, is_none}
 use Rattle.std.proofs.lemmas.List.{length-reverse}
 use Rattle.std.proofs.lemmas.Bool.Decides.{nat_tests}
 use Rattle.vale_base.specs.Limits.{depth_limit}
-use Rattle.vale_base.specs.Outcome.{Done, Wrong}
+use Rattle.vale_base.specs.Outcome.{Done}
 use Rattle.vale_base.specs.State.{State, has_depth, trap_under}
 use Rattle.vale_base.specs.World.{Value}
 use Rattle.vale_base.specs.declared.piece.Piece.{Piece}
 use Rattle.vale_base.specs.declared.spot.Spot.{Spot}
-use Rattle.vale_base.specs.declared.trap.TrapKind.{TrapKind}
 use Rattle.vale_base.specs.declared.trap.TrapKind.TheVariants.{CallDepth}
 use Rattle.vale_code.specs.Act as a
 use Rattle.vale_code.specs.Enter.{Form, Plain, form_of, function, with_func, with_form, if_called, leave_function}
@@ -18,7 +17,7 @@ use Rattle.vale_code.specs.Frames as frames
 use Rattle.vale_code.specs.Instructions.{behind, with_read, with_value}
 use Rattle.vale_code.specs.Kinds.{text_at, result_to}
 use Rattle.vale_code.specs.Parts.{Parts}
-use Rattle.vale_code.specs.Registers.{Registers, Read, read, give_all, registers_for}
+use Rattle.vale_code.specs.Registers.{Registers, read, give_all, registers_for}
 use Rattle.vale_code.specs.declared.func.Func.{Func}
 use Rattle.vale_machine.specs.Calls.{Enters, HasRegister, IsEntered}
 use Rattle.vale_machine.specs.Cells.{value_in, values_in}
@@ -205,41 +204,41 @@ module _ (code : Parts) (m mid new : Machine) (frame : Frame) (func : Func) (mor
     (cells : mid.cells.items ≡ full m.cells.items more func.registers) (values : values_in more ≡ map Some vs) (entered : Enters frame mid new) where
   pub call_entered : (taken : List Piece) (s : State) → state_of taken mid ≡ s
       → on (Running (record { call = record { what = text_at code func.name; at = at }; function = g; dest = result_to func.result to; place = 0; registers = registers_for func.registers vs }))
-        (behind (active code m) (values_in (drop m.top.base m.cells.items)) ∷ below code m) s ≡ On (config_of code taken new)
+      (behind (active code m) (values_in (drop m.top.base m.cells.items)) ∷ below code m) s ≡ On (config_of code taken new)
   call_entered taken s same =
       let registers : values_in (drop (length m.cells.items) mid.cells.items) ≡ registers_for func.registers vs = ap (λ l. values_in (drop (length m.cells.items) l)) cells ∙ full_registers m.cells.items more vs func.registers values in
       let rest : take (length m.cells.items) mid.cells.items ≡ m.cells.items = ap (take (length m.cells.items)) cells ∙ full_below m.cells.items more func.registers in
       sym (ap On (config_entered code taken frame mid new entered
-        ∙ ap (λ (f : Frame). record {
-            top = Running (active_of code f (values_in (drop f.base mid.cells.items)));
-            below = frames_in code (record mid.top { place = mid.top.place + 1 } ∷ reverse mid.below.items) (take f.base mid.cells.items);
-            state = state_of taken mid;
-          }) is
-        ∙ ap (λ r. record {
-            top = Running (active_of code (frame_for func g to at (length m.cells.items)) r);
-            below = frames_in code (record mid.top { place = mid.top.place + 1 } ∷ reverse mid.below.items) (take (length m.cells.items) mid.cells.items);
-            state = state_of taken mid;
-          }) registers
-        ∙ ap (λ l. record {
-            top = Running (active_of code (frame_for func g to at (length m.cells.items)) (registers_for func.registers vs));
-            below = frames_in code (record mid.top { place = mid.top.place + 1 } ∷ reverse mid.below.items) l;
-            state = state_of taken mid;
-          }) rest
-        ∙ ap (λ (f : Frame). record {
-            top = Running (active_of code (frame_for func g to at (length m.cells.items)) (registers_for func.registers vs));
-            below = frames_in code (record f { place = f.place + 1 } ∷ reverse mid.below.items) m.cells.items;
-            state = state_of taken mid;
-          }) top
-        ∙ ap (λ b. record {
-            top = Running (active_of code (frame_for func g to at (length m.cells.items)) (registers_for func.registers vs));
-            below = frames_in code (record m.top { place = m.top.place + 1 } ∷ reverse b.items) m.cells.items;
-            state = state_of taken mid;
-          }) under_it
-        ∙ ap (λ t. record {
-            top = Running (active_of code (frame_for func g to at (length m.cells.items)) (registers_for func.registers vs));
-            below = frames_in code (record m.top { place = m.top.place + 1 } ∷ reverse m.below.items) m.cells.items;
-            state = t;
-          }) same))
+      ∙ ap (λ (f : Frame). record {
+        top = Running (active_of code f (values_in (drop f.base mid.cells.items)));
+        below = frames_in code (record mid.top { place = mid.top.place + 1 } ∷ reverse mid.below.items) (take f.base mid.cells.items);
+        state = state_of taken mid;
+      }) is
+      ∙ ap (λ r. record {
+        top = Running (active_of code (frame_for func g to at (length m.cells.items)) r);
+        below = frames_in code (record mid.top { place = mid.top.place + 1 } ∷ reverse mid.below.items) (take (length m.cells.items) mid.cells.items);
+        state = state_of taken mid;
+      }) registers
+      ∙ ap (λ l. record {
+        top = Running (active_of code (frame_for func g to at (length m.cells.items)) (registers_for func.registers vs));
+        below = frames_in code (record mid.top { place = mid.top.place + 1 } ∷ reverse mid.below.items) l;
+        state = state_of taken mid;
+      }) rest
+      ∙ ap (λ (f : Frame). record {
+        top = Running (active_of code (frame_for func g to at (length m.cells.items)) (registers_for func.registers vs));
+        below = frames_in code (record f { place = f.place + 1 } ∷ reverse mid.below.items) m.cells.items;
+        state = state_of taken mid;
+      }) top
+      ∙ ap (λ b. record {
+        top = Running (active_of code (frame_for func g to at (length m.cells.items)) (registers_for func.registers vs));
+        below = frames_in code (record m.top { place = m.top.place + 1 } ∷ reverse b.items) m.cells.items;
+        state = state_of taken mid;
+      }) under_it
+      ∙ ap (λ t. record {
+        top = Running (active_of code (frame_for func g to at (length m.cells.items)) (registers_for func.registers vs));
+        below = frames_in code (record m.top { place = m.top.place + 1 } ∷ reverse m.below.items) m.cells.items;
+        state = t;
+      }) same))
 
   room_of : (o : Option ℕ) (f : Frame) (fs : List Frame) (n : ℕ) → HasRegister o f.base n → HasRoom o n (f ∷ fs)
   room_of None f fs n h = tt
@@ -250,7 +249,7 @@ module _ (code : Parts) (m mid new : Machine) (frame : Frame) (func : Func) (mor
       let caller = record m.top { place = m.top.place + 1 } in
       let size : length new.cells.items ≡ length m.cells.items + func.registers = ap (λ v. length v.items) entered.cells ∙ ap length cells ∙ full_length m.cells.items more vs func.registers values few in
       let stack : reverse new.below.items ≡ caller ∷ reverse m.below.items =
-        ap reverse entered.below ∙ last_first mid.below.items _ ∙ ap (λ (f : Frame). record f { place = f.place + 1 } ∷ reverse mid.below.items) top ∙ ap (λ b. caller ∷ reverse b.items) under_it in
+      ap reverse entered.below ∙ last_first mid.below.items _ ∙ ap (λ (f : Frame). record f { place = f.place + 1 } ∷ reverse mid.below.items) top ∙ ap (λ b. caller ∷ reverse b.items) under_it in
       subst (λ (f : Frame). Lie code (f ∷ reverse new.below.items) (length new.cells.items)) (sym (entered.top ∙ is))
       (subst (λ l. Lie code (frame_for func g to at (length m.cells.items) ∷ l) (length new.cells.items)) (sym stack)
       (subst (λ n. Lie code (frame_for func g to at (length m.cells.items) ∷ caller ∷ reverse m.below.items) n) (sym size)

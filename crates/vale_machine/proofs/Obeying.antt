@@ -1,22 +1,18 @@
 -- One instruction, and one step.
-use Rattle.std.proofs.Common.{◌≡◌, ℕ, ◌+◌, ◌<◌, List, length, Option, Some, None, refl, sym, ap, ◌∙◌, subst, arith}
-use Rattle.std.specs.Prelude.{slice_get}
+use Rattle.std.proofs.Common.{◌≡◌, ℕ, ◌+◌, List, length, Option, Some, None, refl, sym, ap, ◌∙◌, subst, arith}
 use Rattle.vale_base.specs.State.{State}
 use Rattle.vale_base.specs.World.{Value}
 use Rattle.vale_base.specs.declared.piece.Piece.{Piece}
 use Rattle.vale_base.specs.declared.spot.Spot.{Spot}
-use Rattle.vale_code.specs.Act.{act, act_if, returns}
-use Rattle.vale_code.specs.Enter.{function, leave_function}
-use Rattle.vale_code.specs.Frames.{Active, Config, Next, leave}
+use Rattle.vale_code.specs.Act.{act, returns}
+use Rattle.vale_code.specs.Frames.{Config, Next, leave}
 use Rattle.vale_code.specs.Instructions.{fetch, instruction_in, with_value}
 use Rattle.vale_code.specs.Parts.{Parts}
 use Rattle.vale_code.specs.Registers.{read}
-use Rattle.vale_code.specs.Run.{last_state}
-use Rattle.vale_code.specs.declared.func.Func.{Func}
 use Rattle.vale_code.specs.declared.instr.Instr.{Instr}
 use Rattle.vale_code.specs.declared.instr.Instr.TheVariants as i
 use Rattle.vale_machine.specs.Calls.{HasRegister, IsCallable}
-use Rattle.vale_machine.specs.Lawful.{is_served, register_of, CallsWell, IsFit, IsRunnable}
+use Rattle.vale_machine.specs.Lawful.{register_of, CallsWell, IsFit, IsRunnable}
 use Rattle.vale_machine.specs.View.{IsLaid, Stepped, active, below, state_of}
 use Rattle.vale_machine.specs.declared.machine.Machine.{Machine}
 use Rattle.vale_machine.specs.declared.machine.Step.{Step}

@@ -1,18 +1,16 @@
 -- What is read of registers.
-use Rattle.std.proofs.Common.{◌≡◌, ℕ, zero, suc, ◌<◌, ◌≤◌, ℤ, List, [], ◌∷◌, length, get_or, Option, Some, None, Bool, true, false, refl, sym, ap, ◌∙◌, arith}
-use Rattle.std.specs.Prelude.{slice_set, IsSome}
-use Rattle.vale_base.specs.State.{State, Answer, gives, traps, fails, shown}
-use Rattle.vale_base.specs.World.{Value, Int, Truth, Text, Own, Ref, Iso}
+use Rattle.std.proofs.Common.{◌≡◌, ℕ, zero, suc, ◌<◌, ◌≤◌, ℤ, List, [], ◌∷◌, length, get_or, Option, Some, None, Bool, refl, ap, arith}
+use Rattle.std.specs.Prelude.{slice_set}
+use Rattle.vale_base.specs.State.{State, Answer, fails}
+use Rattle.vale_base.specs.World.{Value, Int, Truth, Text}
 use Rattle.vale_base.specs.declared.spot.Spot.{Spot}
-use Rattle.vale_code.specs.Frames.{Active, Frame, Next}
-use Rattle.vale_code.specs.Instructions.{answered, certain, with_value, with_choice, with_truth}
+use Rattle.vale_code.specs.Frames.{Active, Frame}
+use Rattle.vale_code.specs.Instructions.{answered, certain, with_value, with_choice}
 use Rattle.vale_code.specs.Registers.{Registers, read, put}
-use Rattle.vale_text.specs.Steps.{Comparison, on_int, on_truth, on_text, on_ints, compare, truths_compared, gives_truth, holds}
-use Rattle.vale_machine.specs.Cells.{value_in, values_in, int_in, truth_in, text_in, pair_of, ints_in, truths_in, shown_in}
-use Rattle.vale_machine.specs.Replies.{Replies, on_value, on_values, on_comparison}
+use Rattle.vale_text.specs.Steps.{Comparison, on_int, on_truth, on_text, on_ints}
+use Rattle.vale_machine.specs.Cells.{value_in, values_in, int_in, truth_in, text_in, ints_in}
+use Rattle.vale_machine.specs.Replies.{on_value, on_values, on_comparison}
 use Rattle.vale_machine.specs.declared.cell.Cell.{Cell}
-use Rattle.vale_machine.specs.declared.cell.Cell.TheVariants as cell
-use Rattle.vale_machine.specs.declared.reply.Reply.{Reply}
 
 pub read_past : (cells : List Cell) (r : ℕ) → length cells ≤ r → read (values_in cells) r ≡ None
 read_past [] r le = refl

@@ -1,5 +1,5 @@
 -- How the machine goes on with what it reads.
-use Rattle.std.proofs.Common.{◌≡◌, ℕ, zero, suc, List, [], ◌∷◌, drop, Option, Some, None, Bool, refl, sym, ap, ◌∙◌, subst}
+use Rattle.std.proofs.Common.{◌≡◌, ℕ, zero, suc, List, [], ◌∷◌, drop, Option, Some, None, Bool, refl, sym, ap, subst}
 use Rattle.vale_base.specs.State.{State, Answer, gives, print_text, print}
 use Rattle.vale_base.specs.World.{Value}
 use Rattle.vale_base.specs.declared.piece.Piece.{Piece}

@@ -1,11 +1,11 @@
 -- How functions are entered and left.
-use Rattle.std.proofs.Common.{◌≡◌, ℕ, zero, suc, ◌+◌, ◌-◌, ◌<◌, ◌≤◌, List, [], ◌∷◌, ◌++◌, length, take, drop, get_or, reverse, map, replicate, Option, Some, None, Bool, true, false, nat_le, ◌≢◌, refl, sym, ap, ◌∙◌, subst, arith, length-append, append_assoc}
+use Rattle.std.proofs.Common.{◌≡◌, ℕ, zero, suc, ◌+◌, ◌-◌, ◌<◌, ◌≤◌, List, [], ◌∷◌, ◌++◌, length, take, drop, get_or, map, replicate, Option, Some, None, ◌≢◌, refl, sym, ap, ◌∙◌, subst, arith, length-append, append_assoc}
 use Rattle.std.specs.Prelude.{IsSome, slice_range}
 use Rattle.std.proofs.lemmas.List.{length-replicate}
-use Rattle.vale_base.specs.State.{State, has_depth, gives, traps, fails}
-use Rattle.vale_base.specs.World.{Value, Int, Truth, Text}
+use Rattle.vale_base.specs.State.{State, gives, traps, fails}
+use Rattle.vale_base.specs.World.{Value}
 use Rattle.vale_base.specs.declared.trap.TrapKind.{TrapKind}
-use Rattle.vale_code.specs.Registers.{Registers, Read, read, put, and_then, as_frozen, named, given_value, after_giving, after_keeping, kept, give_all, registers_for}
+use Rattle.vale_code.specs.Registers.{Registers, Read, read, put, and_then, named, given_value, after_giving, after_keeping, give_all, registers_for}
 use Rattle.vale_code.specs.declared.ty.Ty.{Ty}
 use Rattle.vale_code.specs.declared.ty.Ty.TheVariants as t
 use Rattle.vale_machine.specs.Calls.{IsPassed}

@@ -1,10 +1,9 @@
 -- A whole run, turn by turn.
-use Rattle.std.proofs.Common.{◌≡◌, ℕ, suc, ◌+◌, ◌<◌, List, [], Option, Some, refl, sym, ap, ◌∙◌, subst, arith}
-use Rattle.vale_base.specs.Outcome.{Outcome, End, Done, Trap, Cut}
+use Rattle.std.proofs.Common.{◌≡◌, ℕ, suc, ◌+◌, ◌<◌, List, [], Option, Some, sym, ap, ◌∙◌, subst, arith}
+use Rattle.vale_base.specs.Outcome.{End, Done, Trap, Cut}
 use Rattle.vale_base.specs.State.{State, Given, outcome}
 use Rattle.vale_base.specs.World.{Value}
 use Rattle.vale_base.specs.declared.piece.Piece.{Piece}
-use Rattle.vale_base.specs.declared.trap.TrapInfo.{TrapInfo}
 use Rattle.vale_code.specs.Frames.{Config, Next, On, Over}
 use Rattle.vale_code.specs.Fuel.{fuel}
 use Rattle.vale_code.specs.Parts.{Parts}

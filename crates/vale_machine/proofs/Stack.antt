@@ -1,7 +1,7 @@
 -- The frames and their registers in one row of cells.
-use Rattle.std.proofs.Common.{◌≡◌, ℕ, zero, suc, ◌+◌, ◌-◌, ◌<◌, ◌≤◌, List, [], ◌∷◌, ◌++◌, length, take, drop, reverse, map, replicate, Option, Some, None, Bool, true, false, refl, sym, ap, ◌∙◌, subst, arith, length-append, append_assoc}
+use Rattle.std.proofs.Common.{◌≡◌, ℕ, zero, suc, ◌+◌, ◌-◌, ◌<◌, List, [], ◌∷◌, ◌++◌, length, take, drop, reverse, Some, None, refl, sym, ap, ◌∙◌, arith}
 use Rattle.std.specs.Prelude.{slice_set}
-use Rattle.std.proofs.lemmas.List.{reverse-append, length-reverse, take-set-le, drop-set-add, length-set}
+use Rattle.std.proofs.lemmas.List.{reverse-append, take-set-le, drop-set-add}
 use Rattle.vale_base.specs.State.{State, spend, spend_of}
 use Rattle.vale_base.specs.World.{Value}
 use Rattle.vale_code.specs.Frames.{Active, Running, Next, On, under}
@@ -10,7 +10,7 @@ use Rattle.vale_code.specs.Instructions.{onward}
 use Rattle.vale_code.specs.Parts.{Parts}
 use Rattle.vale_code.specs.Registers.{Registers, put}
 use Rattle.vale_machine.specs.Cells.{value_in, values_in}
-use Rattle.vale_machine.specs.View.{call_of, calls_of, active_of, frames_in, IsPlaced, HasRoom, Lie}
+use Rattle.vale_machine.specs.View.{call_of, calls_of, frames_in}
 use Rattle.vale_machine.specs.declared.cell.Cell.{Cell}
 use Rattle.vale_machine.specs.declared.machine.Frame.{Frame}
 use Rattle.vale_machine.proofs.Operands.{put_values}

@@ -1,5 +1,5 @@
 -- A machine whose run goes on, and what a turn of it comes to.
-use Rattle.std.specs.Prelude.{◌≡◌, ◌≢◌, ℕ, ◌+◌, ◌≤◌, List, Option, Some, None}
+use Rattle.std.specs.Prelude.{◌≡◌, ◌≢◌, ℕ, ◌+◌, ◌≤◌, List, Option, None}
 use Rattle.vale_base.specs.Limits.{ticks_limit}
 use Rattle.vale_base.specs.Outcome.{Done, Trap, Cut, Wrong}
 use Rattle.vale_base.specs.State.{State}

@@ -42,13 +42,7 @@ fn given(alloc: Global, registers: &[Cell], from: u32, ty: &Ty) -> Reply
 
 // Puts the values of registers, for parameters of these types, behind all cells. The registers are those from the base on
 // to the end.
-fn pass(
-    alloc: Global,
-    cells: &mut Vec<Cell>,
-    base: usize,
-    params: &[Ty],
-    args: &[u32],
-) -> Passing
+fn pass(alloc: Global, cells: &mut Vec<Cell>, base: usize, params: &[Ty], args: &[u32]) -> Passing
     requires { base ≤ length cells.old.items }
     ensures { ArePassed result (give_all params.now args.now (values_in (drop base cells.old.items))) (values_in (drop base cells.old.items)) cells.old.items cells.new.items }
 {
@@ -168,7 +162,7 @@ impl Machine {
         requires room { HasRoom self.old.top.dest self.old.top.base (reverse self.old.below.items) }
         ensures step { (code : Parts) (taken : List Piece) → IsLaid code self.old → Stepped code taken result
             (with_value (read (active code self.old).registers from) (state_of taken self.old)
-                (λ v. leave (below code self.old) self.old.top.dest (Some v) (state_of taken self.old))) self.new }
+            (λ v. leave (below code self.old) self.old.top.dest (Some v) (state_of taken self.old))) self.new }
         ensures laid { (code : Parts) → IsLaid code self.old → IfGoing result (IsLaid code self.new) }
         ensures ticks { KeepsTicks self.old self.new }
     {

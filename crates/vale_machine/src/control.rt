@@ -63,7 +63,7 @@ impl Machine {
         requires base { self.old.top.base ≤ length self.old.cells.items }
         ensures step { (taken : List Piece) → Stepped code.now taken result
             (with_truth (read (active code.now self.old).registers condition) (state_of taken self.old)
-                (jump_unless code.now (active code.now self.old) target (below code.now self.old) (state_of taken self.old))) self.new }
+            (jump_unless code.now (active code.now self.old) target (below code.now self.old) (state_of taken self.old))) self.new }
         ensures laid { IsLaid code.now self.old → IsLaid code.now self.new }
         ensures ticks { KeepsTicks self.old self.new }
     {

@@ -51,11 +51,19 @@ pub fn trap_at(
     at: Spot,
 ) -> Result<TrapInfo, Memory>
     ensures { IfOk result (λ info. info ≡ record {
-        kind = kind; at = at; frames = take report_frames (calls_of code.now (frames_of machine.now)); more = length (calls_of code.now (frames_of machine.now)) - report_frames }) }
+      kind = kind;
+      at = at;
+      frames = take report_frames (calls_of code.now (frames_of machine.now));
+      more = length (calls_of code.now (frames_of machine.now)) - report_frames;
+    }) }
 {
     let frames = calls(alloc, code, machine)?;
     let count = machine.below.len() + 1;
-    let more = if count > REPORT_FRAMES { (count - REPORT_FRAMES) as u64 } else { 0 };
+    let more = if count > REPORT_FRAMES {
+        (count - REPORT_FRAMES) as u64
+    } else {
+        0
+    };
     Ok(TrapInfo {
         kind,
         at,

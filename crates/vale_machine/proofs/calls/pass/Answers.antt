@@ -1,6 +1,6 @@
 use Rattle.std.proofs.Common.{◌≡◌, ◌<◌, ◌≤◌, List, length, drop, get_or, Some, ◌∙◌, subst, arith}
 use Rattle.vale_base.specs.State.{begin, fails, gives}
-use Rattle.vale_code.specs.Registers.{give_all, given_value, read}
+use Rattle.vale_code.specs.Registers.{given_value, read}
 use Rattle.vale_code.specs.declared.ty.Ty.TheVariants as t
 use Rattle.vale_machine.specs.Cells.{values_in}
 use Rattle.vale_machine.specs.Replies.{Replies, on_value}

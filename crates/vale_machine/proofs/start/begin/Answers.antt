@@ -21,5 +21,5 @@ returns-clause-begins c =
     let m : Machine = record { alloc = c.args.alloc; cells = c.fill.new.cells; top = top; below = c.new.result; left = c.args.ticks - 1; spent = 1; pieces = c.new-2.result } in
     begun code st.func st.found st.plain st.params c.args.ticks m c.requires.some refl refl c.new-2.ensures.items c.new.ensures.items
     (filled_new c.new-cells.result.items c.fill.new.cells.items st.func.registers c.new-cells.ensures.items
-      (c.in_ok-fill.ensures ∙ ap (λ (f : Func). c.new-cells.result.items ++ replicate (f.registers - length c.new-cells.result.items) cell.Empty) (sym func)))
+    (c.in_ok-fill.ensures ∙ ap (λ (f : Func). c.new-cells.result.items ++ replicate (f.registers - length c.new-cells.result.items) cell.Empty) (sym func)))
     same

@@ -11,8 +11,8 @@ returns c =
     let n = calls_count c.args.code.now m in
     let frames = c.in_ok-frames.ensures in
     let more : c.if-count-gt-REPORT_FRAMES.more ≡ suc (length (calls_of c.args.code.now (reverse m.below.items))) - report_frames =
-      elim c.if-count-gt-REPORT_FRAMES.branch [
-        then-count-gt-REPORT_FRAMES w ↦ omega (arith, n, c.len-count.ensures, m.below.ok.0, w.more-is)
+    elim c.if-count-gt-REPORT_FRAMES.branch [
+      | then-count-gt-REPORT_FRAMES w ↦ omega (arith, n, c.len-count.ensures, m.below.ok.0, w.more-is)
       | else-count-gt-REPORT_FRAMES w ↦ omega (arith, n, c.len-count.ensures, m.below.ok.0, w.more-is)
-      ] in
+    ] in
     cc

@@ -1,14 +1,12 @@
-use Rattle.std.proofs.Common.{◌≡◌, ◌<◌, ◌≤◌, ◌+◌, ◌-◌, ◌++◌, List, length, drop, replicate, Some, None, sym, ap, ◌∙◌, subst, arith}
+use Rattle.std.proofs.Common.{◌≡◌, ◌<◌, ◌≤◌, ◌+◌, ◌-◌, ◌++◌, List, length, replicate, Some, None, sym, ap, ◌∙◌, subst, arith}
 use Rattle.vale_base.specs.Limits.{depth_limit}
 use Rattle.vale_base.specs.Outcome.{Cut}
-use Rattle.vale_base.specs.World.{Value}
 use Rattle.vale_code.specs.Frames.{Over}
 use Rattle.vale_code.specs.Kinds.{result_to}
-use Rattle.vale_code.specs.Registers.{Registers, give_all}
+use Rattle.vale_code.specs.Registers.{give_all}
 use Rattle.vale_code.specs.declared.func.Func.{Func}
 use Rattle.vale_code.specs.declared.ty.Ty.{Ty}
 use Rattle.vale_machine.specs.Calls.{HasRegister}
-use Rattle.vale_machine.specs.Cells.{values_in}
 use Rattle.vale_machine.specs.View.{active, below, state_of}
 use Rattle.vale_machine.specs.declared.cell.Cell.TheVariants as cell
 use Rattle.vale_machine.specs.declared.machine.Frame.{Frame}
@@ -23,9 +21,10 @@ returns-in-Wrong-clause-step c = λ last taken.
     let code = c.args.code.now in let m = c.args.self.now in let func = c.function_of-callee.result.now in
     let same = same_func _ _ func c.requires.callable.found c.function_of-callee.ensures in
     let plain = subst (λ (f : Func). f.form ≡ 0) same c.requires.callable.plain in
-    let given = subst (λ (ps : List Ty). give_all ps c.args.args.now (active code m).registers ≡ None) c.as_slice.ensures c.in-Wrong.ensures in
-    (state_of taken m,
-     call_wrong code last (active code m) (below code m) (state_of taken m) c.args.to c.args.function c.args.args.now c.args.at func c.function_of-callee.ensures plain given)
+    let given = subst (λ (ps : List Ty). give_all ps c.args.args.now (active code m).registers ≡ None) c.as_slice.ensures c.in-Wrong.ensures in (
+      state_of taken m,
+      call_wrong code last (active code m) (below code m) (state_of taken m) c.args.to c.args.function c.args.args.now c.args.at func c.function_of-callee.ensures plain given,
+    )
 
 pub returns-then-len-gt-DEPTH_LIMIT-clause-step : goal.returns-then-len-gt-DEPTH_LIMIT-clause-step
 returns-then-len-gt-DEPTH_LIMIT-clause-step c = λ last taken.
@@ -65,9 +64,9 @@ returns-in-Ok-clause-step c = λ last taken.
     let frame : Frame = record { function = c.args.function; name = func.name; at = c.args.at; dest = c.dest_of.result; place = 0; base = c.len-base.result } in
     let is : frame ≡ frame_for func c.args.function c.args.to c.args.at (length m.cells.items) = (let d = c.dest_of.ensures in cc) in
     let cells : c.fill.new.cells.items ≡ full m.cells.items p.more func.registers =
-      c.in-Ok.ensures
-      ∙ ap (λ l. l ++ replicate (c.len-base.result + func.registers - length l) cell.Empty) (ap (λ (x : Machine). x.cells.items) t.1 ∙ p.behind)
-      ∙ ap (λ n. (m.cells.items ++ p.more) ++ replicate (n + func.registers - length (m.cells.items ++ p.more)) cell.Empty) base in
+    c.in-Ok.ensures
+    ∙ ap (λ l. l ++ replicate (c.len-base.result + func.registers - length l) cell.Empty) (ap (λ (x : Machine). x.cells.items) t.1 ∙ p.behind)
+    ∙ ap (λ n. (m.cells.items ++ p.more) ++ replicate (n + func.registers - length (m.cells.items ++ p.more)) cell.Empty) base in
     let mid : Machine = record c.take_tick.new.self { cells = c.fill.new.cells } in
     entered_so code taken c.enter.result frame mid c.enter.new.self _ c.enter.ensures (λ h.
     call_is code last (active code m) (below code m) (state_of taken m) c.args.to c.args.function c.args.args.now c.args.at func p.values (active code m).registers c.function_of-callee.ensures plain given
@@ -87,9 +86,9 @@ returns-in-Ok-clause-laid c =
     let frame : Frame = record { function = c.args.function; name = func.name; at = c.args.at; dest = c.dest_of.result; place = 0; base = c.len-base.result } in
     let is : frame ≡ frame_for func c.args.function c.args.to c.args.at (length m.cells.items) = (let d = c.dest_of.ensures in cc) in
     let cells : c.fill.new.cells.items ≡ full m.cells.items p.more func.registers =
-      c.in-Ok.ensures
-      ∙ ap (λ l. l ++ replicate (c.len-base.result + func.registers - length l) cell.Empty) (ap (λ (x : Machine). x.cells.items) t.1 ∙ p.behind)
-      ∙ ap (λ n. (m.cells.items ++ p.more) ++ replicate (n + func.registers - length (m.cells.items ++ p.more)) cell.Empty) base in
+    c.in-Ok.ensures
+    ∙ ap (λ l. l ++ replicate (c.len-base.result + func.registers - length l) cell.Empty) (ap (λ (x : Machine). x.cells.items) t.1 ∙ p.behind)
+    ∙ ap (λ n. (m.cells.items ++ p.more) ++ replicate (n + func.registers - length (m.cells.items ++ p.more)) cell.Empty) base in
     let mid : Machine = record c.take_tick.new.self { cells = c.fill.new.cells } in
     let params = subst (λ (f : Func). length f.params ≤ f.registers) same c.requires.callable.params in
     let few : length p.values ≤ func.registers = omega (arith, given_length func.params c.args.args.now (active code m).registers _ given, params) in

@@ -1,4 +1,4 @@
-use Rattle.std.proofs.Common.{Bool, Some, Option, refl, sym, ap, subst}
+use Rattle.std.proofs.Common.{Bool, Option, refl, sym, ap, subst}
 use Rattle.vale_base.specs.World.{Truth}
 use Rattle.vale_code.specs.Act.{sets}
 use Rattle.vale_code.specs.Instructions.{with_choice}

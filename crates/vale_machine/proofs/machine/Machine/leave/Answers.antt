@@ -1,7 +1,7 @@
-use Rattle.std.proofs.Common.{◌∙◌, reverse, length, ap, None, arith}
+use Rattle.std.proofs.Common.{◌∙◌}
 use Rattle.vale_machine.specs.Cells.{value_in}
 use Rattle.vale_machine.specs.View.{state_of}
-use Rattle.vale_machine.proofs.Entering.{room_left, nothing_below, no_caller, caller_goes_on, caller_lies}
+use Rattle.vale_machine.proofs.Entering.{room_left, nothing_below, no_caller, caller_goes_on}
 use Rattle.vale_machine.proofs.machine.Machine.leave.Goals as goal
 
 pub hand-requires : goal.hand-requires

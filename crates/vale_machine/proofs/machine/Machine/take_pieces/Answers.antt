@@ -1,4 +1,4 @@
-use Rattle.std.proofs.Common.{[], ◌++◌, List, ◌∙◌, sym, ap, subst}
+use Rattle.std.proofs.Common.{List, ◌∙◌, ap, subst}
 use Rattle.vale_base.specs.declared.piece.Piece.{Piece}
 use Rattle.vale_code.specs.Frames.{Config}
 use Rattle.vale_machine.specs.UnderWay.{IsSafe}
@@ -12,7 +12,7 @@ returns-clause-under_way c = λ code taken u. record {
   laid = u.laid;
   ticks = u.ticks;
   safe = subst (λ (x : Config). IsSafe code x)
-    (ap (λ (ps : List Piece). record (config_of code taken c.args.self.now) { state = record (config_of code taken c.args.self.now).state { pieces = ps } })
+      (ap (λ (ps : List Piece). record (config_of code taken c.args.self.now) { state = record (config_of code taken c.args.self.now).state { pieces = ps } })
       (all_taken taken c.args.self.now.pieces.items c.replace.result.items c.replace.new.dest.items (ap (λ v. v.items) c.replace.ensures.value) (ap (λ v. v.items) c.replace.ensures.after ∙ c.new.ensures.items)))
-    u.safe;
+      u.safe;
 }

@@ -1,4 +1,4 @@
-use Rattle.std.proofs.Common.{◌≡◌, ◌∙◌, sym, subst}
+use Rattle.std.proofs.Common.{◌≡◌, ◌∙◌, subst}
 use Rattle.vale_code.specs.Frames.{On}
 use Rattle.vale_code.specs.Instructions.{onward}
 use Rattle.vale_machine.specs.View.{active, below, config_of, state_of}
