@@ -58,6 +58,21 @@ register_of (i.Num to a at) = Some to
 register_of (i.Ret a) = Some a
 register_of _ = None
 
+-- the instructions that may want memory: those that make or copy texts, print, or enter a function
+abbrev pub may_want : Instr → Bool
+may_want (i.Text to text) = true
+may_want (i.Copy to a) = true
+may_want (i.Join to a b at) = true
+may_want (i.Slice to a x y at) = true
+may_want (i.TextOf to a) = true
+may_want (i.Print a choice) = true
+may_want (i.Call to func args at) = true
+may_want _ = false
+
+abbrev pub may_want_at : Option Instr → Bool
+may_want_at None = false
+may_want_at (Some instr) = may_want instr
+
 -- a function that is called may be called from a frame with these registers
 abbrev pub CallsWell : Parts → Instr → ℕ → ℕ → Type 0
 CallsWell code (i.Call to func args at) base count = IsCallable code func to base count

@@ -14,6 +14,11 @@ Replies (r.Traps kind) answer s = answer ≡ traps kind
 Replies r.Memory answer s = Unit {0}
 Replies r.Wrong answer s = answer ≡ fails
 
+-- memory wasn't wanting
+abbrev pub IsSure : Reply → Type 0
+IsSure r.Memory = ⊥
+IsSure _ = Unit {0}
+
 -- an answer by the values of registers; an empty one has none
 abbrev pub on_value : Option Value → (Value → Answer) → Answer
 on_value None go = fails

@@ -43,6 +43,15 @@ abbrev pub Turned : Parts → List Piece → Turn → Next → Machine → Type 
 Turned code taken turn.Going next m = next ≡ On (config_of code taken m)
 Turned code taken (turn.Ended e) next m = Ends e next (state_of taken m)
 
+abbrev pub IsTrapped : Next → Type 0
+IsTrapped (Over (Trap info) v s) = Unit {0}
+IsTrapped _ = ⊥
+
+-- memory may be wanting for what is told of a trap alone
+abbrev pub WantsForTrap : Turn → Next → Type 0
+WantsForTrap (turn.Ended end.Memory) next = IsTrapped next
+WantsForTrap _ next = Unit {0}
+
 abbrev pub IsStillUnderWay : Parts → List Piece → Turn → Machine → Type 0
 IsStillUnderWay code taken turn.Going m = IsUnderWay code taken m
 IsStillUnderWay code taken (turn.Ended e) m = Unit {0}

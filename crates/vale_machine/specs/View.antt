@@ -99,3 +99,8 @@ IfGoing _ P = Unit {0}
 -- ticks are only spent
 abbrev pub KeepsTicks : Machine → Machine → Type 0
 KeepsTicks old new = new.left + new.spent ≡ old.left + old.spent
+
+-- memory wasn't wanting
+abbrev pub HasMemory : Step → Type 0
+HasMemory step.Memory = ⊥
+HasMemory _ = Unit {0}

@@ -11,7 +11,7 @@ ghost use Rattle.vale_code.specs.Registers.{read, give_all, given_value};
 ghost use Rattle.vale_machine.specs.Calls.{ArePassed, HasRegister, IsCallable, IsEntered};
 ghost use Rattle.vale_machine.specs.Cells.{value_in, values_in};
 ghost use Rattle.vale_machine.specs.Replies.{Replies, on_value};
-ghost use Rattle.vale_machine.specs.View.{HasRoom, IfGoing, IsLaid, KeepsTicks, Stepped, active, below, config_of, state_of};
+ghost use Rattle.vale_machine.specs.View.{HasMemory, HasRoom, IfGoing, IsLaid, KeepsTicks, Stepped, active, below, config_of, state_of};
 
 use crate::cell::Cell;
 use crate::machine::{Frame, Machine, Step};
@@ -163,6 +163,7 @@ impl Machine {
         ensures step { (code : Parts) (taken : List Piece) → IsLaid code self.old → Stepped code taken result
             (with_value (read (active code self.old).registers from) (state_of taken self.old)
             (λ v. leave (below code self.old) self.old.top.dest (Some v) (state_of taken self.old))) self.new }
+        ensures memory { HasMemory result }
         ensures laid { (code : Parts) → IsLaid code self.old → IfGoing result (IsLaid code self.new) }
         ensures ticks { KeepsTicks self.old self.new }
     {
@@ -179,6 +180,7 @@ impl Machine {
         requires room { HasRoom self.old.top.dest self.old.top.base (reverse self.old.below.items) }
         ensures step { (code : Parts) (taken : List Piece) → IsLaid code self.old → Stepped code taken result
             (leave (below code self.old) self.old.top.dest (value_in cell) (state_of taken self.old)) self.new }
+        ensures memory { HasMemory result }
         ensures laid { (code : Parts) → IsLaid code self.old → IfGoing result (IsLaid code self.new) }
         ensures ticks { KeepsTicks self.old self.new }
     {

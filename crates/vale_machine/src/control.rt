@@ -5,7 +5,7 @@ ghost use Rattle.vale_code.specs.Frames.{after_tick};
 ghost use Rattle.vale_code.specs.Instructions.{fetch, is_tick, jump, jump_unless, onward, with_truth};
 ghost use Rattle.vale_code.specs.Parts.{Parts};
 ghost use Rattle.vale_code.specs.Registers.{read};
-ghost use Rattle.vale_machine.specs.View.{IsLaid, KeepsTicks, Stepped, active, below, state_of};
+ghost use Rattle.vale_machine.specs.View.{HasMemory, IsLaid, KeepsTicks, Stepped, active, below, state_of};
 
 use crate::cell::truth_at;
 use crate::machine::{Machine, Step};
@@ -44,6 +44,7 @@ impl Machine {
     pub(crate) fn jump(&mut self, code: &Code, target: u32) -> Step
         requires { self.old.left + self.old.spent < 2 ^ 64 }
         ensures step { (taken : List Piece) → Stepped code.now taken result (jump code.now (active code.now self.old) target (below code.now self.old) (state_of taken self.old)) self.new }
+        ensures memory { HasMemory result }
         ensures laid { IsLaid code.now self.old → IsLaid code.now self.new }
         ensures ticks { KeepsTicks self.old self.new }
     {
@@ -64,6 +65,7 @@ impl Machine {
         ensures step { (taken : List Piece) → Stepped code.now taken result
             (with_truth (read (active code.now self.old).registers condition) (state_of taken self.old)
             (jump_unless code.now (active code.now self.old) target (below code.now self.old) (state_of taken self.old))) self.new }
+        ensures memory { HasMemory result }
         ensures laid { IsLaid code.now self.old → IsLaid code.now self.new }
         ensures ticks { KeepsTicks self.old self.new }
     {
@@ -83,6 +85,7 @@ impl Machine {
         requires place { self.old.top.place + 1 < 2 ^ 64 }
         ensures step { (code : Parts) (taken : List Piece) → Stepped code taken result
             (after_tick (state_of taken self.old) (λ t. onward (active code self.old) (active code self.old).registers (below code self.old) t)) self.new }
+        ensures memory { HasMemory result }
         ensures laid { (code : Parts) → IsLaid code self.old → IsLaid code self.new }
         ensures ticks { KeepsTicks self.old self.new }
     {

@@ -8,8 +8,8 @@ ghost use Rattle.vale_code.specs.Instructions.{answered, certain, onward};
 ghost use Rattle.vale_code.specs.Parts.{Parts};
 ghost use Rattle.vale_code.specs.Registers.{put};
 ghost use Rattle.vale_machine.specs.Cells.{value_in};
-ghost use Rattle.vale_machine.specs.Replies.{Replies};
-ghost use Rattle.vale_machine.specs.View.{IsLaid, IsTicked, KeepsTicks, Stepped, active, below, config_of, state_of};
+ghost use Rattle.vale_machine.specs.Replies.{IsSure, Replies};
+ghost use Rattle.vale_machine.specs.View.{HasMemory, IsLaid, IsTicked, KeepsTicks, Stepped, active, below, config_of, state_of};
 
 use crate::cell::Cell;
 use crate::reply::Reply;
@@ -90,6 +90,7 @@ impl Machine {
         requires place { self.old.top.place + 1 < 2 ^ 64 }
         ensures step { (code : Parts) (taken : List Piece) (a : Answer) → Replies reply a (state_of taken self.old)
             → Stepped code taken result (answered (active code self.old) (Some to) (active code self.old).registers at (below code self.old) (state_of taken self.old) a) self.new }
+        ensures memory { IsSure reply → HasMemory result }
         ensures laid { (code : Parts) → IsLaid code self.old → IsLaid code self.new }
         ensures ticks { KeepsTicks self.old self.new }
     {
@@ -110,6 +111,7 @@ impl Machine {
         requires place { self.old.top.place + 1 < 2 ^ 64 }
         ensures step { (code : Parts) (taken : List Piece) (a : Answer) → Replies reply a (state_of taken self.old)
             → Stepped code taken result (certain (active code self.old) (Some to) (active code self.old).registers (below code self.old) (state_of taken self.old) a) self.new }
+        ensures memory { IsSure reply → HasMemory result }
         ensures laid { (code : Parts) → IsLaid code self.old → IsLaid code self.new }
         ensures ticks { KeepsTicks self.old self.new }
     {

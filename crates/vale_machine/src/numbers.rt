@@ -10,8 +10,8 @@ ghost use Rattle.vale_code.specs.Registers.{read};
 ghost use Rattle.vale_code.specs.declared.instr.Instr.{Instr};
 ghost use Rattle.vale_text.specs.Steps.{add, sub, mul, div, rem, compare, opposite, gives_truth, holds, truths_compared};
 ghost use Rattle.vale_machine.specs.Cells.{values_in};
-ghost use Rattle.vale_machine.specs.Replies.{Replies, on_value, on_values, on_comparison};
-ghost use Rattle.vale_machine.specs.View.{IsLaid, KeepsTicks, Stepped, active, below, state_of};
+ghost use Rattle.vale_machine.specs.Replies.{IsSure, Replies, on_value, on_values, on_comparison};
+ghost use Rattle.vale_machine.specs.View.{HasMemory, IsLaid, KeepsTicks, Stepped, active, below, state_of};
 
 use crate::cell::{Cell, ints_at, text_at, truth_at, truths_at};
 use crate::machine::{Machine, Step};
@@ -20,7 +20,8 @@ use std::cmp::Ordering;
 use vale_base::Spot;
 
 fn sum(registers: &[Cell], left: u32, right: u32) -> Reply
-    ensures { (s : State) → Replies result (on_values (read (values_in registers.now) left) (read (values_in registers.now) right) (λ v w. add v w s)) s }
+    ensures answer { (s : State) → Replies result (on_values (read (values_in registers.now) left) (read (values_in registers.now) right) (λ v w. add v w s)) s }
+    ensures sure { IsSure result }
 {
     match ints_at(registers, left, right) {
         Some((left, right)) => int_reply(vale_text::add(left, right)),
@@ -29,7 +30,8 @@ fn sum(registers: &[Cell], left: u32, right: u32) -> Reply
 }
 
 fn difference(registers: &[Cell], left: u32, right: u32) -> Reply
-    ensures { (s : State) → Replies result (on_values (read (values_in registers.now) left) (read (values_in registers.now) right) (λ v w. sub v w s)) s }
+    ensures answer { (s : State) → Replies result (on_values (read (values_in registers.now) left) (read (values_in registers.now) right) (λ v w. sub v w s)) s }
+    ensures sure { IsSure result }
 {
     match ints_at(registers, left, right) {
         Some((left, right)) => int_reply(vale_text::sub(left, right)),
@@ -38,7 +40,8 @@ fn difference(registers: &[Cell], left: u32, right: u32) -> Reply
 }
 
 fn product(registers: &[Cell], left: u32, right: u32) -> Reply
-    ensures { (s : State) → Replies result (on_values (read (values_in registers.now) left) (read (values_in registers.now) right) (λ v w. mul v w s)) s }
+    ensures answer { (s : State) → Replies result (on_values (read (values_in registers.now) left) (read (values_in registers.now) right) (λ v w. mul v w s)) s }
+    ensures sure { IsSure result }
 {
     match ints_at(registers, left, right) {
         Some((left, right)) => int_reply(vale_text::mul(left, right)),
@@ -47,7 +50,8 @@ fn product(registers: &[Cell], left: u32, right: u32) -> Reply
 }
 
 fn quotient(registers: &[Cell], left: u32, right: u32) -> Reply
-    ensures { (s : State) → Replies result (on_values (read (values_in registers.now) left) (read (values_in registers.now) right) (λ v w. div v w s)) s }
+    ensures answer { (s : State) → Replies result (on_values (read (values_in registers.now) left) (read (values_in registers.now) right) (λ v w. div v w s)) s }
+    ensures sure { IsSure result }
 {
     match ints_at(registers, left, right) {
         Some((left, right)) => int_reply(vale_text::div(left, right)),
@@ -56,7 +60,8 @@ fn quotient(registers: &[Cell], left: u32, right: u32) -> Reply
 }
 
 fn remainder(registers: &[Cell], left: u32, right: u32) -> Reply
-    ensures { (s : State) → Replies result (on_values (read (values_in registers.now) left) (read (values_in registers.now) right) (λ v w. rem v w s)) s }
+    ensures answer { (s : State) → Replies result (on_values (read (values_in registers.now) left) (read (values_in registers.now) right) (λ v w. rem v w s)) s }
+    ensures sure { IsSure result }
 {
     match ints_at(registers, left, right) {
         Some((left, right)) => int_reply(vale_text::rem(left, right)),
@@ -65,7 +70,8 @@ fn remainder(registers: &[Cell], left: u32, right: u32) -> Reply
 }
 
 fn negation(registers: &[Cell], from: u32) -> Reply
-    ensures { (s : State) → Replies result (on_value (read (values_in registers.now) from) (λ v. opposite v s)) s }
+    ensures answer { (s : State) → Replies result (on_value (read (values_in registers.now) from) (λ v. opposite v s)) s }
+    ensures sure { IsSure result }
 {
     match truth_at(registers, from) {
         Some(truth) => Reply::Gives(Cell::Truth(!truth)),
@@ -75,7 +81,8 @@ fn negation(registers: &[Cell], from: u32) -> Reply
 
 // Whether a comparison holds of two that are ordered so.
 fn ordered(choice: u8, order: Ordering) -> Reply
-    ensures { (s : State) → Replies result (on_comparison (comparison_of choice) (λ c. gives_truth s (holds c order))) s }
+    ensures answer { (s : State) → Replies result (on_comparison (comparison_of choice) (λ c. gives_truth s (holds c order))) s }
+    ensures sure { IsSure result }
 {
     let truth = match choice {
         0 => order.is_eq(),
@@ -91,7 +98,8 @@ fn ordered(choice: u8, order: Ordering) -> Reply
 
 // Whether a comparison holds of two truths.
 fn matched(choice: u8, left: bool, right: bool) -> Reply
-    ensures { (s : State) → Replies result (on_comparison (comparison_of choice) (λ c. truths_compared c left right s)) s }
+    ensures answer { (s : State) → Replies result (on_comparison (comparison_of choice) (λ c. truths_compared c left right s)) s }
+    ensures sure { IsSure result }
 {
     match choice {
         0 => Reply::Gives(Cell::Truth(left == right)),
@@ -101,8 +109,9 @@ fn matched(choice: u8, left: bool, right: bool) -> Reply
 }
 
 fn comparison(registers: &[Cell], choice: u8, left: u32, right: u32) -> Reply
-    ensures { (s : State) → Replies result (on_comparison (comparison_of choice) (λ c.
+    ensures answer { (s : State) → Replies result (on_comparison (comparison_of choice) (λ c.
         on_values (read (values_in registers.now) left) (read (values_in registers.now) right) (λ v w. compare c v w s))) s }
+    ensures sure { IsSure result }
 {
     if let Some((left, right)) = ints_at(registers, left, right) {
         return ordered(choice, left.cmp(&right));
@@ -125,6 +134,7 @@ impl Machine {
         requires place { self.old.top.place + 1 < 2 ^ 64 }
         ensures step { (code : Parts) (last : Config → State) (taken : List Piece) → Stepped code taken result
             (act code last (active code self.old) (below code self.old) (state_of taken self.old) (Instr.Add to left right at)) self.new }
+        ensures memory { HasMemory result }
         ensures laid { (code : Parts) → IsLaid code self.old → IsLaid code self.new }
         ensures ticks { KeepsTicks self.old self.new }
     {
@@ -137,6 +147,7 @@ impl Machine {
         requires place { self.old.top.place + 1 < 2 ^ 64 }
         ensures step { (code : Parts) (last : Config → State) (taken : List Piece) → Stepped code taken result
             (act code last (active code self.old) (below code self.old) (state_of taken self.old) (Instr.Sub to left right at)) self.new }
+        ensures memory { HasMemory result }
         ensures laid { (code : Parts) → IsLaid code self.old → IsLaid code self.new }
         ensures ticks { KeepsTicks self.old self.new }
     {
@@ -149,6 +160,7 @@ impl Machine {
         requires place { self.old.top.place + 1 < 2 ^ 64 }
         ensures step { (code : Parts) (last : Config → State) (taken : List Piece) → Stepped code taken result
             (act code last (active code self.old) (below code self.old) (state_of taken self.old) (Instr.Mul to left right at)) self.new }
+        ensures memory { HasMemory result }
         ensures laid { (code : Parts) → IsLaid code self.old → IsLaid code self.new }
         ensures ticks { KeepsTicks self.old self.new }
     {
@@ -161,6 +173,7 @@ impl Machine {
         requires place { self.old.top.place + 1 < 2 ^ 64 }
         ensures step { (code : Parts) (last : Config → State) (taken : List Piece) → Stepped code taken result
             (act code last (active code self.old) (below code self.old) (state_of taken self.old) (Instr.Div to left right at)) self.new }
+        ensures memory { HasMemory result }
         ensures laid { (code : Parts) → IsLaid code self.old → IsLaid code self.new }
         ensures ticks { KeepsTicks self.old self.new }
     {
@@ -173,6 +186,7 @@ impl Machine {
         requires place { self.old.top.place + 1 < 2 ^ 64 }
         ensures step { (code : Parts) (last : Config → State) (taken : List Piece) → Stepped code taken result
             (act code last (active code self.old) (below code self.old) (state_of taken self.old) (Instr.Rem to left right at)) self.new }
+        ensures memory { HasMemory result }
         ensures laid { (code : Parts) → IsLaid code self.old → IsLaid code self.new }
         ensures ticks { KeepsTicks self.old self.new }
     {
@@ -185,6 +199,7 @@ impl Machine {
         requires place { self.old.top.place + 1 < 2 ^ 64 }
         ensures step { (code : Parts) (last : Config → State) (taken : List Piece) → Stepped code taken result
             (act code last (active code self.old) (below code self.old) (state_of taken self.old) (Instr.Cmp to choice left right)) self.new }
+        ensures memory { HasMemory result }
         ensures laid { (code : Parts) → IsLaid code self.old → IsLaid code self.new }
         ensures ticks { KeepsTicks self.old self.new }
     {
@@ -197,6 +212,7 @@ impl Machine {
         requires place { self.old.top.place + 1 < 2 ^ 64 }
         ensures step { (code : Parts) (last : Config → State) (taken : List Piece) → Stepped code taken result
             (act code last (active code self.old) (below code self.old) (state_of taken self.old) (Instr.Not to from)) self.new }
+        ensures memory { HasMemory result }
         ensures laid { (code : Parts) → IsLaid code self.old → IsLaid code self.new }
         ensures ticks { KeepsTicks self.old self.new }
     {

@@ -3,7 +3,7 @@ ghost use Rattle.std.specs.Prelude.{ℕ, List, Result};
 ghost use Rattle.vale_base.specs.declared.trap.TrapKind.{TrapKind};
 ghost use Rattle.vale_text.specs.Gives.{Gives};
 ghost use Rattle.vale_text.specs.Steps.{gives_int, gives_text};
-ghost use Rattle.vale_machine.specs.Replies.{Replies};
+ghost use Rattle.vale_machine.specs.Replies.{IsSure, Replies};
 
 use crate::cell::Cell;
 use vale_base::{Fail, Text, TrapKind};
@@ -18,7 +18,8 @@ pub enum Reply {
 }
 
 pub fn int_reply(outcome: Result<i64, TrapKind>) -> Reply
-    ensures { (s : State) → Replies result (gives_int s outcome) s }
+    ensures answer { (s : State) → Replies result (gives_int s outcome) s }
+    ensures sure { IsSure result }
 {
     match outcome {
         Ok(number) => Reply::Gives(Cell::Int(number)),

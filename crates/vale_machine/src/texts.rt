@@ -10,8 +10,8 @@ ghost use Rattle.vale_code.specs.Registers.{read};
 ghost use Rattle.vale_code.specs.declared.instr.Instr.{Instr};
 ghost use Rattle.vale_text.specs.Steps.{join, slice, byte, text_of, is_number, number};
 ghost use Rattle.vale_machine.specs.Cells.{values_in};
-ghost use Rattle.vale_machine.specs.Replies.{Replies, on_value, on_values};
-ghost use Rattle.vale_machine.specs.View.{IsLaid, KeepsTicks, Stepped, active, below, state_of};
+ghost use Rattle.vale_machine.specs.Replies.{IsSure, Replies, on_value, on_values};
+ghost use Rattle.vale_machine.specs.View.{HasMemory, IsLaid, KeepsTicks, Stepped, active, below, state_of};
 
 use crate::cell::{Cell, int_at, ints_at, text_at};
 use crate::machine::{Machine, Step};
@@ -32,7 +32,8 @@ fn joined(alloc: Global, registers: &[Cell], left: u32, right: u32) -> Reply
 }
 
 fn size(registers: &[Cell], from: u32) -> Reply
-    ensures { (s : State) → Replies result (on_value (read (values_in registers.now) from) (λ v. text_length v s)) s }
+    ensures answer { (s : State) → Replies result (on_value (read (values_in registers.now) from) (λ v. text_length v s)) s }
+    ensures sure { IsSure result }
 {
     match text_at(registers, from) {
         Some(text) => Reply::Gives(Cell::Int(text.as_slice().len() as i64)),
@@ -54,7 +55,8 @@ fn part(alloc: Global, registers: &[Cell], from: u32, first: u32, end: u32) -> R
 }
 
 fn byte_at(registers: &[Cell], from: u32, index: u32) -> Reply
-    ensures { (s : State) → Replies result (on_values (read (values_in registers.now) from) (read (values_in registers.now) index) (λ v u. byte v u s)) s }
+    ensures answer { (s : State) → Replies result (on_values (read (values_in registers.now) from) (read (values_in registers.now) index) (λ v u. byte v u s)) s }
+    ensures sure { IsSure result }
 {
     match text_at(registers, from) {
         Some(text) => match int_at(registers, index) {
@@ -78,7 +80,8 @@ fn written(alloc: Global, registers: &[Cell], from: u32) -> Reply
 }
 
 fn writes_number(registers: &[Cell], from: u32) -> Reply
-    ensures { (s : State) → Replies result (on_value (read (values_in registers.now) from) (λ v. is_number v s)) s }
+    ensures answer { (s : State) → Replies result (on_value (read (values_in registers.now) from) (λ v. is_number v s)) s }
+    ensures sure { IsSure result }
 {
     match text_at(registers, from) {
         Some(text) => Reply::Gives(Cell::Truth(vale_text::is_number(text))),
@@ -87,7 +90,8 @@ fn writes_number(registers: &[Cell], from: u32) -> Reply
 }
 
 fn number_in(registers: &[Cell], from: u32) -> Reply
-    ensures { (s : State) → Replies result (on_value (read (values_in registers.now) from) (λ v. number v s)) s }
+    ensures answer { (s : State) → Replies result (on_value (read (values_in registers.now) from) (λ v. number v s)) s }
+    ensures sure { IsSure result }
 {
     match text_at(registers, from) {
         Some(text) => int_reply(vale_text::number(text)),
@@ -113,6 +117,7 @@ impl Machine {
         requires place { self.old.top.place + 1 < 2 ^ 64 }
         ensures step { (code : Parts) (last : Config → State) (taken : List Piece) → Stepped code taken result
             (act code last (active code self.old) (below code self.old) (state_of taken self.old) (Instr.TextLen to from)) self.new }
+        ensures memory { HasMemory result }
         ensures laid { (code : Parts) → IsLaid code self.old → IsLaid code self.new }
         ensures ticks { KeepsTicks self.old self.new }
     {
@@ -137,6 +142,7 @@ impl Machine {
         requires place { self.old.top.place + 1 < 2 ^ 64 }
         ensures step { (code : Parts) (last : Config → State) (taken : List Piece) → Stepped code taken result
             (act code last (active code self.old) (below code self.old) (state_of taken self.old) (Instr.Byte to from index at)) self.new }
+        ensures memory { HasMemory result }
         ensures laid { (code : Parts) → IsLaid code self.old → IsLaid code self.new }
         ensures ticks { KeepsTicks self.old self.new }
     {
@@ -161,6 +167,7 @@ impl Machine {
         requires place { self.old.top.place + 1 < 2 ^ 64 }
         ensures step { (code : Parts) (last : Config → State) (taken : List Piece) → Stepped code taken result
             (act code last (active code self.old) (below code self.old) (state_of taken self.old) (Instr.IsNum to from)) self.new }
+        ensures memory { HasMemory result }
         ensures laid { (code : Parts) → IsLaid code self.old → IsLaid code self.new }
         ensures ticks { KeepsTicks self.old self.new }
     {
@@ -173,6 +180,7 @@ impl Machine {
         requires place { self.old.top.place + 1 < 2 ^ 64 }
         ensures step { (code : Parts) (last : Config → State) (taken : List Piece) → Stepped code taken result
             (act code last (active code self.old) (below code self.old) (state_of taken self.old) (Instr.Num to from at)) self.new }
+        ensures memory { HasMemory result }
         ensures laid { (code : Parts) → IsLaid code self.old → IsLaid code self.new }
         ensures ticks { KeepsTicks self.old self.new }
     {

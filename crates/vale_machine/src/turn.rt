@@ -1,14 +1,14 @@
 // One turn of the machine.
-ghost use Rattle.std.specs.Prelude.{◌≡◌, ◌+◌, ◌<◌, ◌^◌, List, length};
+ghost use Rattle.std.specs.Prelude.{◌≡◌, ◌+◌, ◌<◌, ◌^◌, List, false, length};
 ghost use Rattle.vale_base.specs.State.{State};
 ghost use Rattle.vale_base.specs.declared.piece.Piece.{Piece};
 ghost use Rattle.vale_code.specs.Act.{act, act_if};
 ghost use Rattle.vale_code.specs.Frames.{Config};
 ghost use Rattle.vale_code.specs.Instructions.{fetch};
 ghost use Rattle.vale_code.specs.Run.{step};
-ghost use Rattle.vale_machine.specs.Lawful.{IsFit, IsRunnable};
-ghost use Rattle.vale_machine.specs.UnderWay.{IsRunning, IsStillUnderWay, IsUnderWay, Turned};
-ghost use Rattle.vale_machine.specs.View.{IfGoing, IsLaid, KeepsTicks, Stepped, active, below, config_of, state_of};
+ghost use Rattle.vale_machine.specs.Lawful.{IsFit, IsRunnable, may_want, may_want_at};
+ghost use Rattle.vale_machine.specs.UnderWay.{IsRunning, IsStillUnderWay, IsUnderWay, Turned, WantsForTrap};
+ghost use Rattle.vale_machine.specs.View.{HasMemory, IfGoing, IsLaid, KeepsTicks, Stepped, active, below, config_of, state_of};
 
 use crate::cell::Cell;
 use crate::control::fetched;
@@ -44,6 +44,7 @@ impl Machine {
         requires place { self.old.top.place + 1 < 2 ^ 64 }
         ensures step { (last : Config → State) (taken : List Piece) → Stepped code.now taken result
             (act code.now last (active code.now self.old) (below code.now self.old) (state_of taken self.old) instr.now) self.new }
+        ensures memory { may_want instr.now ≡ false → HasMemory result }
         ensures laid { IfGoing result (IsLaid code.now self.new) }
         ensures ticks { KeepsTicks self.old self.new }
     {
@@ -129,6 +130,7 @@ impl Machine {
         requires laid { IsLaid code.now self.old }
         requires ticks { self.old.left + self.old.spent < 2 ^ 64 }
         ensures step { (taken : List Piece) → Stepped code.now taken result (step code.now (config_of code.now taken self.old)) self.new }
+        ensures memory { may_want_at (fetch code.now self.old.top.function self.old.top.place) ≡ false → HasMemory result }
         ensures laid { IfGoing result (IsLaid code.now self.new) }
         ensures ticks { KeepsTicks self.old self.new }
     {
@@ -143,6 +145,8 @@ impl Machine {
     pub fn turn(&mut self, code: &Verified) -> Turn
         requires { IsRunning code.now.code self.old }
         ensures step { (taken : List Piece) → Turned code.now.code taken result (step code.now.code (config_of code.now.code taken self.old)) self.new }
+        // It wants memory only to make or copy a text, to print, to enter a function, and to tell a trap.
+        ensures memory { (taken : List Piece) → may_want_at (fetch code.now.code self.old.top.function self.old.top.place) ≡ false → WantsForTrap result (step code.now.code (config_of code.now.code taken self.old)) }
         ensures under_way { (taken : List Piece) → IsUnderWay code.now.code taken self.old → IsStillUnderWay code.now.code taken result self.new }
         ensures ticks { KeepsTicks self.old self.new }
     {

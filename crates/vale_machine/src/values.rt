@@ -11,7 +11,7 @@ ghost use Rattle.vale_code.specs.Registers.{read};
 ghost use Rattle.vale_code.specs.declared.instr.Instr.{Instr};
 ghost use Rattle.vale_machine.specs.Cells.{value_in, values_in};
 ghost use Rattle.vale_machine.specs.Replies.{Replies, on_value};
-ghost use Rattle.vale_machine.specs.View.{IsLaid, KeepsTicks, Stepped, active, below, state_of};
+ghost use Rattle.vale_machine.specs.View.{HasMemory, IsLaid, KeepsTicks, Stepped, active, below, state_of};
 
 use crate::cell::{Cell, cell_at};
 use crate::machine::{Machine, Step};
@@ -64,6 +64,7 @@ impl Machine {
         requires place { self.old.top.place + 1 < 2 ^ 64 }
         ensures step { (code : Parts) (last : Config → State) (taken : List Piece) (v : Value) → value_in cell ≡ Some v → Stepped code taken result
             (sets code last (active code self.old) (below code self.old) (state_of taken self.old) to v) self.new }
+        ensures memory { HasMemory result }
         ensures laid { (code : Parts) → IsLaid code self.old → IsLaid code self.new }
         ensures ticks { KeepsTicks self.old self.new }
     {
@@ -76,6 +77,7 @@ impl Machine {
         requires place { self.old.top.place + 1 < 2 ^ 64 }
         ensures step { (code : Parts) (last : Config → State) (taken : List Piece) → Stepped code taken result
             (act code last (active code self.old) (below code self.old) (state_of taken self.old) (Instr.Truth to choice)) self.new }
+        ensures memory { HasMemory result }
         ensures laid { (code : Parts) → IsLaid code self.old → IsLaid code self.new }
         ensures ticks { KeepsTicks self.old self.new }
     {
