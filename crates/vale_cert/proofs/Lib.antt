@@ -1,6 +1,6 @@
 mod Examples
 mod Fit
-mod Safe
-mod Start
+pub mod Safe
+pub mod Start
 mod Values
-mod Walks
+pub mod Walks

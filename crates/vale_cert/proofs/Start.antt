@@ -58,7 +58,7 @@ module _ (code : Parts) (facts : List FuncFacts) (cert : Certified code facts) (
   with_params (t.Own kind ∷ []) (lines ls) e h = with_tick code facts (begin ticks) (with_array kind (texts ls)) (λ u. begins (Own (next_name u.world) ∷ []) (born kind (texts ls) u) (subst (λ ps. ArgsFit ps (Own (next_name u.world) ∷ [])) (sym e) (refl, tt)))
   with_params _ _ e h = let x : ⊥ = cc in absurd x
 
-  start_fits : NextFits code facts (start code input ticks)
+  pub start_fits : NextFits code facts (start code input ticks)
   start_fits =
       let go : Form → Func → Next = λ form f. if_plain form (begin ticks) (with_input f.params (given input) (begin ticks) (λ args s. enter code.main form f (function_frame (text_at code f.name) first_spot) None args [] s)) in
       subst (λ o. NextFits code facts (with_func o (begin ticks) go)) (sym main.1)

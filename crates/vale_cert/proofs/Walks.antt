@@ -220,15 +220,15 @@ module _ (code : Parts) (facts : List FuncFacts) (cert : Certified code facts) w
   pub main_is_there : code.main < length code.funcs
   main_is_there = let x : code.main < 0 + length code.funcs = main_within code reaches 0 code.funcs facts functions_lawful in omega arith
 
-  record Found (n : ℕ) (f : Func) : Type 0 where
-    of : FuncFacts
-    found : slice_get facts n ≡ Some of
-    head : head_is_lawful code reaches f ≡ true
-    body : body_is_lawful code f ≡ true
-    labels : list_all (label_is_lawful code reaches f) of.labels ≡ true
-    main : ((n == code.main) ⇒ is_main code f) ≡ true
+  pub record Found (n : ℕ) (f : Func) : Type 0 where
+    pub of : FuncFacts
+    pub found : slice_get facts n ≡ Some of
+    pub head : head_is_lawful code reaches f ≡ true
+    pub body : body_is_lawful code f ≡ true
+    pub labels : list_all (label_is_lawful code reaches f) of.labels ≡ true
+    pub main : ((n == code.main) ⇒ is_main code f) ≡ true
 
-  lawful : (n : ℕ) (f : Func) → slice_get code.funcs n ≡ Some f → Found n f
+  pub lawful : (n : ℕ) (f : Func) → slice_get code.funcs n ≡ Some f → Found n f
   lawful n f h =
       let s = shaped code reaches 0 n code.funcs facts f functions_lawful h in
       let first : 0 + n ≡ n = omega arith in

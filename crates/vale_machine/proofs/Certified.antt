@@ -1,0 +1,166 @@
+-- What the machine relies on holds of certified code.
+use Rattle.std.proofs.Common.{◌≡◌, ◌≢◌, ℕ, zero, suc, ◌+◌, ◌<◌, List, [], ◌∷◌, length, Option, Some, None, Bool, true, false, ◌&&◌, ◌==◌, nat_lt, nat_le, refl, subst, arith}
+use Rattle.std.specs.Prelude.{slice_get}
+use Rattle.std.specs.List.{list_all}
+use Rattle.std.proofs.lemmas.Bool.{and_parts}
+use Rattle.std.proofs.lemmas.Bool.Decides.{nat_tests}
+use Rattle.vale_base.specs.Outcome.{End, Wrong}
+use Rattle.vale_base.specs.State.{State}
+use Rattle.vale_base.specs.World.{Value}
+use Rattle.vale_code.specs.Frames.{Config, Next, On, Over}
+use Rattle.vale_code.specs.Kinds.{result_to}
+use Rattle.vale_code.specs.Parts.{Parts}
+use Rattle.vale_code.specs.Run.{exec, then_go, go_on, step, steps, last_state}
+use Rattle.vale_code.specs.declared.func.Func.{Func}
+use Rattle.vale_code.specs.declared.instr.Instr.{Instr}
+use Rattle.vale_code.specs.declared.instr.Instr.TheVariants as i
+use Rattle.vale_code.specs.declared.ty.Ty.{Ty}
+use Rattle.vale_code.specs.declared.ty.Ty.TheVariants as t
+use Rattle.vale_cert.specs.Certificate.{Certified}
+use Rattle.vale_cert.specs.Known.{Known, entry}
+use Rattle.vale_cert.specs.Numbers.{numbers, calls_function, takes_result}
+use Rattle.vale_cert.specs.Rules.{row, call_by_form, calls}
+use Rattle.vale_cert.specs.Walk.{row_of, walk, known_after}
+use Rattle.vale_cert.specs.declared.facts.FuncFacts.{FuncFacts}
+use Rattle.vale_cert.specs.declared.facts.Label.{Label}
+use Rattle.vale_cert.specs.declared.facts.RegFact.{RegFact}
+use Rattle.vale_cert.proofs.Safe.{ConfigFits, never_wrong}
+use Rattle.vale_cert.proofs.Walks.{stepped, judged, lawful}
+use Rattle.vale_machine.specs.Calls.{HasRegister, IsCallable}
+use Rattle.vale_machine.specs.Lawful.{is_served, register_of, CallsWell, IsFit, IsRunnable}
+
+-- ---- what lies at a place
+
+all_at : (test : Instr → Bool) (is : List Instr) (p : ℕ) (instr : Instr) → list_all test is ≡ true → slice_get is p ≡ Some instr → test instr ≡ true
+all_at test [] p instr e h = absurd (let x : ⊥ = cc in x)
+all_at test (x ∷ is) zero instr e h = let same : x ≡ instr = cc in subst (λ y. test y ≡ true) same (and_parts _ _ e).0
+all_at test (x ∷ is) (suc p) instr e h = all_at test is p instr (and_parts _ _ e).1 h
+
+module _ (code : Parts) (f : Func) (labels : List Label) (base : ℕ) where
+  types_at : (k p : ℕ) (is : List Instr) (came : Bool) (o : Option Known) (instr : Instr) → walk code f labels base p is came o ≡ None → slice_get is k ≡ Some instr
+      → (known : Known) × ((row_of code f labels base instr known).kept.types ≡ true)
+  types_at k p [] came o instr w e = absurd (let x : ⊥ = cc in x)
+  types_at zero p (x ∷ is) came o instr w e =
+      let s = stepped code f labels base p x is came o w in let same : x ≡ instr = cc in
+      (s.known, subst (λ y. (row_of code f labels base y s.known).kept.types ≡ true) same s.keeps.types)
+  types_at (suc k) p (x ∷ is) came o instr w e =
+      let s = stepped code f labels base p x is came o w in
+      types_at k (p + 1) is true (known_after code f labels base x s.known) instr s.rest e
+
+-- ---- one instruction
+
+served : (code : Parts) (ty : Ty) (depth : ℕ) (regs : List RegFact) (instr : Instr) → (row code ty depth regs instr).kept.types ≡ true → is_served instr ≡ true
+served code ty depth regs (i.Int to n) e = refl
+served code ty depth regs (i.Truth to choice) e = refl
+served code ty depth regs (i.Text to text) e = refl
+served code ty depth regs (i.Copy to a) e = refl
+served code ty depth regs (i.Add to a b at) e = refl
+served code ty depth regs (i.Sub to a b at) e = refl
+served code ty depth regs (i.Mul to a b at) e = refl
+served code ty depth regs (i.Div to a b at) e = refl
+served code ty depth regs (i.Rem to a b at) e = refl
+served code ty depth regs (i.Cmp to choice a b) e = refl
+served code ty depth regs (i.Not to a) e = refl
+served code ty depth regs (i.Join to a b at) e = refl
+served code ty depth regs (i.TextLen to a) e = refl
+served code ty depth regs (i.Slice to a x y at) e = refl
+served code ty depth regs (i.Byte to a x at) e = refl
+served code ty depth regs (i.TextOf to a) e = refl
+served code ty depth regs (i.IsNum to a) e = refl
+served code ty depth regs (i.Num to a at) e = refl
+served code ty depth regs (i.Print a choice) e = refl
+served code ty depth regs (i.Jump target) e = refl
+served code ty depth regs (i.Unless a target) e = refl
+served code ty depth regs i.Tick e = refl
+served code ty depth regs (i.Call to func args at) e = refl
+served code ty depth regs (i.Ret a) e = refl
+served code ty depth regs i.RetVoid e = refl
+served code ty depth regs _ e = absurd (let x : ⊥ = cc in x)
+
+within : (r n : ℕ) → nat_lt r n ≡ true → 0 + r < n
+within r n e = let lt : r < n = grind (arith, nat_tests) in omega arith
+
+one : (a b : Bool) → (a && b) ≡ true → a ≡ true
+one a b e = (and_parts a b e).0
+
+room : (code : Parts) (n : ℕ) (instr : Instr) → numbers code n instr ≡ true → HasRegister (register_of instr) 0 n
+room code n (i.Int to m) e = within to n e
+room code n (i.Truth to choice) e = within to n (one _ _ e)
+room code n (i.Text to text) e = within to n (one _ _ e)
+room code n (i.Copy to a) e = within to n (one _ _ e)
+room code n (i.Add to a b at) e = within to n (one _ _ (one _ _ e))
+room code n (i.Sub to a b at) e = within to n (one _ _ (one _ _ e))
+room code n (i.Mul to a b at) e = within to n (one _ _ (one _ _ e))
+room code n (i.Div to a b at) e = within to n (one _ _ (one _ _ e))
+room code n (i.Rem to a b at) e = within to n (one _ _ (one _ _ e))
+room code n (i.Cmp to choice a b) e = within to n (one _ _ (one _ _ (one _ _ e)))
+room code n (i.Not to a) e = within to n (one _ _ e)
+room code n (i.Join to a b at) e = within to n (one _ _ (one _ _ e))
+room code n (i.TextLen to a) e = within to n (one _ _ e)
+room code n (i.Slice to a x y at) e = within to n (one _ _ (one _ _ (one _ _ e)))
+room code n (i.Byte to a x at) e = within to n (one _ _ (one _ _ e))
+room code n (i.TextOf to a) e = within to n (one _ _ e)
+room code n (i.IsNum to a) e = within to n (one _ _ e)
+room code n (i.Num to a at) e = within to n (one _ _ e)
+room code n (i.Ret a) e = within a n e
+room code n _ e = tt
+
+result_room : (ty : Ty) (to n : ℕ) → takes_result n ty to ≡ true → HasRegister (result_to ty to) 0 n
+result_room t.Void to n e = tt
+result_room t.Int to n e = within to n e
+result_room t.Truth to n e = within to n e
+result_room t.Text to n e = within to n e
+result_room (t.Own k) to n e = within to n e
+result_room (t.Ref k) to n e = within to n e
+result_room (t.Frozen k) to n e = within to n e
+result_room (t.Iso k) to n e = within to n e
+
+module _ (code : Parts) (facts : List FuncFacts) (cert : Certified code facts) where
+  callable : (ty : Ty) (depth : ℕ) (regs : List RegFact) (n to g : ℕ) (args : List ℕ) → (calls depth regs (slice_get code.funcs g) to args).kept.types ≡ true
+      → calls_function n (slice_get code.funcs g) to ≡ true → IsCallable code g to 0 n
+  callable ty depth regs n to g args e h = at (slice_get code.funcs g) refl e h
+    where
+      plainly : (callee : Func) (b : Bool) → (callee.form == 0) ≡ b → (call_by_form b depth regs callee to args).kept.types ≡ true → callee.form ≡ 0
+      plainly callee false q k = absurd (let x : ⊥ = cc in x)
+      plainly callee true q k = grind (arith, nat_tests)
+
+      at : (o : Option Func) → slice_get code.funcs g ≡ o → (calls depth regs o to args).kept.types ≡ true → calls_function n o to ≡ true → IsCallable code g to 0 n
+      at None q k m = absurd (let x : ⊥ = cc in x)
+      at (Some callee) q k m = record {
+        func = callee;
+        found = q;
+        plain = plainly callee (callee.form == 0) refl k;
+        params = (let x : nat_le (length callee.params) callee.registers ≡ true = one _ _ (one _ _ (lawful code facts cert g callee q).body) in grind (arith, nat_tests));
+        room = result_room callee.result to n m;
+      }
+
+  calls_well : (ty : Ty) (depth : ℕ) (regs : List RegFact) (n : ℕ) (instr : Instr) → (row code ty depth regs instr).kept.types ≡ true → numbers code n instr ≡ true → CallsWell code instr 0 n
+  calls_well ty depth regs n (i.Call to g args at) e h = callable ty depth regs n to g args e (one _ _ h)
+  calls_well ty depth regs n _ e h = tt
+
+  pub runnable : IsRunnable code
+  runnable = record { fits = fits }
+    where
+      fits : (function place : ℕ) (func : Func) (instr : Instr) → slice_get code.funcs function ≡ Some func → slice_get func.body place ≡ Some instr → IsFit code instr 0 func.registers
+      fits function place func instr found at =
+          let j = judged code facts cert function func found in
+          let k = types_at code func j.0.labels j.1.base place 0 func.body j.1.came (Some (entry func j.0)) instr j.1.walks at in
+          let numbered = all_at (numbers code func.registers) func.body place instr j.1.numbered at in
+          record {
+            served = served code func.result k.0.depth k.0.regs instr k.1;
+            room = room code func.registers instr numbered;
+            calls = calls_well func.result k.0.depth k.0.regs func.registers instr k.1 numbered;
+          }
+
+  -- ---- safety
+
+  ends_so : (n : ℕ) (c : Config) (end : End) (v : Option Value) (s : State) → steps code n c ≡ Over end v s → exec code n c ≡ Some (record { end = end; value = v; state = s })
+  ends_so zero c end v s e = absurd (let x : ⊥ = cc in x)
+  ends_so (suc n) c end v s e = from (step code c) e (λ d h. ends_so n d end v s h)
+    where
+      from : (x : Next) → go_on x (steps code n) ≡ Over end v s → ((d : Config) → steps code n d ≡ Over end v s → exec code n d ≡ Some (record { end = end; value = v; state = s })) → then_go x (exec code n) ≡ Some (record { end = end; value = v; state = s })
+      from (On d) h rest = rest d h
+      from (Over g w u) h rest = cc
+
+  pub safe : (c : Config) → ConfigFits code facts c → (n : ℕ) (v : Option Value) (s : State) → steps code n c ≢ Over Wrong v s
+  safe c fits n v s h = never_wrong code facts cert (last_state code) n c (record { end = Wrong; value = v; state = s }) fits (ends_so n c Wrong v s h) refl

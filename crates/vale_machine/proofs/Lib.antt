@@ -1,0 +1,11 @@
+pub mod Beginning
+pub mod Certified
+pub mod Comparing
+pub mod Entering
+pub mod Obeying
+pub mod Operands
+pub mod Operations
+pub mod Passing
+pub mod Running
+pub mod Stack
+pub mod Told

@@ -1,0 +1,57 @@
+-- A machine whose run goes on, and what a turn of it comes to.
+use Rattle.std.specs.Prelude.{◌≡◌, ◌≢◌, ℕ, ◌+◌, ◌≤◌, List, Option, None}
+use Rattle.vale_base.specs.Limits.{ticks_limit}
+use Rattle.vale_base.specs.Outcome.{Done, Trap, Cut, Wrong}
+use Rattle.vale_base.specs.State.{State}
+use Rattle.vale_base.specs.World.{Value}
+use Rattle.vale_base.specs.declared.piece.Piece.{Piece}
+use Rattle.vale_code.specs.Frames.{Config, Next, On, Over}
+use Rattle.vale_code.specs.Parts.{Parts}
+use Rattle.vale_code.specs.Run.{steps}
+use Rattle.vale_machine.specs.Lawful.{IsRunnable}
+use Rattle.vale_machine.specs.View.{IsLaid, config_of, state_of}
+use Rattle.vale_machine.specs.declared.machine.Machine.{Machine}
+use Rattle.vale_machine.specs.declared.turn.End.{End}
+use Rattle.vale_machine.specs.declared.turn.End.TheVariants as end
+use Rattle.vale_machine.specs.declared.turn.Turn.{Turn}
+use Rattle.vale_machine.specs.declared.turn.Turn.TheVariants as turn
+
+-- no number of steps leads to where no rule gives the next one
+abbrev pub IsSafe : Parts → Config → Type 0
+IsSafe code c = (n : ℕ) (v : Option Value) (s : State) → steps code n c ≢ Over Wrong v s
+
+-- The machine was started with this code, which is certified, these pieces were taken, and its run hasn't ended.
+pub record IsUnderWay (code : Parts) (taken : List Piece) (m : Machine) : Type 0 where
+  pub runnable : IsRunnable code
+  pub laid : IsLaid code m
+  pub ticks : m.left + m.spent ≤ ticks_limit
+  pub safe : IsSafe code (config_of code taken m)
+
+-- the same, whatever was taken
+abbrev pub IsRunning : Parts → Machine → Type 0
+IsRunning code m = (taken : List Piece) × IsUnderWay code taken m
+
+-- an end of the machine is the one that the step leads to; of the want of memory nothing is said
+abbrev pub Ends : End → Next → State → Type 0
+Ends (end.Done ticks) next s = (ticks ≡ s.spent) × (v : Option Value) × (next ≡ Over Done v s)
+Ends (end.Trap ticks info) next s = (ticks ≡ s.spent) × (next ≡ Over (Trap info) None s)
+Ends end.Cut next s = next ≡ Over Cut None s
+Ends end.Memory next s = Unit {0}
+
+-- A turn is a step of the code's meaning, where these pieces were taken before.
+abbrev pub Turned : Parts → List Piece → Turn → Next → Machine → Type 0
+Turned code taken turn.Going next m = next ≡ On (config_of code taken m)
+Turned code taken (turn.Ended e) next m = Ends e next (state_of taken m)
+
+abbrev pub IsTrapped : Next → Type 0
+IsTrapped (Over (Trap info) v s) = Unit {0}
+IsTrapped _ = ⊥
+
+-- memory may be wanting for what is told of a trap alone
+abbrev pub WantsForTrap : Turn → Next → Type 0
+WantsForTrap (turn.Ended end.Memory) next = IsTrapped next
+WantsForTrap _ next = Unit {0}
+
+abbrev pub IsStillUnderWay : Parts → List Piece → Turn → Machine → Type 0
+IsStillUnderWay code taken turn.Going m = IsUnderWay code taken m
+IsStillUnderWay code taken (turn.Ended e) m = Unit {0}

@@ -1,0 +1,51 @@
+// A whole run.
+ghost use Rattle.std.specs.Prelude.{◌≡◌, ◌<◌, ◌≤◌, true};
+ghost use Rattle.vale_base.specs.Limits.{ticks_limit};
+ghost use Rattle.vale_cert.specs.Input.{takes_input};
+ghost use Rattle.vale_code.specs.Run.{run_code};
+ghost use Rattle.vale_machine.specs.Finishes.{Finishes};
+ghost use Rattle.vale_machine.specs.Given.{given_of};
+
+use crate::machine::Machine;
+use crate::start::Input;
+use crate::turn::{End, Turn};
+use std::alloc::Global;
+use vale_base::Piece;
+use vale_verifier::Verified;
+
+/// What a run printed, and how it ended.
+#[derive(Drop)]
+pub struct Finished {
+    pub pieces: Vec<Piece>,
+    pub end: End,
+}
+
+/// Runs certified code: what is printed, when, and how it ends is what the code means, unless memory is wanting.
+pub fn run(alloc: Global, code: &Verified, input: Input, ticks: u64) -> Finished
+    requires takes { takes_input code.now.code (given_of input) ≡ true }
+    requires none { input ≡ Input.None }
+    requires some { 0 < ticks }
+    requires few { ticks ≤ ticks_limit }
+    ensures { Finishes result ticks (run_code code.now.code (given_of input) ticks) }
+{
+    let mut machine = match Machine::start(alloc, code, input, ticks) {
+        Ok(machine) => machine,
+        Err(_) => {
+            return Finished {
+                pieces: Vec::new(alloc),
+                end: End::Memory,
+            };
+        }
+    };
+    'turns: loop {
+        match machine.turn(code) {
+            Turn::Going => {}
+            Turn::Ended(end) => {
+                return Finished {
+                    pieces: machine.take_pieces(),
+                    end,
+                };
+            }
+        }
+    }
+}
