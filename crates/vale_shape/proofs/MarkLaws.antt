@@ -1,12 +1,11 @@
 -- Marks of kinds: turn by turn they say which kinds reach an isolate over one kind more.
-use Rattle.std.proofs.Common.{◌≡◌, ◌≢◌, ℕ, zero, suc, ◌+◌, ◌-◌, ◌<◌, ◌≤◌, List, [], ◌∷◌, length, get_or, replicate, Bool, true, false, Some, None, Option, refl, sym, ap, ◌∙◌, ⊎_elim, subst, arith, get_or-set_other, get_or-set_same, add-one}
+use Rattle.std.proofs.Common.{◌≡◌, ◌≢◌, ℕ, zero, suc, ◌+◌, ◌-◌, ◌<◌, ◌≤◌, List, [], ◌∷◌, length, get_or, replicate, Bool, false, Some, refl, sym, ap, ◌∙◌, ⊎_elim, subst, arith, get_or-set_other, get_or-set_same, add-one}
 use Rattle.std.proofs.Math.ListN.{set}
 use Rattle.std.proofs.Math.Path.{fun_ext}
 use Rattle.std.proofs.lemmas.Bool.{cases_lt}
 use Rattle.std.proofs.lemmas.Option.{slice_get_past, slice_get-get_or}
 use Rattle.std.specs.Prelude.{slice_get}
 use Rattle.vale_code.specs.Parts.{Parts}
-use Rattle.vale_code.specs.declared.func.Impl.{Impl}
 use Rattle.vale_code.specs.declared.kind.KindInfo.{KindInfo}
 use Rattle.vale_cert.specs.Types.{marked, or_false, kind_reaches, reaches_within, reaches_isolate}
 

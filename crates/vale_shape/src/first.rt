@@ -43,12 +43,7 @@ pub fn facts_of(facts: &[FuncFacts], m: usize) -> Option<&FuncFacts>
     facts.get(m)
 }
 
-fn fault_among(
-    code: &Code,
-    marks: &[bool],
-    funcs: &[Func],
-    facts: &[FuncFacts],
-) -> Option<usize>
+fn fault_among(code: &Code, marks: &[bool], funcs: &[Func], facts: &[FuncFacts]) -> Option<usize>
     ensures first { result ≡ funcs_fault code.now (marked marks.now) 0 funcs.now facts.now }
     ensures within { IfSome result (λ n. n ≤ length funcs.now) }
 {

@@ -102,7 +102,10 @@ fn labels_are_lawful(code: &Code, marks: &[bool], func: &Func, labels: &[Label])
     for label in labels {
         let inside = (label.at as usize) < func.body.len();
         let regs = label.regs.as_slice();
-        if !(inside && regs.len() == func.registers as usize && facts_are_lawful(code, marks, regs)) {
+        if !(inside
+            && regs.len() == func.registers as usize
+            && facts_are_lawful(code, marks, regs))
+        {
             return false;
         }
     }

@@ -138,4 +138,4 @@ room_more least room i fs f inside is le fits before =
     ap (list_all (has_room room)) (take_more fs i f inside ∙ ap (λ (x : Func). take i fs ++ x ∷ []) (sym is))
     ∙ list_all-append (has_room room) (take i fs) (f ∷ [])
     ∙ and_from (list_all (has_room room) (take i fs)) (list_all (has_room room) (f ∷ [])) (more_room room least (take i fs) le before)
-      (and_from (has_room room f) true (le-leb f.registers room fits) refl)
+    (and_from (has_room room f) true (le-leb f.registers room fits) refl)

@@ -19,7 +19,10 @@ use vale_code::{Code, Func, Instr};
 fn goes_on(instr: &Instr) -> bool
     ensures { result ≡ goes_on instr.now }
 {
-    !matches!(instr, Instr::Jump { .. } | Instr::Ret { .. } | Instr::RetVoid)
+    !matches!(
+        instr,
+        Instr::Jump { .. } | Instr::Ret { .. } | Instr::RetVoid
+    )
 }
 
 fn target_of(instr: &Instr) -> Option<u32>
@@ -128,7 +131,6 @@ fn lowest(kept: Kept, came: bool, enters: bool, leads: bool) -> Option<u8>
     }
     None
 }
-
 
 /// The lowest rule that an instruction breaks, before which this is known; the registers are those after it. `left` are the
 /// labels behind it, and `came` says that the function's entry may enter the label at its first instruction.

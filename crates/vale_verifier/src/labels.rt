@@ -47,13 +47,7 @@ pub fn behind(labels: &[Label], p: usize) -> &[Label]
 {
     match labels {
         [] => labels,
-        [label, more @ ..] => {
-            if label.at as usize == p {
-                more
-            } else {
-                labels
-            }
-        }
+        [label, more @ ..] => { if label.at as usize == p { more } else { labels } }
     }
 }
 
@@ -84,12 +78,6 @@ pub fn find(labels: &[Label], p: u32) -> Option<&Label>
     }
     match among {
         [] => None,
-        [label, ..] => {
-            if label.at == p {
-                Some(label)
-            } else {
-                None
-            }
-        }
+        [label, ..] => { if label.at == p { Some(label) } else { None } }
     }
 }

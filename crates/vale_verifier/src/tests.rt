@@ -51,7 +51,12 @@ fn a_code_that_runs_past_its_end_is_refused_there(rt: HostRuntime) -> Result<(),
     let code = seven(rt.alloc(), Instr::Tick).ok().ok_or("memory")?;
     let facts = no_labels(rt.alloc()).ok().ok_or("memory")?;
     let answer = verify(rt.alloc(), code, facts);
-    assert!(rt; matches!(answer, Err(vale_base::Fail::Is(VerifyFault { rule: 7, at: 2 }))));
+    assert!(rt;
+        matches!(
+            answer,
+            Err(vale_base::Fail::Is(VerifyFault { rule: 7, at: 2 }))
+        )
+    );
     Ok(())
 }
 

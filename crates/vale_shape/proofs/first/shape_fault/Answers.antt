@@ -1,5 +1,5 @@
-use Rattle.std.proofs.Common.{◌≡◌, List, Bool, ap, ◌∙◌}
-use Rattle.vale_cert.specs.Shape.{shape_fault, shape_fault_by}
+use Rattle.std.proofs.Common.{List, Bool, ap, ◌∙◌}
+use Rattle.vale_cert.specs.Shape.{shape_fault_by}
 use Rattle.vale_cert.specs.Types.{marked}
 use Rattle.vale_shape.proofs.ShapeLaws.{by_marks}
 use Rattle.vale_shape.proofs.first.shape_fault.Goals as goal

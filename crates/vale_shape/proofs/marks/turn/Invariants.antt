@@ -1,4 +1,4 @@
-use Rattle.std.proofs.Common.{◌≡◌, ℕ, ◌<◌, length}
+use Rattle.std.proofs.Common.{◌≡◌, ℕ, ◌<◌}
 use Rattle.std.specs.Prelude.{slice_get}
 use Rattle.vale_cert.specs.Types.{marked, kind_reaches}
 use Rattle.vale_shape.proofs.marks.turn.Given as goal
