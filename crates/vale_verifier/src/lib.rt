@@ -1,6 +1,18 @@
-//! Codes that are certified: with the facts of such a code it is known never to go wrong.
+//! Whether facts certify a code, and the first rule that they break (docs/FORMATS.md, "Certificates"); codes that are
+//! certified: with the facts of such a code it is known never to go wrong.
 #![tactic(auto)]
 
+mod first;
+mod judge;
+mod known;
+mod labels;
+mod rules;
+#[cfg(test)]
+mod tests;
 mod verified;
+mod verifier;
+mod walk;
 
+pub use first::{certified, first_fault};
 pub use verified::Verified;
+pub use verifier::{VerifyFault, verify};

@@ -1,0 +1,435 @@
+// The rules of one instruction.
+ghost use Rattle.std.specs.Prelude.{◌≡◌, Some, slice_get, true};
+ghost use Rattle.std.specs.List.{list_all};
+ghost use Rattle.vale_cert.specs.Known.{fact_of, is_there, has, is_free};
+ghost use Rattle.vale_cert.specs.Rules.{is_usable, reads, uses, gets, is_short, is_copied, copy_of, copies, is_ordered, is_comparable, are_alike, compares, is_printable, prints, gives_frozen, leads_to, passes, passed, passes_all, all_fine, calls, leaves, returns, control_row, row, if_types};
+
+use crate::known::{fact_of, has, is_free, is_there, set_fact};
+use vale_base::TEXT_LIMIT;
+use vale_cert::{Kept, RegFact};
+use vale_code::{Code, Func, Instr, Ty};
+use vale_shape::{is_copy, is_owned, is_void};
+
+fn if_types(types: bool) -> Kept
+    ensures { result ≡ if_types types }
+{
+    Kept {
+        types,
+        present: true,
+        depths: true,
+    }
+}
+
+fn is_usable(depth: u32, fact: RegFact) -> bool
+    ensures { result ≡ is_usable depth fact }
+{
+    match fact {
+        RegFact::Empty => true,
+        RegFact::Held { ty, depth: d, .. } => {
+            !(matches!(ty, Ty::Ref(_)) || is_owned(ty)) || d == depth
+        }
+    }
+}
+
+/// A register is read that holds this type.
+fn reads(regs: &[RegFact], a: u32, ty: Ty, kept: Kept) -> Kept
+    ensures { result ≡ reads regs.now a ty kept }
+{
+    let fact = fact_of(regs, a);
+    Kept {
+        types: kept.types && has(ty, fact),
+        present: kept.present && is_there(fact),
+        depths: kept.depths,
+    }
+}
+
+/// The same, at its own depth.
+fn uses(depth: u32, regs: &[RegFact], a: u32, ty: Ty, kept: Kept) -> Kept
+    ensures { result ≡ uses depth regs.now a ty kept }
+{
+    let fact = fact_of(regs, a);
+    Kept {
+        types: kept.types && has(ty, fact),
+        present: kept.present && is_there(fact),
+        depths: kept.depths && is_usable(depth, fact),
+    }
+}
+
+/// A result comes into a register.
+fn gets(depth: u32, regs: &mut [RegFact], to: u32, ty: Ty, kept: Kept) -> Kept
+    ensures { gets depth regs.old to ty kept ≡ record { kept = result; after = regs.new } }
+{
+    let present = kept.present && is_free(fact_of(regs, to));
+    let fact = RegFact::Held {
+        ty,
+        depth,
+        live: false,
+    };
+    set_fact(regs, to, fact);
+    Kept { present, ..kept }
+}
+
+fn is_short(code: &Code, text: u32) -> bool
+    ensures { result ≡ is_short (slice_get code.now.texts text) }
+{
+    match code.texts.as_slice().get(text as usize) {
+        None => false,
+        Some(text) => text.len() <= TEXT_LIMIT,
+    }
+}
+
+fn copies(depth: u32, regs: &mut [RegFact], to: u32, a: u32) -> Kept
+    ensures { copies depth regs.old to a ≡ record { kept = result; after = regs.new } }
+{
+    let fact = fact_of(regs, a);
+    let kept = Kept {
+        types: is_copied(fact),
+        present: is_there(fact) && is_free(fact_of(regs, to)),
+        depths: is_usable(depth, fact),
+    };
+    set_fact(regs, to, copy_of(depth, fact));
+    kept
+}
+
+fn is_copied(fact: RegFact) -> bool
+    ensures { result ≡ is_copied fact }
+{
+    match fact {
+        RegFact::Empty => true,
+        RegFact::Held { ty, .. } => !is_owned(ty),
+    }
+}
+
+fn copy_of(depth: u32, fact: RegFact) -> RegFact
+    ensures { result ≡ copy_of depth fact }
+{
+    match fact {
+        RegFact::Empty => RegFact::Empty,
+        RegFact::Held { ty, live, .. } => RegFact::Held { ty, depth, live },
+    }
+}
+
+fn is_ordered(choice: u8, ty: Ty) -> bool
+    ensures { result ≡ is_ordered choice ty }
+{
+    match ty {
+        Ty::Int | Ty::Text => true,
+        Ty::Truth => choice < 2,
+        _ => false,
+    }
+}
+
+fn is_comparable(choice: u8, fact: RegFact) -> bool
+    ensures { result ≡ is_comparable choice fact }
+{
+    match fact {
+        RegFact::Empty => true,
+        RegFact::Held { ty, .. } => is_ordered(choice, ty),
+    }
+}
+
+fn are_alike(a: RegFact, b: RegFact) -> bool
+    ensures { result ≡ are_alike a b }
+{
+    match a {
+        RegFact::Empty => true,
+        RegFact::Held { ty, .. } => has(ty, b),
+    }
+}
+
+fn compares(depth: u32, regs: &mut [RegFact], to: u32, choice: u8, a: u32, b: u32) -> Kept
+    ensures { compares depth regs.old to choice a b ≡ record { kept = result; after = regs.new } }
+{
+    let left = fact_of(regs, a);
+    let right = fact_of(regs, b);
+    let kept = Kept {
+        types: is_comparable(choice, left)
+            && is_comparable(choice, right)
+            && are_alike(left, right),
+        present: is_there(left) && is_there(right),
+        depths: true,
+    };
+    gets(depth, regs, to, Ty::Truth, kept)
+}
+
+fn prints(regs: &[RegFact], a: u32) -> Kept
+    ensures { result ≡ prints regs.now a }
+{
+    match fact_of(regs, a) {
+        RegFact::Empty => Kept {
+            types: true,
+            present: false,
+            depths: true,
+        },
+        RegFact::Held { ty, .. } => if_types(is_copy(ty)),
+    }
+}
+
+// ---- arguments
+
+fn leads_to(n: u32, ty: Ty) -> bool
+    ensures { result ≡ leads_to n ty }
+{
+    match ty {
+        Ty::Own(kind) | Ty::Ref(kind) | Ty::Iso(kind) => kind.0 == n,
+        _ => false,
+    }
+}
+
+/// Whether the register gives a reference into frozen data of a kind.
+fn gives_frozen(depth: u32, n: u32, fact: RegFact) -> bool
+    ensures { result ≡ gives_frozen depth n fact }
+{
+    match fact {
+        RegFact::Empty => true,
+        RegFact::Held { ty, depth: d, .. } => match ty {
+            Ty::Frozen(kind) => kind.0 == n,
+            _ => d < depth && leads_to(n, ty),
+        },
+    }
+}
+
+fn passes(depth: u32, regs: &[RegFact], a: u32, ty: Ty, kept: Kept) -> Kept
+    ensures { result ≡ passes depth regs.now a ty kept }
+{
+    match ty {
+        Ty::Frozen(kind) => {
+            let fact = fact_of(regs, a);
+            Kept {
+                types: kept.types && gives_frozen(depth, kind.0, fact),
+                present: kept.present && is_there(fact),
+                depths: kept.depths,
+            }
+        }
+        _ => uses(depth, regs, a, ty, kept),
+    }
+}
+
+/// A register is an argument; an owner or an isolate leaves it.
+fn pass(depth: u32, regs: &mut [RegFact], a: u32, ty: Ty, kept: Kept) -> Kept
+    ensures { passed depth a ty (record { kept = kept; after = regs.old }) ≡ record { kept = result; after = regs.new } }
+{
+    let kept = passes(depth, regs, a, ty, kept);
+    match ty {
+        Ty::Own(_) | Ty::Iso(_) => set_fact(regs, a, RegFact::Empty),
+        _ => {}
+    }
+    kept
+}
+
+fn pass_all(depth: u32, regs: &mut [RegFact], types: &[Ty], args: &[u32]) -> Kept
+    ensures { passes_all depth types.now args.now (all_fine regs.old) ≡ record { kept = result; after = regs.new } }
+{
+    let mut kept = if_types(true);
+    let mut left = types;
+    for a in args {
+        match left {
+            [] => return Kept {
+                types: false,
+                ..kept
+            },
+            [ty, more @ ..] => {
+                kept = pass(depth, regs, *a, *ty, kept);
+                left = more;
+            }
+        }
+    }
+    if left.is_empty() {
+        kept
+    } else {
+        Kept {
+            types: false,
+            ..kept
+        }
+    }
+}
+
+// ---- calls and leaving
+
+fn call_plain(depth: u32, regs: &mut [RegFact], callee: &Func, to: u32, args: &[u32]) -> Kept
+    ensures { calls depth regs.old (Some callee.now) to args.now ≡ record { kept = result; after = regs.new } }
+{
+    if callee.form != 0 {
+        return if_types(false);
+    }
+    let kept = pass_all(depth, regs, callee.params.as_slice(), args);
+    match callee.result {
+        Ty::Void => kept,
+        ty => gets(depth, regs, to, ty, kept),
+    }
+}
+
+fn calls(code: &Code, depth: u32, regs: &mut [RegFact], to: u32, func: u32, args: &[u32]) -> Kept
+    ensures { calls depth regs.old (slice_get code.now.funcs func) to args.now ≡ record { kept = result; after = regs.new } }
+{
+    match code.funcs.as_slice().get(func as usize) {
+        None => if_types(false),
+        Some(callee) => call_plain(depth, regs, callee, to, args),
+    }
+}
+
+fn all_are_free(regs: &[RegFact]) -> bool
+    ensures { result ≡ list_all is_free regs.now }
+{
+    for fact in regs {
+        if !is_free(*fact) {
+            return false;
+        }
+    }
+    true
+}
+
+fn leaves(depth: u32, regs: &[RegFact], kept: Kept) -> Kept
+    ensures { result ≡ leaves depth regs.now kept }
+{
+    Kept {
+        types: kept.types,
+        present: kept.present && all_are_free(regs),
+        depths: kept.depths && depth == 0,
+    }
+}
+
+fn returns(depth: u32, regs: &mut [RegFact], a: u32, ty: Ty) -> Kept
+    ensures { returns depth regs.old a ty ≡ record { kept = result; after = regs.new } }
+{
+    let kept = uses(depth, regs, a, ty, if_types(true));
+    set_fact(regs, a, RegFact::Empty);
+    leaves(depth, regs, kept)
+}
+
+// ---- the rows
+
+fn control_row(
+    code: &Code,
+    leaves_with: Ty,
+    depth: u32,
+    regs: &mut [RegFact],
+    instr: &Instr,
+) -> Kept
+    ensures { control_row code.now leaves_with depth regs.old instr.now ≡ record { kept = result; after = regs.new } }
+{
+    match instr {
+        Instr::Print { from, .. } => prints(regs, *from),
+        Instr::Jump { .. } | Instr::Tick => if_types(true),
+        Instr::Unless { condition, .. } => reads(regs, *condition, Ty::Truth, if_types(true)),
+        Instr::Call { to, func, args, .. } => calls(code, depth, regs, *to, *func, args.as_slice()),
+        Instr::Ret { from } => returns(depth, regs, *from, leaves_with),
+        Instr::RetVoid => leaves(depth, regs, if_types(is_void(leaves_with))),
+        _ => if_types(false),
+    }
+}
+
+fn of_one(depth: u32, regs: &mut [RegFact], to: u32, ty: Ty, a: u32, from: Ty) -> Kept
+    ensures { gets depth regs.old to ty (reads regs.old a from (if_types true)) ≡ record { kept = result; after = regs.new } }
+{
+    let kept = reads(regs, a, from, if_types(true));
+    gets(depth, regs, to, ty, kept)
+}
+
+// Two operands of the type of the result.
+fn of_two(depth: u32, regs: &mut [RegFact], to: u32, ty: Ty, a: u32, b: u32) -> Kept
+    ensures { gets depth regs.old to ty (reads regs.old b ty (reads regs.old a ty (if_types true))) ≡ record { kept = result; after = regs.new } }
+{
+    let kept = reads(regs, a, ty, if_types(true));
+    let kept = reads(regs, b, ty, kept);
+    gets(depth, regs, to, ty, kept)
+}
+
+fn slices(depth: u32, regs: &mut [RegFact], to: u32, a: u32, x: u32, y: u32) -> Kept
+    ensures { gets depth regs.old to Ty.Text (reads regs.old y Ty.Int (reads regs.old x Ty.Int (reads regs.old a Ty.Text (if_types true)))) ≡ record { kept = result; after = regs.new } }
+{
+    let kept = reads(regs, a, Ty::Text, if_types(true));
+    let kept = reads(regs, x, Ty::Int, kept);
+    let kept = reads(regs, y, Ty::Int, kept);
+    gets(depth, regs, to, Ty::Text, kept)
+}
+
+fn bytes(depth: u32, regs: &mut [RegFact], to: u32, a: u32, x: u32) -> Kept
+    ensures { gets depth regs.old to Ty.Int (reads regs.old x Ty.Int (reads regs.old a Ty.Text (if_types true))) ≡ record { kept = result; after = regs.new } }
+{
+    let kept = reads(regs, a, Ty::Text, if_types(true));
+    let kept = reads(regs, x, Ty::Int, kept);
+    gets(depth, regs, to, Ty::Int, kept)
+}
+
+/// The rules of an instruction in a function with this result, and what it makes of the registers.
+pub fn row(code: &Code, leaves_with: Ty, depth: u32, regs: &mut [RegFact], instr: &Instr) -> Kept
+    ensures { row code.now leaves_with depth regs.old instr.now ≡ record { kept = result; after = regs.new } }
+{
+    match instr {
+        Instr::Int { to, .. } => gets(depth, regs, *to, Ty::Int, if_types(true)),
+        Instr::Truth { to, .. } => gets(depth, regs, *to, Ty::Truth, if_types(true)),
+        Instr::Text { to, text } => {
+            let kept = if_types(is_short(code, *text));
+            gets(depth, regs, *to, Ty::Text, kept)
+        }
+        Instr::Copy { to, from } => copies(depth, regs, *to, *from),
+        Instr::Add {
+            to,
+            left,
+            right,
+            ..
+        }
+        | Instr::Sub {
+            to,
+            left,
+            right,
+            ..
+        }
+        | Instr::Mul {
+            to,
+            left,
+            right,
+            ..
+        }
+        | Instr::Div {
+            to,
+            left,
+            right,
+            ..
+        }
+        | Instr::Rem {
+            to,
+            left,
+            right,
+            ..
+        } => of_two(depth, regs, *to, Ty::Int, *left, *right),
+        Instr::Cmp {
+            to,
+            choice,
+            left,
+            right,
+        } => compares(depth, regs, *to, *choice, *left, *right),
+        Instr::Not { to, from } => of_one(depth, regs, *to, Ty::Truth, *from, Ty::Truth),
+        Instr::Join {
+            to,
+            left,
+            right,
+            ..
+        } => of_two(depth, regs, *to, Ty::Text, *left, *right),
+        Instr::TextLen { to, from } | Instr::Num { to, from, .. } => of_one(
+            depth,
+            regs,
+            *to,
+            Ty::Int,
+            *from,
+            Ty::Text,
+        ),
+        Instr::Slice {
+            to,
+            from,
+            first,
+            end,
+            ..
+        } => slices(depth, regs, *to, *from, *first, *end),
+        Instr::Byte {
+            to,
+            from,
+            index,
+            ..
+        } => bytes(depth, regs, *to, *from, *index),
+        Instr::TextOf { to, from } => of_one(depth, regs, *to, Ty::Text, *from, Ty::Int),
+        Instr::IsNum { to, from } => of_one(depth, regs, *to, Ty::Truth, *from, Ty::Text),
+        _ => control_row(code, leaves_with, depth, regs, instr),
+    }
+}

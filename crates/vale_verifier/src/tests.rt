@@ -1,0 +1,69 @@
+use crate::{VerifyFault, certified, verify};
+use std::alloc::Global;
+use std::test::Fail;
+use vale_base::{Memory, Text};
+use vale_cert::{Facts, FuncFacts};
+use vale_code::{Code, Func, Instr, Sequence, Ty};
+
+// The code that prints 7, with this last instruction.
+fn seven(alloc: Global, last: Instr) -> Result<Code, Memory> {
+    let mut texts = Sequence::new(alloc);
+    texts.push(Text::from_slice(alloc, b"main")?)?;
+    let mut body = Sequence::new(alloc);
+    body.push(Instr::Int { to: 0, number: 7 })?;
+    body.push(Instr::Print { from: 0, choice: 1 })?;
+    body.push(last)?;
+    let mut funcs = Sequence::new(alloc);
+    funcs.push(Func {
+        name: 0,
+        form: 0,
+        params: Sequence::new(alloc),
+        result: Ty::Void,
+        registers: 1,
+        body,
+    })?;
+    Code::new(texts, Sequence::new(alloc), Sequence::new(alloc), funcs, 0)
+}
+
+// Facts of one function, without labels.
+fn no_labels(alloc: Global) -> Result<Facts, Memory> {
+    let mut funcs = Sequence::new(alloc);
+    funcs.push(FuncFacts {
+        live: Sequence::new(alloc),
+        labels: Sequence::new(alloc),
+    })?;
+    Facts::new(funcs)
+}
+
+#[test]
+fn a_certified_code_is_verified_with_ample_memory(rt: HostRuntime) -> Result<(), Fail> {
+    let code = seven(rt.alloc(), Instr::RetVoid).ok().ok_or("memory")?;
+    let facts = no_labels(rt.alloc()).ok().ok_or("memory")?;
+    assert!(rt; certified(rt.alloc(), &code, &facts).ok().ok_or("memory")?);
+    let verified = verify(rt.alloc(), code, facts).ok().ok_or("fault")?;
+    assert_eq!(rt; verified.code.funcs.len(), 1);
+    assert_eq!(rt; verified.facts.funcs.len(), 1);
+    Ok(())
+}
+
+#[test]
+fn a_code_that_runs_past_its_end_is_refused_there(rt: HostRuntime) -> Result<(), Fail> {
+    let code = seven(rt.alloc(), Instr::Tick).ok().ok_or("memory")?;
+    let facts = no_labels(rt.alloc()).ok().ok_or("memory")?;
+    let answer = verify(rt.alloc(), code, facts);
+    assert!(rt;
+        matches!(
+            answer,
+            Err(vale_base::Fail::Is(VerifyFault { rule: 7, at: 2 }))
+        )
+    );
+    Ok(())
+}
+
+#[test]
+fn a_fault_is_shown_with_its_rule_and_place(rt: HostRuntime) -> Result<(), Fail> {
+    let fault = VerifyFault { rule: 7, at: 2 };
+    let text = format!(in rt.alloc(); "{fault}")?;
+    assert_eq!(rt; text.as_str(), "rule 7 is broken at 2");
+    Ok(())
+}
