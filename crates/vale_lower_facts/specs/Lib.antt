@@ -1,0 +1,4 @@
+pub mod Marks
+pub mod Returned
+pub mod Slots
+pub mod Suits
