@@ -1,0 +1,9 @@
+pub mod Fine
+pub mod Fits
+pub mod Literals
+pub mod Lexed
+pub mod Parts
+pub mod Returns
+pub mod Functions
+pub mod Main
+pub mod Sound
