@@ -1,14 +1,12 @@
 -- Types that fit are equal where values of them are copied, and what is known of a local then.
-use Rattle.std.proofs.Common.{◌≡◌, ℕ, Bool, true, false, not, ◌&&◌, ◌==◌, List, [], ◌∷◌, Option, Some, None, is_some, if◌then◌else◌, refl, sym, ap, subst, ◌∙◌}
+use Rattle.std.proofs.Common.{◌≡◌, ℕ, Bool, true, false, not, ◌==◌, List, [], ◌∷◌, Option, Some, None, if◌then◌else◌, refl, ap, ◌∙◌}
 use Rattle.std.proofs.lemmas.Bool.{false≢true, and_parts, eqb-true}
-use Rattle.std.specs.Option.{option_map_or}
 use Rattle.vale_syntax.specs.declared.built_in.BuiltIn.{BuiltIn}
 use Rattle.vale_syntax.specs.declared.built_in.BuiltIn.TheVariants as b
-use Rattle.vale_syntax.specs.declared.tree.NameAt.{NameAt}
 use Rattle.vale_syntax.specs.declared.tree.BinaryOp.{BinaryOp}
 use Rattle.vale_syntax.specs.declared.tree.BinaryOp.TheVariants as o
 use Rattle.vale_syntax.specs.Tree.{Item, Head, head}
-use Rattle.vale_syntax.specs.Types.{Ty, void, int, bool, str, kind, array, ref, imm, iso, same, is_void, is_copy, object_of, Seen, Local, local_of, as_frozen, local_seen, fits, fits_argument}
+use Rattle.vale_syntax.specs.Types.{Ty, void, int, bool, str, kind, array, ref, imm, iso, same, is_void, object_of, Local, view_here, as_frozen, local_seen, fits}
 use Rattle.vale_syntax.specs.Typed as t
 use Rattle.vale_syntax.specs.TypeRules.{all_fit, takes_operands, link_gives, takes_arguments, head_gives}
 use Rattle.vale_lower.specs.Covered.{type_is_covered, expr_is_covered, node_is_covered, exprs_are_covered, built_in_is_covered}
@@ -106,8 +104,8 @@ frozen_type (iso x) c = impossible c
 pub seen_type : (depth : ℕ) (l : Local) → type_is_covered (local_seen depth l).value ≡ true → l.ty ≡ (local_seen depth l).value
 seen_type depth l = by (l.depth == depth)
   where
-    by : (here : Bool) → type_is_covered (if here then record { value = l.ty; view = Rattle.vale_syntax.specs.Types.view_here l.ty; place = Some l.ty } else as_frozen l.ty (object_of l.ty)).value ≡ true
-        → l.ty ≡ (if here then record { value = l.ty; view = Rattle.vale_syntax.specs.Types.view_here l.ty; place = Some l.ty } else as_frozen l.ty (object_of l.ty)).value
+    by : (here : Bool) → type_is_covered (if here then record { value = l.ty; view = view_here l.ty; place = Some l.ty } else as_frozen l.ty (object_of l.ty)).value ≡ true
+        → l.ty ≡ (if here then record { value = l.ty; view = view_here l.ty; place = Some l.ty } else as_frozen l.ty (object_of l.ty)).value
     by true c = refl
     by false c = frozen_type l.ty c
 
@@ -118,7 +116,7 @@ frozen_place x (Some y) = refl
 pub seen_place : (depth : ℕ) (l : Local) → (local_seen depth l).place ≡ Some l.ty
 seen_place depth l = by (l.depth == depth)
   where
-    by : (here : Bool) → (if here then record { value = l.ty; view = Rattle.vale_syntax.specs.Types.view_here l.ty; place = Some l.ty } else as_frozen l.ty (object_of l.ty)).place ≡ Some l.ty
+    by : (here : Bool) → (if here then record { value = l.ty; view = view_here l.ty; place = Some l.ty } else as_frozen l.ty (object_of l.ty)).place ≡ Some l.ty
     by true = refl
     by false = frozen_place l.ty (object_of l.ty)
 

@@ -1,21 +1,19 @@
 -- The functions of a program that the phase of types accepts.
-use Rattle.std.proofs.Common.{◌≡◌, ℕ, Bool, true, false, not, ◌&&◌, ◌||◌, ◌==◌, List, [], ◌∷◌, ◌++◌, Option, Some, None, if◌then◌else◌, refl, sym, ap, subst, ◌∙◌}
+use Rattle.std.proofs.Common.{◌≡◌, ℕ, Bool, true, false, not, ◌&&◌, ◌==◌, List, [], ◌∷◌, Some, if◌then◌else◌, refl, ap, ◌∙◌}
 use Rattle.std.specs.Prelude.{flat_map}
 use Rattle.std.specs.List.{AllByRecursion, list_all}
 use Rattle.std.proofs.lemmas.Bool.{and_parts}
 use Rattle.vale_syntax.specs.Tree.{Head, Function, function, Item, struct_item, interface_item, impl_item, function_item}
-use Rattle.vale_syntax.specs.Declarations.{head_name, head_params, param_type, function_head}
+use Rattle.vale_syntax.specs.Declarations.{head_name, head_params, param_type}
 use Rattle.vale_syntax.specs.Judged.{◌⇒◌, both, fine}
 use Rattle.vale_syntax.specs.Types.{is_void, is_copy, type_of, function_named}
 use Rattle.vale_syntax.specs.Typed as t
 use Rattle.vale_syntax.specs.TypeRules.{head_gives, function_rules}
 use Rattle.vale_syntax.specs.Returns.{block_returns}
 use Rattle.vale_syntax.specs.Typing.{entry, void_block, in_function, in_functions, in_item, in_items}
-use Rattle.vale_model.specs.Kinds.{head_of, body_of}
 use Rattle.vale_model.specs.Parts.{first_function, functions_of, has_name, is_pure}
 use Rattle.vale_lower.specs.Covered.{type_is_covered, block_is_covered, function_is_covered, item_is_covered}
-use Rattle.vale_lower.specs.Scopes.{head_result, result_type}
-use Rattle.vale_lower_facts.specs.Returned as r
+use Rattle.vale_lower.specs.Scopes.{head_result}
 use Rattle.vale_lower_facts.specs.Suits.{function_suits, all_suit}
 use Rattle.vale_sound.proofs.Fine.{one_rule, asked, of_node, of_plain, of_fine, of_both}
 use Rattle.vale_sound.proofs.Fits.{impossible, same_gives}
@@ -33,11 +31,10 @@ module _ (names : List (List ℕ)) (items : List Item) (functions : List t.Funct
   function_meets (function h b) v law is =
       of_node FunctionMeets (head_name h).at (λ v. function_rules (head_gives h) (block_returns b)) (λ v. t.function_body h v) (void_block names items (entry h) b) v is
       (λ w each kept cov.
-      let front = not (is_pure (t.function_body h w)) && list_all (λ p. is_copy (type_of (param_type p))) (head_params h) && type_is_covered (head_result h) in
-      (
+      let front = not (is_pure (t.function_body h w)) && list_all (λ p. is_copy (type_of (param_type p))) (head_params h) && type_is_covered (head_result h) in (
         void_meets names items functions finds (entry h) b w law each (and_parts front (block_is_covered w) cov).1,
         λ some. void_back names items (entry h) b w (asked (not (is_void (head_gives h))) (block_returns b) (one_rule 26 (not (is_void (head_gives h)) ⇒ block_returns b) kept)
-        (ap (λ x. not (is_void x)) (same_gives h) ∙ ap not some)) each,
+            (ap (λ x. not (is_void x)) (same_gives h) ∙ ap not some)) each,
       ))
 
   abbrev AllMeet : List t.Item → Type 0

@@ -1,12 +1,12 @@
 -- The numbers and quotes among the tokens of a text of bytes are those of programs: each number an int, each text one that a `str` may have.
-use Rattle.std.proofs.Common.{◌≡◌, ℕ, ℤ, pos, ◌<◌, ◌≤◌, ◌^◌, Bool, true, false, ◌&&◌, List, [], ◌∷◌, ◌++◌, length, Option, Some, None, if◌then◌else◌, refl, sym, ap, subst, ◌∙◌, arith}
+use Rattle.std.proofs.Common.{◌≡◌, ℕ, ℤ, pos, ◌<◌, ◌≤◌, ◌^◌, Bool, true, false, List, [], ◌∷◌, ◌++◌, length, Some, None, if◌then◌else◌, refl, sym, subst, arith}
 use Rattle.std.specs.List.{list_all}
 use Rattle.std.proofs.lemmas.Bool.{and_parts, and_from}
 use Rattle.std.proofs.lemmas.Bool.Decides.{nat_tests}
 use Rattle.vale_base.specs.Limits.{text_limit}
 use Rattle.vale_base.specs.declared.spot.Spot.{Spot}
 use Rattle.vale_text.specs.Operations.{is_int}
-use Rattle.vale_syntax.specs.Bytes.{is_plain, escape_of, value}
+use Rattle.vale_syntax.specs.Bytes.{escape_of, value}
 use Rattle.vale_syntax.specs.Cut.{Quoted, empty, plain, escape, Means, Cuts, none, gap, token}
 use Rattle.vale_syntax.specs.declared.token.Token.{Token}
 use Rattle.vale_syntax.specs.declared.token.TokenKind.{TokenKind}

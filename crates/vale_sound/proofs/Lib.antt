@@ -1,9 +1,9 @@
-pub mod Fine
-pub mod Fits
-pub mod Literals
-pub mod Lexed
-pub mod Parts
-pub mod Returns
-pub mod Functions
-pub mod Main
-pub mod Sound
+mod Fine
+mod Fits
+mod Functions
+mod Lexed
+mod Literals
+mod Main
+mod Parts
+mod Returns
+mod Sound

@@ -1,5 +1,5 @@
 -- The literals of a tree are those of the tokens that spell it, and each chain of it has an operator.
-use Rattle.std.proofs.Common.{◌≡◌, ◌<◌, ◌≤◌, ℕ, zero, suc, Bool, true, false, List, [], ◌∷◌, Option, None, Some, refl, sym, ap, subst}
+use Rattle.std.proofs.Common.{◌≡◌, ◌≤◌, ℕ, zero, suc, Bool, true, false, List, [], ◌∷◌, Option, None, Some, subst}
 use Rattle.std.specs.List.{AllByRecursion}
 use Rattle.vale_base.specs.Limits.{level_limit}
 use Rattle.vale_base.specs.declared.name.Name.{Name}
@@ -12,8 +12,8 @@ use Rattle.vale_syntax.specs.declared.token.Sign.{Sign}
 use Rattle.vale_syntax.specs.declared.token.Sign.TheVariants as s
 use Rattle.vale_syntax.specs.declared.token.Word.{Word}
 use Rattle.vale_syntax.specs.declared.tree.NameAt.{NameAt}
-use Rattle.vale_syntax.specs.Grammar.{Part, token, one, word, nothing, when, optional, each, with_commas, deeper, ◌▸◌, ◌⊳◌, whole, postfix, primary, operand, alone, goes_on, HasLinks, named, member, sign, IsType, IsExpr, AreArgs, AreMoreArgs, AreLinks, IsStep, AreSteps, IsForm, IsElseIf, AreElses, IsBlock, AreStmts, IsStmt, IsParam, IsHead, IsFunction, IsField, IsItem, spells}
-use Rattle.vale_syntax.specs.Tree.{TypeExpr, int_type, bool_type, str_type, named_type, array_type, ref_type, imm_ref_type, iso_type, Expr, set, chain, unary, steps, number, quote, truth, name, call, paren, array, iso, form, Exprs, no_exprs, more_exprs, Link, link, Links, no_links, more_links, Step, field, method, index, Steps, no_steps, more_steps, Form, branch, pure, parallel_range, parallel_each, ElseIf, else_if, Elses, no_else, otherwise, more_elses, Block, block, Stmt, declare, destructure, return_nothing, return_value, while, foreach, form_stmt, express, Stmts, no_stmts, last, more_stmts, Param, param, Head, head, Function, function, FieldDecl, field_decl, Item, struct_item, interface_item, impl_item, function_item, Tree, tree}
+use Rattle.vale_syntax.specs.Grammar.{Part, one, word, nothing, when, optional, each, with_commas, deeper, ◌▸◌, ◌⊳◌, whole, postfix, primary, operand, alone, goes_on, HasLinks, named, member, sign, IsType, IsExpr, AreArgs, AreMoreArgs, AreLinks, IsStep, AreSteps, IsForm, IsElseIf, AreElses, IsBlock, AreStmts, IsStmt, IsParam, IsHead, IsFunction, IsField, IsItem, spells}
+use Rattle.vale_syntax.specs.Tree.{TypeExpr, int_type, bool_type, str_type, named_type, array_type, ref_type, imm_ref_type, iso_type, Expr, set, chain, unary, steps, number, quote, truth, name, call, paren, array, iso, form, Exprs, no_exprs, more_exprs, Link, link, Links, no_links, more_links, Step, field, method, index, Steps, no_steps, more_steps, Form, branch, pure, parallel_range, parallel_each, ElseIf, else_if, Elses, no_else, otherwise, more_elses, Block, block, Stmt, declare, destructure, return_nothing, return_value, while, foreach, form_stmt, express, Stmts, no_stmts, last, more_stmts, Param, param, Head, head, Function, function, FieldDecl, field_decl, Item, struct_item, interface_item, impl_item, function_item, tree}
 use Rattle.vale_lower.specs.Texts.{is_lawful_text}
 
 -- ---- lawful literals
@@ -138,14 +138,14 @@ inner h (suc d) = h d
 none : Keeps nothing (Unit {0})
 none = record { by = λ ts rest e law. (tt, subst AreLawful e law) }
 
-a_token : (kind : TokenKind) (at : Spot) → Keeps (one kind at) (IsLawful kind)
-a_token kind at = record { by = λ ts rest e law. let h : IsLawful kind × AreLawful rest = subst AreLawful e law in h }
+token_keeps : (kind : TokenKind) (at : Spot) → Keeps (one kind at) (IsLawful kind)
+token_keeps kind at = record { by = λ ts rest e law. let h : IsLawful kind × AreLawful rest = subst AreLawful e law in h }
 
-a_sign : (x : Sign) → Keeps (sign x) (Unit {0})
-a_sign x = record { by = λ ts rest (at, e) law. (a_token (k.Sign x) at).by ts rest e law }
+sign_keeps : (x : Sign) → Keeps (sign x) (Unit {0})
+sign_keeps x = record { by = λ ts rest (at, e) law. (token_keeps (k.Sign x) at).by ts rest e law }
 
-a_word : (x : Word) → Keeps (word x) (Unit {0})
-a_word x = record { by = λ ts rest (at, e) law. (a_token (k.Word x) at).by ts rest e law }
+word_keeps : (x : Word) → Keeps (word x) (Unit {0})
+word_keeps x = record { by = λ ts rest (at, e) law. (token_keeps (k.Word x) at).by ts rest e law }
 
 maybe : (b : Bool) {P : Part} → Keeps P (Unit {0}) → Keeps (when b P) (Unit {0})
 maybe true h = h
@@ -161,7 +161,7 @@ eachs h (x ∷ xs) = both (h x) (eachs h xs)
 
 commas : {X : Type 0} {P : X → Part} {C : X → Type 0} → ((x : X) → Keeps (P x) (C x)) → (xs : List X) → Keeps (with_commas P xs) (AllByRecursion C xs)
 commas h [] = none
-commas h (x ∷ xs) = both (h x) (eachs (λ y. then (a_sign s.Comma) (h y)) xs)
+commas h (x ∷ xs) = both (h x) (eachs (λ y. then (sign_keeps s.Comma) (h y)) xs)
 
 alones : (e : Expr) {P : Part} {C : Type 0} → Keeps P C → Keeps (alone e P) C
 alones e {P = P} {C = C} h = record { by = go } where
@@ -182,113 +182,113 @@ has_operator r (more_links l ls) h = tt
 -- ---- the productions
 
 module _ (names : List (List ℕ)) where
-  a_name : (n : NameAt) → Keeps (named names n) (Unit {0})
-  a_name n = record { by = λ ts rest (text, is, e) law. (a_token (k.Name text) n.at).by ts rest e law }
+  name_keeps : (n : NameAt) → Keeps (named names n) (Unit {0})
+  name_keeps n = record { by = λ ts rest (text, is, e) law. (token_keeps (k.Name text) n.at).by ts rest e law }
 
-  a_member : (n : Name) → Keeps (member names n) (Unit {0})
-  a_member n = record { by = λ ts rest (at, h) law. (a_name (record { name = n; at = at })).by ts rest h law }
+  member_keeps : (n : Name) → Keeps (member names n) (Unit {0})
+  member_keeps n = record { by = λ ts rest (at, h) law. (name_keeps (record { name = n; at = at })).by ts rest h law }
 
-  a_type : (d : ℕ) (x : TypeExpr) → Keeps (IsType names d x) (Unit {0})
-  a_type d (int_type at) = a_token _ at
-  a_type d (bool_type at) = a_token _ at
-  a_type d (str_type at) = a_token _ at
-  a_type d (named_type n) = a_name n
-  a_type d (array_type at x) = then (a_token _ at) (inner (λ d. then (a_sign _) (a_type d x)) d)
-  a_type d (ref_type at x) = then (a_token _ at) (inner (λ d. a_type d x) d)
-  a_type d (imm_ref_type at x) = then (a_token _ at) (inner (λ d. then (a_word _) (a_type d x)) d)
-  a_type d (iso_type at x) = then (a_token _ at) (inner (λ d. a_type d x) d)
+  type_keeps : (d : ℕ) (x : TypeExpr) → Keeps (IsType names d x) (Unit {0})
+  type_keeps d (int_type at) = token_keeps _ at
+  type_keeps d (bool_type at) = token_keeps _ at
+  type_keeps d (str_type at) = token_keeps _ at
+  type_keeps d (named_type n) = name_keeps n
+  type_keeps d (array_type at x) = then (token_keeps _ at) (inner (λ d. then (sign_keeps _) (type_keeps d x)) d)
+  type_keeps d (ref_type at x) = then (token_keeps _ at) (inner (λ d. type_keeps d x) d)
+  type_keeps d (imm_ref_type at x) = then (token_keeps _ at) (inner (λ d. then (word_keeps _) (type_keeps d x)) d)
+  type_keeps d (iso_type at x) = then (token_keeps _ at) (inner (λ d. type_keeps d x) d)
 
   mutual
-    an_expr : (r d : ℕ) (e : Expr) → Keeps (IsExpr names r d e) (LawfulExpr e)
-    an_expr r d (set at p e) = given (whole ≤ r) (then (a_token _ at) (inner (λ d. both (an_expr postfix d p) (then (a_sign _) (an_expr whole d e))) d))
-    an_expr r d (chain e ls) = record {
+    expr_keeps : (r d : ℕ) (e : Expr) → Keeps (IsExpr names r d e) (LawfulExpr e)
+    expr_keeps r d (set at p e) = given (whole ≤ r) (then (token_keeps _ at) (inner (λ d. both (expr_keeps postfix d p) (then (sign_keeps _) (expr_keeps whole d e))) d))
+    expr_keeps r d (chain e ls) = record {
       by = λ ts rest (below, lt, has, x) law.
-          let h = (both (an_expr below d e) (the_links below d ls)).by ts rest x law in
+          let h = (both (expr_keeps below d e) (links_keep below d ls)).by ts rest x law in
           ((has_operator (suc below) ls has, h.0), h.1);
     }
-    an_expr r d (unary at op e) = given (operand ≤ r) (then (a_token _ at) (inner (λ d. an_expr operand d e) d))
-    an_expr r d (steps e ss) = record { by = λ ts rest (has, x). (both (an_expr primary d e) (the_steps d ss)).by ts rest x }
-    an_expr r d (number at n) = a_token _ at
-    an_expr r d (quote at text) = a_token _ at
-    an_expr r d (truth at b) = empty (a_token _ at)
-    an_expr r d (name n) = a_name n
-    an_expr r d (call n es) = then (a_name n) (then (a_sign _) (first (inner (λ d. args d es) d) (a_sign _)))
-    an_expr r d (paren at e) = then (a_token _ at) (first (inner (λ d. an_expr whole d e) d) (a_sign _))
-    an_expr r d (array at x es) = then (a_token _ at) (then (inner (λ d. then (a_sign _) (a_type d x)) d) (then (a_sign _) (first (inner (λ d. args d es) d) (a_sign _))))
-    an_expr r d (iso at b) = then (a_token _ at) (a_block d b)
-    an_expr r d (form f) = a_form d f
+    expr_keeps r d (unary at op e) = given (operand ≤ r) (then (token_keeps _ at) (inner (λ d. expr_keeps operand d e) d))
+    expr_keeps r d (steps e ss) = record { by = λ ts rest (has, x). (both (expr_keeps primary d e) (steps_keep d ss)).by ts rest x }
+    expr_keeps r d (number at n) = token_keeps _ at
+    expr_keeps r d (quote at text) = token_keeps _ at
+    expr_keeps r d (truth at b) = empty (token_keeps _ at)
+    expr_keeps r d (name n) = name_keeps n
+    expr_keeps r d (call n es) = then (name_keeps n) (then (sign_keeps _) (first (inner (λ d. args_keep d es) d) (sign_keeps _)))
+    expr_keeps r d (paren at e) = then (token_keeps _ at) (first (inner (λ d. expr_keeps whole d e) d) (sign_keeps _))
+    expr_keeps r d (array at x es) = then (token_keeps _ at) (then (inner (λ d. then (sign_keeps _) (type_keeps d x)) d) (then (sign_keeps _) (first (inner (λ d. args_keep d es) d) (sign_keeps _))))
+    expr_keeps r d (iso at b) = then (token_keeps _ at) (block_keeps d b)
+    expr_keeps r d (form f) = form_keeps d f
 
-    args : (d : ℕ) (es : Exprs) → Keeps (AreArgs names d es) (LawfulExprs es)
-    args d no_exprs = none
-    args d (more_exprs e es) = both (an_expr whole d e) (more_args d es)
+    args_keep : (d : ℕ) (es : Exprs) → Keeps (AreArgs names d es) (LawfulExprs es)
+    args_keep d no_exprs = none
+    args_keep d (more_exprs e es) = both (expr_keeps whole d e) (more_args_keep d es)
 
-    more_args : (d : ℕ) (es : Exprs) → Keeps (AreMoreArgs names d es) (LawfulExprs es)
-    more_args d no_exprs = none
-    more_args d (more_exprs e es) = then (a_sign _) (both (an_expr whole d e) (more_args d es))
+    more_args_keep : (d : ℕ) (es : Exprs) → Keeps (AreMoreArgs names d es) (LawfulExprs es)
+    more_args_keep d no_exprs = none
+    more_args_keep d (more_exprs e es) = then (sign_keeps _) (both (expr_keeps whole d e) (more_args_keep d es))
 
-    the_links : (below d : ℕ) (ls : Links) → Keeps (AreLinks names below d ls) (LawfulLinks ls)
-    the_links below d no_links = none
-    the_links below d (more_links (link at op e) ls) = both (given _ (then (a_token _ at) (an_expr below d e))) (the_links below d ls)
+    links_keep : (below d : ℕ) (ls : Links) → Keeps (AreLinks names below d ls) (LawfulLinks ls)
+    links_keep below d no_links = none
+    links_keep below d (more_links (link at op e) ls) = both (given _ (then (token_keeps _ at) (expr_keeps below d e))) (links_keep below d ls)
 
-    a_step : (d : ℕ) (x : Step) → Keeps (IsStep names d x) (LawfulStep x)
-    a_step d (field at n) = then (a_token _ at) (a_member n)
-    a_step d (method at n es) = then (a_token _ at) (then (a_member n) (then (a_sign _) (first (inner (λ d. args d es) d) (a_sign _))))
-    a_step d (index at e) = then (a_token _ at) (first (inner (λ d. an_expr whole d e) d) (a_sign _))
+    step_keeps : (d : ℕ) (x : Step) → Keeps (IsStep names d x) (LawfulStep x)
+    step_keeps d (field at n) = then (token_keeps _ at) (member_keeps n)
+    step_keeps d (method at n es) = then (token_keeps _ at) (then (member_keeps n) (then (sign_keeps _) (first (inner (λ d. args_keep d es) d) (sign_keeps _))))
+    step_keeps d (index at e) = then (token_keeps _ at) (first (inner (λ d. expr_keeps whole d e) d) (sign_keeps _))
 
-    the_steps : (d : ℕ) (ss : Steps) → Keeps (AreSteps names d ss) (LawfulSteps ss)
-    the_steps d no_steps = none
-    the_steps d (more_steps x ss) = both (a_step d x) (the_steps d ss)
+    steps_keep : (d : ℕ) (ss : Steps) → Keeps (AreSteps names d ss) (LawfulSteps ss)
+    steps_keep d no_steps = none
+    steps_keep d (more_steps x ss) = both (step_keeps d x) (steps_keep d ss)
 
-    a_form : (d : ℕ) (f : Form) → Keeps (IsForm names d f) (LawfulForm f)
-    a_form d (branch at c b es) = then (a_token _ at) (both (inner (λ d. an_expr whole d c) d) (both (a_block d b) (the_elses d es)))
-    a_form d (pure at b) = then (a_token _ at) (a_block d b)
-    a_form d (parallel_range at n a e b) = then (a_token _ at) (both (inner (λ d. then (a_word _) (then (a_name n) (then (a_word _) (both (an_expr whole d a) (then (a_sign _) (an_expr whole d e)))))) d) (a_block d b))
-    a_form d (parallel_each at n e b) = then (a_token _ at) (both (inner (λ d. then (a_word _) (then (a_name n) (then (a_word _) (an_expr whole d e)))) d) (a_block d b))
+    form_keeps : (d : ℕ) (f : Form) → Keeps (IsForm names d f) (LawfulForm f)
+    form_keeps d (branch at c b es) = then (token_keeps _ at) (both (inner (λ d. expr_keeps whole d c) d) (both (block_keeps d b) (elses_keep d es)))
+    form_keeps d (pure at b) = then (token_keeps _ at) (block_keeps d b)
+    form_keeps d (parallel_range at n a e b) = then (token_keeps _ at) (both (inner (λ d. then (word_keeps _) (then (name_keeps n) (then (word_keeps _) (both (expr_keeps whole d a) (then (sign_keeps _) (expr_keeps whole d e)))))) d) (block_keeps d b))
+    form_keeps d (parallel_each at n e b) = then (token_keeps _ at) (both (inner (λ d. then (word_keeps _) (then (name_keeps n) (then (word_keeps _) (expr_keeps whole d e)))) d) (block_keeps d b))
 
-    an_else_if : (d : ℕ) (x : ElseIf) → Keeps (IsElseIf names d x) (LawfulElseIf x)
-    an_else_if d (else_if at c b) = then (a_word _) (then (a_token _ at) (both (inner (λ d. an_expr whole d c) d) (a_block d b)))
+    else_if_keeps : (d : ℕ) (x : ElseIf) → Keeps (IsElseIf names d x) (LawfulElseIf x)
+    else_if_keeps d (else_if at c b) = then (word_keeps _) (then (token_keeps _ at) (both (inner (λ d. expr_keeps whole d c) d) (block_keeps d b)))
 
-    the_elses : (d : ℕ) (es : Elses) → Keeps (AreElses names d es) (LawfulElses es)
-    the_elses d no_else = none
-    the_elses d (otherwise b) = then (a_word _) (a_block d b)
-    the_elses d (more_elses x es) = both (an_else_if d x) (the_elses d es)
+    elses_keep : (d : ℕ) (es : Elses) → Keeps (AreElses names d es) (LawfulElses es)
+    elses_keep d no_else = none
+    elses_keep d (otherwise b) = then (word_keeps _) (block_keeps d b)
+    elses_keep d (more_elses x es) = both (else_if_keeps d x) (elses_keep d es)
 
-    a_block : (d : ℕ) (b : Block) → Keeps (IsBlock names d b) (LawfulBlock b)
-    a_block d (block at end ss) = then (a_token _ at) (first (inner (λ d. the_stmts d ss) d) (a_token _ end))
+    block_keeps : (d : ℕ) (b : Block) → Keeps (IsBlock names d b) (LawfulBlock b)
+    block_keeps d (block at end ss) = then (token_keeps _ at) (first (inner (λ d. stmts_keep d ss) d) (token_keeps _ end))
 
-    the_stmts : (d : ℕ) (ss : Stmts) → Keeps (AreStmts names d ss) (LawfulStmts ss)
-    the_stmts d no_stmts = none
-    the_stmts d (last e) = alones e (an_expr whole d e)
-    the_stmts d (more_stmts x xs) = both (a_stmt d x) (the_stmts d xs)
+    stmts_keep : (d : ℕ) (ss : Stmts) → Keeps (AreStmts names d ss) (LawfulStmts ss)
+    stmts_keep d no_stmts = none
+    stmts_keep d (last e) = alones e (expr_keeps whole d e)
+    stmts_keep d (more_stmts x xs) = both (stmt_keeps d x) (stmts_keep d xs)
 
-    a_stmt : (d : ℕ) (x : Stmt) → Keeps (IsStmt names d x) (LawfulStmt x)
-    a_stmt d (declare n e) = then (a_name n) (then (a_sign _) (first (an_expr whole d e) (a_sign _)))
-    a_stmt d (destructure at ns e) = then (a_token _ at) (then (inner (λ d. commas a_name ns) d) (then (a_sign _) (then (a_sign _) (first (an_expr whole d e) (a_sign _)))))
-    a_stmt d (return_nothing at) = then (a_token _ at) (a_sign _)
-    a_stmt d (return_value at e) = then (a_token _ at) (first (an_expr whole d e) (a_sign _))
-    a_stmt d (while at c b) = then (a_token _ at) (both (an_expr whole d c) (a_block d b))
-    a_stmt d (foreach at n a e b) = then (a_token _ at) (then (a_name n) (then (a_word _) (both (an_expr whole d a) (then (a_sign _) (both (an_expr whole d e) (a_block d b))))))
-    a_stmt d (form_stmt f) = first (a_form d f) more_follows
-    a_stmt d (express e) = first (alones e (an_expr whole d e)) (a_sign _)
+    stmt_keeps : (d : ℕ) (x : Stmt) → Keeps (IsStmt names d x) (LawfulStmt x)
+    stmt_keeps d (declare n e) = then (name_keeps n) (then (sign_keeps _) (first (expr_keeps whole d e) (sign_keeps _)))
+    stmt_keeps d (destructure at ns e) = then (token_keeps _ at) (then (inner (λ d. commas name_keeps ns) d) (then (sign_keeps _) (then (sign_keeps _) (first (expr_keeps whole d e) (sign_keeps _)))))
+    stmt_keeps d (return_nothing at) = then (token_keeps _ at) (sign_keeps _)
+    stmt_keeps d (return_value at e) = then (token_keeps _ at) (first (expr_keeps whole d e) (sign_keeps _))
+    stmt_keeps d (while at c b) = then (token_keeps _ at) (both (expr_keeps whole d c) (block_keeps d b))
+    stmt_keeps d (foreach at n a e b) = then (token_keeps _ at) (then (name_keeps n) (then (word_keeps _) (both (expr_keeps whole d a) (then (sign_keeps _) (both (expr_keeps whole d e) (block_keeps d b))))))
+    stmt_keeps d (form_stmt f) = first (form_keeps d f) more_follows
+    stmt_keeps d (express e) = first (alones e (expr_keeps whole d e)) (sign_keeps _)
 
-  a_param : (d : ℕ) (x : Param) → Keeps (IsParam names d x) (Unit {0})
-  a_param d (param n x) = then (a_name n) (a_type d x)
+  param_keeps : (d : ℕ) (x : Param) → Keeps (IsParam names d x) (Unit {0})
+  param_keeps d (param n x) = then (name_keeps n) (type_keeps d x)
 
-  a_head : (d : ℕ) (h : Head) → Keeps (IsHead names d h) (Unit {0})
-  a_head d (head p n ps x) = then (maybe p (a_word _)) (then (a_word _) (then (a_name n) (then (a_sign _) (then (inner (λ d. commas (a_param d) ps) d) (then (a_sign _) (options (a_type d) x))))))
+  head_keeps : (d : ℕ) (h : Head) → Keeps (IsHead names d h) (Unit {0})
+  head_keeps d (head p n ps x) = then (maybe p (word_keeps _)) (then (word_keeps _) (then (name_keeps n) (then (sign_keeps _) (then (inner (λ d. commas (param_keeps d) ps) d) (then (sign_keeps _) (options (type_keeps d) x))))))
 
-  a_function : (d : ℕ) (f : Function) → Keeps (IsFunction names d f) (LawfulFunction f)
-  a_function d (function h b) = then (a_head d h) (a_block d b)
+  function_keeps : (d : ℕ) (f : Function) → Keeps (IsFunction names d f) (LawfulFunction f)
+  function_keeps d (function h b) = then (head_keeps d h) (block_keeps d b)
 
-  a_field : (d : ℕ) (f : FieldDecl) → Keeps (IsField names d f) (Unit {0})
-  a_field d (field_decl n may_be_set x) = then (a_name n) (then (maybe may_be_set (a_sign _)) (then (a_type d x) (a_sign _)))
+  field_keeps : (d : ℕ) (f : FieldDecl) → Keeps (IsField names d f) (Unit {0})
+  field_keeps d (field_decl n may_be_set x) = then (name_keeps n) (then (maybe may_be_set (sign_keeps _)) (then (type_keeps d x) (sign_keeps _)))
 
-  an_item : (d : ℕ) (x : Item) → Keeps (IsItem names d x) (LawfulItem x)
-  an_item d (struct_item n fs) = then (a_word _) (then (a_name n) (then (a_sign _) (then (inner (λ d. eachs (a_field d) fs) d) (a_sign _))))
-  an_item d (interface_item n hs) = then (a_word _) (then (a_name n) (then (a_sign _) (then (inner (λ d. eachs (λ h. first (a_head d h) (a_sign _)) hs) d) (a_sign _))))
-  an_item d (impl_item at i n fs) = then (a_token _ at) (then (a_name i) (then (a_word _) (then (a_name n) (then (a_sign _) (first (inner (λ d. eachs (a_function d) fs) d) (a_sign _))))))
-  an_item d (function_item f) = a_function d f
+  item_keeps : (d : ℕ) (x : Item) → Keeps (IsItem names d x) (LawfulItem x)
+  item_keeps d (struct_item n fs) = then (word_keeps _) (then (name_keeps n) (then (sign_keeps _) (then (inner (λ d. eachs (field_keeps d) fs) d) (sign_keeps _))))
+  item_keeps d (interface_item n hs) = then (word_keeps _) (then (name_keeps n) (then (sign_keeps _) (then (inner (λ d. eachs (λ h. first (head_keeps d h) (sign_keeps _)) hs) d) (sign_keeps _))))
+  item_keeps d (impl_item at i n fs) = then (token_keeps _ at) (then (name_keeps i) (then (word_keeps _) (then (name_keeps n) (then (sign_keeps _) (first (inner (λ d. eachs (function_keeps d) fs) d) (sign_keeps _))))))
+  item_keeps d (function_item f) = function_keeps d f
 
 -- lawful tokens spell a tree of lawful literals
 pub literals_lawful : (names : List (List ℕ)) (items : List Item) (ts : List Token) → spells (tree names items) ts → AreLawful ts → AllByRecursion LawfulItem items
-literals_lawful names items ts h law = ((eachs (an_item names level_limit) items).by ts [] h.1 law).0
+literals_lawful names items ts h law = ((eachs (item_keeps names level_limit) items).by ts [] h.1 law).0

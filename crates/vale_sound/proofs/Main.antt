@@ -1,5 +1,5 @@
 -- The first function named `main` of a declared program is the lawful one, since no second has the name.
-use Rattle.std.proofs.Common.{◌≡◌, ℕ, Bool, true, false, not, ◌&&◌, ◌||◌, List, [], ◌∷◌, ◌++◌, length, codes, get_or, Option, Some, None, if◌then◌else◌, refl, sym, ap, subst, ◌∙◌}
+use Rattle.std.proofs.Common.{◌≡◌, ℕ, Bool, true, false, not, ◌&&◌, ◌||◌, List, [], ◌∷◌, ◌++◌, codes, get_or, Option, Some, None, if◌then◌else◌, refl, sym, ap, subst, ◌∙◌}
 use Rattle.std.specs.Prelude.{flat_map, slice_get, bytes_eq}
 use Rattle.std.specs.List.{AllByRecursion, list_all, list_any}
 use Rattle.std.specs.Option.{option_map_or, is_some}
@@ -11,7 +11,7 @@ use Rattle.vale_base.specs.declared.spot.Spot.{Spot}
 use Rattle.vale_syntax.specs.declared.fault.Fault.{Fault}
 use Rattle.vale_syntax.specs.declared.token.Token.{Token}
 use Rattle.vale_syntax.specs.declared.tree.NameAt.{NameAt}
-use Rattle.vale_syntax.specs.Tree.{TypeExpr, int_type, bool_type, str_type, named_type, array_type, ref_type, imm_ref_type, iso_type, Param, param, Head, head, Block, Function, function, Item, struct_item, interface_item, impl_item, function_item}
+use Rattle.vale_syntax.specs.Tree.{int_type, bool_type, str_type, named_type, array_type, ref_type, imm_ref_type, iso_type, Param, param, Head, head, Block, Function, function, Item, struct_item, interface_item, impl_item, function_item}
 use Rattle.vale_syntax.specs.Declarations.{same_name, is_called, is_built_in, item_name, head_name, head_params, param_type, function_head, is_function_with, is_main, is_lawful_main, is_drop, is_input, drops}
 use Rattle.vale_syntax.specs.DeclRules.{has_room, is_new_item, is_new_drop, is_new_function, is_first_main, function_rules, program_rules}
 use Rattle.vale_syntax.specs.DeclFaults.{in_block, inside_head, item_faults, program_spot}
@@ -199,8 +199,8 @@ module _ (names : List (List ℕ)) where
         let some = r.lawful (asked first (any_lawful items) thirteen (and_from (is_main names h) (not (any_main before)) is (not_from_false (any_main before) r.none_before))) in
         let number = number_is (codes "main") (head_name h) r.numbered.0 is in
         let others = no_second (x ∷ before) xs (head_name h).name.0
-            (λ n e. or_left (same_name n (head_name h)) (list_any (λ item. option_map_or (same_name n) (item_name item) false) before) (eq-eqb n.name.0 (head_name h).name.0 e))
-            number r.numbered.1 p.1 in
+        (λ n e. or_left (same_name n (head_name h)) (list_any (λ item. option_map_or (same_name n) (item_name item) false) before) (eq-eqb n.name.0 (head_name h).name.0 e))
+        number r.numbered.1 p.1 in
         let lawful = or_first (is_lawful_main names h) (any_lawful xs) some others in
         let c = and_parts (function_is_covered f) (list_all item_is_covered ys) cov in
         let front = and_parts (not (is_pure f) && list_all (λ p. is_copy (type_of (param_type p))) (head_params h) && type_is_covered (head_result h)) (block_is_covered v) c.0 in

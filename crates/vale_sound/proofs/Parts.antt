@@ -6,23 +6,22 @@ use Rattle.std.proofs.lemmas.Bool.{and_parts}
 use Rattle.vale_base.specs.declared.spot.Spot.{Spot}
 use Rattle.vale_syntax.specs.declared.built_in.BuiltIn.{BuiltIn}
 use Rattle.vale_syntax.specs.declared.tree.NameAt.{NameAt}
-use Rattle.vale_syntax.specs.declared.tree.BinaryOp.{BinaryOp}
 use Rattle.vale_syntax.specs.declared.tree.UnaryOp.{UnaryOp}
 use Rattle.vale_syntax.specs.declared.tree.UnaryOp.TheVariants as u
-use Rattle.vale_syntax.specs.Tree.{Expr, set, chain, unary, steps, number, quote, truth, name, call, paren, array, iso, form, Exprs, no_exprs, more_exprs, Link, link, Links, no_links, more_links, Form, branch, pure, parallel_range, parallel_each, ElseIf, else_if, Elses, no_else, otherwise, more_elses, Block, block, Stmt, declare, destructure, return_nothing, return_value, while, foreach, form_stmt, express, Stmts, no_stmts, last, more_stmts, Head, Item}
+use Rattle.vale_syntax.specs.Tree.{Expr, set, chain, unary, steps, number, quote, truth, name, call, paren, array, iso, form, Exprs, no_exprs, more_exprs, Link, link, Links, no_links, more_links, Form, branch, pure, parallel_range, parallel_each, ElseIf, else_if, Elses, no_else, otherwise, more_elses, Block, block, Stmt, declare, destructure, return_nothing, return_value, while, foreach, form_stmt, express, Stmts, no_stmts, last, more_stmts, Head, FieldDecl, Item}
 use Rattle.vale_syntax.specs.Declarations.{head_params}
 use Rattle.vale_syntax.specs.Judged.{◌⇒◌, broken, both, fine}
 use Rattle.vale_syntax.specs.Types.{Ty, void, int, bool, str, same, is_void, type_of, Seen, a_value, Local, local_of, is_visible, local_seen, is_movable, fields_of, function_named, fits}
 use Rattle.vale_syntax.specs.Types as y
 use Rattle.vale_syntax.specs.Typed as t
-use Rattle.vale_syntax.specs.TypeRules.{is_bool, is_int, name_rules, declare_rules, takes_operands, link_rules, link_gives, unary_rules, unary_gives, takes_arguments, arity, all_fit, as_many, Called, nothing, language, struct, program, built_ins, built_in_among, called_else, called, callee, called_rules, called_gives, param_types, is_pure_head, head_gives, array_rules, set_rules, set_gives, iso_rules, branch_rules, bounds_rules, void_rules, condition_rules, return_nothing_rules, return_value_rules}
+use Rattle.vale_syntax.specs.TypeRules.{is_bool, is_int, name_rules, declare_rules, takes_operands, link_rules, link_gives, unary_rules, unary_gives, takes_arguments, arity, all_fit, as_many, Called, nothing, language, struct, program, built_ins, built_in_among, called_else, called, callee, called_rules, called_gives, param_types, is_pure_head, array_rules, set_rules, set_gives, iso_rules, branch_rules, bounds_rules, void_rules, condition_rules, return_nothing_rules, return_value_rules, parallel_gives, struct_fields, field_types, destructure_rules}
 use Rattle.vale_syntax.specs.Takes.{is_value_under}
-use Rattle.vale_syntax.specs.Typing.{Env, with_local, after, deeper, named, form_spot, expr, exprs, operand, links, in_form, in_else_if, elses, in_block, void_block, stmts, stmt, new_name}
+use Rattle.vale_syntax.specs.Typing.{Env, with_local, after, deeper, named, form_spot, expr, exprs, operand, links, in_form, in_else_if, elses, in_block, void_block, stmts, stmt, new_name, new_names}
 use Rattle.vale_model.specs.Kinds.{head_of}
 use Rattle.vale_model.specs.Parts.{first_function, has_name}
-use Rattle.vale_lower.specs.Covered.{type_is_covered, unary_is_covered, callee_is_covered, is_local, expr_is_covered, node_is_covered, exprs_are_covered, links_are_covered, form_is_covered, elses_are_covered, block_is_covered, stmts_are_covered, stmt_is_covered}
-use Rattle.vale_lower.specs.Scopes.{result_type}
-use Rattle.vale_lower_facts.specs.Suits.{IsLocal, IsCalled, IsBuiltIn, unary_suits, callee_suits, set_suits, expr_suits, exprs_suit, links_suit, form_suits, elses_suit, block_suits, stmts_suit, stmt_suits}
+use Rattle.vale_lower.specs.Covered.{type_is_covered, unary_is_covered, callee_is_covered, is_local, expr_is_covered, exprs_are_covered, links_are_covered, form_is_covered, elses_are_covered, block_is_covered, stmts_are_covered, stmt_is_covered}
+use Rattle.vale_lower.specs.Scopes.{head_result}
+use Rattle.vale_lower_facts.specs.Suits.{unary_suits, callee_suits, set_suits, expr_suits, exprs_suit, links_suit, form_suits, elses_suit, block_suits, stmts_suit, stmt_suits}
 use Rattle.vale_sound.proofs.Fine.{rule_kept, one_rule, asked, of_leaf, of_node, of_plain, of_fine, of_both, of_scoped}
 use Rattle.vale_sound.proofs.Fits.{impossible, not_true, same_is, void_is, covered_fits, covered_type, args_fit, gives_value, seen_type, seen_place, same_gives, same_takes}
 use Rattle.vale_sound.proofs.Literals.{HasOperator, LawfulExpr, LawfulExprs, LawfulLink, LawfulLinks, LawfulForm, LawfulElseIf, LawfulElses, LawfulBlock, LawfulStmts, LawfulStmt}
@@ -73,7 +72,7 @@ goes_on s (more_links l ls) e = tt
 
 -- ---- calls
 
-called_program : (a : Option BuiltIn) (b : Option _) (c : Option Head) (h : Head) → called_else a b c ≡ program h → c ≡ Some h
+called_program : (a : Option BuiltIn) (b : Option (List FieldDecl)) (c : Option Head) (h : Head) → called_else a b c ≡ program h → c ≡ Some h
 called_program (Some f) b c h e = absurd (cc)
 called_program None (Some fs) c h e = absurd (cc)
 called_program None None (Some g) h e = let same : g ≡ h = cc in ap Some same
@@ -99,7 +98,7 @@ module _ (names : List (List ℕ)) (items : List Item) (functions : List t.Funct
         is = f.is;
         found = f.found;
         taken = args_fit items v takes args (subst (λ p. all_fit items p (t.types v) takes ≡ true) plain fit) ∙ ap (λ g. param_types (head_params g)) (sym f.has_head);
-        given = same_gives h ∙ ap (λ g. Rattle.vale_lower.specs.Scopes.head_result g) (sym f.has_head);
+        given = same_gives h ∙ ap (λ g. head_result g) (sym f.has_head);
       }
 
   -- ---- what is shown of the parts
@@ -155,8 +154,7 @@ module _ (names : List (List ℕ)) (items : List Item) (functions : List t.Funct
       let p = and_parts (expr_is_covered c && block_is_covered b) (elses_are_covered es) cov in
       let q = and_parts (expr_is_covered c) (block_is_covered b) p.0 in
       let bs = and_parts (is_bool (t.type c)) (list_all is_bool (t.condition_types es)) bools in
-      let ss = and_parts (same x (t.block_type b)) (list_all (same x) (t.block_types es)) alike in
-      (
+      let ss = and_parts (same x (t.block_type b)) (list_all (same x) (t.block_types es)) alike in (
         same_is (t.type c) bool bs.0,
         meets q.0,
         subst (λ y. block_suits functions env y b) (sym (same_is x (t.block_type b) ss.0)) (meets_block q.1),
@@ -187,30 +185,33 @@ module _ (names : List (List ℕ)) (items : List Item) (functions : List t.Funct
         (λ v each kept.
         let parts = of_both (expr names items env false p) (expr names items env true e) v each in
         let place = expr_meets env false p v.0 law.0 parts.0 in
-        let value = expr_meets env true e v.1 law.1 parts.1 in
-        ((λ cov.
-        let c = and_parts (is_local v.0) (expr_is_covered v.1) (and_parts (type_is_covered (set_gives (t.seen v.0).place)) (is_local v.0 && expr_is_covered v.1) cov).1 in
-        let fit = option_map_or (fits items (t.type v.1)) (t.seen v.0).place true in
-        (place.1 c.0 (t.type v.1) (covered_type v.1 c.1) (rule_kept 20 fit ((23, is_some (t.seen v.0).place) ∷ (24, t.may_be_set v.0) ∷ []) kept).0, value.0 c.1)),
-        (λ local ty cov fit. impossible local)))
+        let value = expr_meets env true e v.1 law.1 parts.1 in (
+          (λ cov.
+              let c = and_parts (is_local v.0) (expr_is_covered v.1) (and_parts (type_is_covered (set_gives (t.seen v.0).place)) (is_local v.0 && expr_is_covered v.1) cov).1 in
+              let fit = option_map_or (fits items (t.type v.1)) (t.seen v.0).place true in
+              (place.1 c.0 (t.type v.1) (covered_type v.1 c.1) (rule_kept 20 fit ((23, is_some (t.seen v.0).place) ∷ (24, t.may_be_set v.0) ∷ []) kept).0, value.0 c.1)),
+          (λ local ty cov fit. impossible local),
+        ))
     expr_meets env as_value (chain e ls) x law is =
         of_plain (Meets env) (λ v. t.expr (t.chain_seen (t.seen v.0) v.1) (t.chain v.0 v.1)) _ x is
         (λ v each.
         let parts = of_scoped (expr names items env true e) (λ a. links names items env (t.seen a) ls) v each in
         let first = expr_meets env true e v.0 law.1.0 parts.0 in
-        let rest = links_meet env (t.seen v.0) ls v.1 (begins (t.seen v.0) ls law.0) law.1.1 parts.1 in
-        ((λ cov.
-        let c = and_parts (expr_is_covered v.0) (links_are_covered v.1) (and_parts (type_is_covered (t.chain_seen (t.seen v.0) v.1).value) (expr_is_covered v.0 && links_are_covered v.1) cov).1 in
-        (first.0 c.0, rest c.1)),
-        (λ local ty cov fit. impossible local)))
+        let rest = links_meet env (t.seen v.0) ls v.1 (begins (t.seen v.0) ls law.0) law.1.1 parts.1 in (
+          (λ cov.
+              let c = and_parts (expr_is_covered v.0) (links_are_covered v.1) (and_parts (type_is_covered (t.chain_seen (t.seen v.0) v.1).value) (expr_is_covered v.0 && links_are_covered v.1) cov).1 in
+              (first.0 c.0, rest c.1)),
+          (λ local ty cov fit. impossible local),
+        ))
     expr_meets env as_value (unary at op e) x law is =
         of_node (Meets env) at (λ a. unary_rules op (t.seen a)) (λ a. t.expr (a_value (unary_gives op (t.seen a))) (t.unary at op a)) (expr names items env (is_value_under op) e) x is
         (λ a each kept.
-        let under = expr_meets env (is_value_under op) e a law each in
-        ((λ cov.
-        let c = and_parts (unary_is_covered op) (expr_is_covered a) (and_parts (type_is_covered (unary_gives op (t.seen a))) (unary_is_covered op && expr_is_covered a) cov).1 in
-        (unary_meets op (t.seen a) c.0 kept, under.0 c.1)),
-        (λ local ty cov fit. impossible local)))
+        let under = expr_meets env (is_value_under op) e a law each in (
+          (λ cov.
+              let c = and_parts (unary_is_covered op) (expr_is_covered a) (and_parts (type_is_covered (unary_gives op (t.seen a))) (unary_is_covered op && expr_is_covered a) cov).1 in
+              (unary_meets op (t.seen a) c.0 kept, under.0 c.1)),
+          (λ local ty cov fit. impossible local),
+        ))
     expr_meets env as_value (steps e ss) x law is =
         of_plain (Meets env) (λ v. t.expr (t.steps_seen (t.seen v.0) v.1) (t.steps v.0 v.1)) _ x is
         (λ v each. (λ cov. tt, λ local ty cov fit. impossible local))
@@ -220,18 +221,20 @@ module _ (names : List (List ℕ)) (items : List Item) (functions : List t.Funct
     expr_meets env as_value (name n) x law is =
         of_leaf (Meets env) n.at (name_rules n env.scope) (named env as_value n (local_of n.name.0 env.scope)) x is
         (λ kept.
-        let there = is_there n env (local_of n.name.0 env.scope) refl kept in
-        ((λ cov. name_suits functions env as_value n (local_of n.name.0 env.scope) refl there cov),
-        (λ local ty cov fit. place_suits functions items env as_value n (local_of n.name.0 env.scope) refl there ty cov fit)))
+        let there = is_there n env (local_of n.name.0 env.scope) refl kept in (
+          (λ cov. name_suits functions env as_value n (local_of n.name.0 env.scope) refl there cov),
+          (λ local ty cov fit. place_suits functions items env as_value n (local_of n.name.0 env.scope) refl there ty cov fit),
+        ))
     expr_meets env as_value (call n es) x law is =
         of_node (Meets env) n.at (λ v. called_rules items (called names items n) (t.types v)) (λ v. t.expr (a_value (called_gives n (called names items n) (t.types v))) (t.call n (callee (called names items n)) v)) (exprs names items env es) x is
         (λ v each kept.
         let args = exprs_meet env es v law each in
-        let c = called names items n in
-        ((λ cov.
-        let d = and_parts (callee_is_covered (callee c)) (exprs_are_covered v) (and_parts (type_is_covered (called_gives n c (t.types v))) (callee_is_covered (callee c) && exprs_are_covered v) cov).1 in
-        (call_suits n c refl v d.0 d.1 kept, args d.1)),
-        (λ local ty cov fit. impossible local)))
+        let c = called names items n in (
+          (λ cov.
+              let d = and_parts (callee_is_covered (callee c)) (exprs_are_covered v) (and_parts (type_is_covered (called_gives n c (t.types v))) (callee_is_covered (callee c) && exprs_are_covered v) cov).1 in
+              (call_suits n c refl v d.0 d.1 kept, args d.1)),
+          (λ local ty cov fit. impossible local),
+        ))
     expr_meets env as_value (paren at e) x law is =
         of_plain (Meets env) (λ a. t.expr (a_value (t.type a)) (t.paren at a)) (expr names items env true e) x is
         (λ a each.
@@ -264,11 +267,12 @@ module _ (names : List (List ℕ)) (items : List Item) (functions : List t.Funct
         of_node (LinkMeets env s) at (λ a. link_rules op s.value (t.type a)) (λ a. t.link (a_value (link_gives op s.value)) at op a) (expr names items env true e) v is
         (λ a each kept.
         let one = expr_meets env true e a law each in
-        let takes = one_rule 20 (takes_operands op s.value (t.type a)) kept in
-        (gives_value op s.value (t.type a) takes,
-        (λ ls rest cov.
-        let c = and_parts (expr_is_covered a) (links_are_covered ls) cov in
-        (takes, refl, one.0 c.0, rest c.1))))
+        let takes = one_rule 20 (takes_operands op s.value (t.type a)) kept in (
+          gives_value op s.value (t.type a) takes,
+          (λ ls rest cov.
+              let c = and_parts (expr_is_covered a) (links_are_covered ls) cov in
+              (takes, refl, one.0 c.0, rest c.1)),
+        ))
 
     links_meet : (env : Env) (s : Seen) (ls : Links) (v : t.Links) → Begins s ls → LawfulLinks ls → links names items env s ls ≡ fine v → LinksMeet env s v
     links_meet env s no_links v some law is = of_fine (LinksMeet env s) t.no_links v is (λ cov. (refl, some))
@@ -290,11 +294,11 @@ module _ (names : List (List ℕ)) (items : List Item) (functions : List t.Funct
         branch_meets env at w.0 w.1.0 w.1.1 test.0 (block_meets env b w.1.0 law.1.0 more.0) (elses_meet env es w.1.1 law.1.1 more.1) kept)
     form_meets env (pure at b) v law is = of_plain (FormMeets env) (λ v. (t.block_type v, t.pure at v)) _ v is (λ w each cov. tt)
     form_meets env (parallel_range at n a e b) v law is =
-        of_node (FormMeets env) at (λ v. bounds_rules (t.type v.1.0) (t.type v.1.1.0)) (λ v. (Rattle.vale_syntax.specs.TypeRules.parallel_gives items (t.block_type v.1.1.1), t.parallel_range at n v.1.0 v.1.1.0 v.1.1.1))
+        of_node (FormMeets env) at (λ v. bounds_rules (t.type v.1.0) (t.type v.1.1.0)) (λ v. (parallel_gives items (t.block_type v.1.1.1), t.parallel_range at n v.1.0 v.1.1.0 v.1.1.1))
         (both (new_name env n) (both (expr names items env true a) (both (expr names items env true e) (in_block names items (with_local n int (deeper env)) b)))) v is
         (λ w each kept cov. tt)
     form_meets env (parallel_each at n e b) v law is =
-        of_plain (FormMeets env) (λ v. (Rattle.vale_syntax.specs.TypeRules.parallel_gives items (t.block_type v.1), t.parallel_each at n v.0 v.1)) _ v is (λ w each cov. tt)
+        of_plain (FormMeets env) (λ v. (parallel_gives items (t.block_type v.1), t.parallel_each at n v.0 v.1)) _ v is (λ w each cov. tt)
 
     else_meets : (env : Env) (e : ElseIf) (v : t.ElseIf) → LawfulElseIf e → in_else_if names items env e ≡ fine v → ElseIfMeets env v
     else_meets env (else_if at c b) v law is =
@@ -354,9 +358,9 @@ module _ (names : List (List ℕ)) (items : List Item) (functions : List t.Funct
         λ cov. (refl, not_true (is_void (t.type a)) (rule_kept 20 (not (is_void (t.type a))) ((27, not (is_visible n env.scope)) ∷ []) kept).0, one.0 cov))
     stmt_meets env (destructure at ns e) v law is =
         of_node (StmtMeets env) at
-        (λ v. Rattle.vale_syntax.specs.TypeRules.destructure_rules (Rattle.vale_syntax.specs.TypeRules.struct_fields items (t.type v.1)) ns)
-        (λ v. t.destructure at ns (option_map_or Rattle.vale_syntax.specs.TypeRules.field_types (Rattle.vale_syntax.specs.TypeRules.struct_fields items (t.type v.1)) []) v.1)
-        (both (Rattle.vale_syntax.specs.Typing.new_names env ns) (expr names items env true e)) v is
+        (λ v. destructure_rules (struct_fields items (t.type v.1)) ns)
+        (λ v. t.destructure at ns (option_map_or field_types (struct_fields items (t.type v.1)) []) v.1)
+        (both (new_names env ns) (expr names items env true e)) v is
         (λ w each kept cov. tt)
     stmt_meets env (return_nothing at) v law is =
         of_leaf (StmtMeets env) at (return_nothing_rules env.gives) (t.return_nothing at) v is (λ kept cov. void_is env.gives (one_rule 20 (is_void env.gives) kept))
