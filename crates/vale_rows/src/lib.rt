@@ -3,9 +3,13 @@
 #![tactic(auto)]
 
 #[cfg(test)]
+mod calls;
+#[cfg(test)]
 mod declare_tests;
 #[cfg(test)]
 mod format_tests;
+#[cfg(test)]
+mod front_tests;
 #[cfg(test)]
 mod lexer_tests;
 #[cfg(test)]
@@ -14,6 +18,8 @@ mod parser_tests;
 mod ports_tests;
 #[cfg(test)]
 mod reading;
+#[cfg(test)]
+mod refusal_tests;
 #[cfg(test)]
 mod run_tests;
 #[cfg(test)]

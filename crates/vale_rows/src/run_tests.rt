@@ -1,63 +1,7 @@
 // Whole runs: the words, the file `p` and the outside, with the bytes and the status that come of them.
-ghost use Rattle.std.specs.Prelude.{◌<◌};
 
-use std::alloc::Global;
+use crate::calls::{CALM, Outside, run_on};
 use std::test::Fail;
-use std::thread::Threads;
-use vale_ports::{CalmSource, FileList, MemShelf, MemSink, OpenGate};
-use vale_run::valec;
-
-#[derive(Drop)]
-struct Seen {
-    status: u8,
-    out: Vec<u8>,
-    err: Vec<u8>,
-}
-
-// The calls of the outside that are to fail, counted from 1, and the most bytes that `out` takes at a call.
-#[derive(Clone, Copy)]
-struct Outside<'a> {
-    shelf_fails: &'a [u64],
-    out_fails: &'a [u64],
-    err_fails: &'a [u64],
-    out_most: usize,
-}
-
-const CALM: Outside<'static> = Outside {
-    shelf_fails: &[],
-    out_fails: &[],
-    err_fails: &[],
-    out_most: 4096,
-};
-
-fn run_on<R: Threads + Sync>(
-    rt: &R,
-    alloc: Global,
-    words: &[&str],
-    text: &[u8],
-    outside: &Outside,
-) -> Result<Seen, Fail>
-    requires { 0 < outside.now.out_most }
-{
-    let mut list = Vec::new(alloc);
-    for word in words {
-        list.push(String::from_str(alloc, word)?)?;
-    }
-    let mut files = FileList::new(alloc);
-    files.put(alloc, "p", text)?;
-    let mut shelf = MemShelf::new(files, outside.shelf_fails);
-    let mut input = CalmSource::new(b"");
-    let mut out = MemSink::new(alloc, outside.out_most, outside.out_fails);
-    let mut err = MemSink::new(alloc, 4096, outside.err_fails);
-    let status = valec(
-        rt, alloc, &list, &mut shelf, &mut input, &mut out, &mut err, &OpenGate,
-    );
-    Ok(Seen {
-        status: status.0,
-        out: out.bytes.to_vec(alloc)?,
-        err: err.bytes.to_vec(alloc)?,
-    })
-}
 
 const SUM: &[u8] = b"func main() { println(1 + 2); }\n";
 
@@ -71,7 +15,7 @@ fn texts_have_their_answers(rt: HostRuntime) -> Result<(), Fail> {
             b"",
             b"trap: overflow at 1:43\nin main\n",
         ),
-        (b"", 1, b"", b"E05 at 1:1\n"),
+        (b"", 1, b"", b"E13 at 1:1\n"),
         (b"func main(){}", 0, b"", b""),
         (
             b"func\tmain\r\n(){println(007);println(1+1+1);\n}",
@@ -101,90 +45,6 @@ fn texts_have_their_answers(rt: HostRuntime) -> Result<(), Fail> {
         assert_eq!(rt; seen.out.as_slice(), out);
         assert_eq!(rt; seen.err.as_slice(), err);
     }
-    Ok(())
-}
-
-// Texts that are programs of the language, and not of those that run today.
-#[test]
-fn other_programs_do_not_run_yet(rt: HostRuntime) -> Result<(), Fail> {
-    let texts: [&[u8]; 12] = [
-        b"func f() { }",
-        b"func f() { } func main() { }",
-        b"pure func main() { }",
-        b"func main() int { 1 }",
-        b"func main(input []int) { }",
-        b"func main() { println(1 - 2); }",
-        b"func main() { println((1)); }",
-        b"func main() { println(1, 2); }",
-        b"func main() { print(1); }",
-        b"func main() { println(1) }",
-        b"func main() { x = 1; }",
-        b"func main() { if true { println(1); } }",
-    ];
-    for text in texts {
-        let seen = run_on(&rt, rt.alloc(), &["run", "p"], text, &CALM)?;
-        assert_eq!(rt; seen.status, 1, "{text:?}");
-        assert_eq!(rt; seen.out.len(), 0);
-        assert_eq!(rt; seen.err.as_slice(), b"E05 at 1:1\n".as_slice());
-        let laid_out = run_on(&rt, rt.alloc(), &["fmt", "p"], text, &CALM)?;
-        assert_eq!(rt; laid_out.status, 0, "{text:?}");
-    }
-    Ok(())
-}
-
-// `run` and `fmt` refuse a text with the same line.
-fn refuses<R: Threads + Sync>(
-    rt: &R,
-    alloc: Global,
-    text: &[u8],
-    line: &[u8],
-) -> Result<bool, Fail> {
-    let run = run_on(rt, alloc, &["run", "p"], text, &CALM)?;
-    let fmt = run_on(rt, alloc, &["fmt", "p"], text, &CALM)?;
-    Ok(
-        run.status == 1
-            && fmt.status == 1
-            && run.out.is_empty()
-            && fmt.out.is_empty()
-            && run.err.as_slice() == line
-            && fmt.err.as_slice() == line,
-    )
-}
-
-#[test]
-fn a_text_without_a_tree_is_refused_by_both_commands(rt: HostRuntime) -> Result<(), Fail> {
-    let rows: [(&[u8], &[u8]); 5] = [
-        (b"func main() { @ }", b"E02 at 1:15\n"),
-        (
-            b"func main() { x = 9223372036854775808; }",
-            b"E03 at 1:19\n",
-        ),
-        (b"func main() { print(\"a); }", b"E04 at 1:21\n"),
-        (b"func main() { x = ; }", b"E05 at 1:19\n"),
-        (b"func main() {", b"E05 at 1:14\n"),
-    ];
-    for (text, line) in rows {
-        let is_refused = refuses(&rt, rt.alloc(), text, line)?;
-        assert!(rt; is_refused, "{line:?}");
-    }
-    let mut deep = Vec::from_slice(rt.alloc(), b"func main() { x = ".as_slice())?;
-    deep.extend_from_slice(&[b'('; 64])?;
-    deep.push(b'1')?;
-    deep.extend_from_slice(&[b')'; 64])?;
-    deep.extend_from_slice(b"; }")?;
-    let is_refused = refuses(&rt, rt.alloc(), &deep, b"E06 at 1:82\n")?;
-    assert!(rt; is_refused);
-    Ok(())
-}
-
-#[test]
-fn a_text_is_refused_from_its_limit_on(rt: HostRuntime) -> Result<(), Fail> {
-    let longest = vec![in rt.alloc(); b' '; 1_048_576]?;
-    let seen = run_on(&rt, rt.alloc(), &["run", "p"], &longest, &CALM)?;
-    assert_eq!(rt; seen.err.as_slice(), b"E05 at 1:1\n".as_slice());
-    let text = vec![in rt.alloc(); b' '; 1_048_577]?;
-    let is_refused = refuses(&rt, rt.alloc(), &text, b"E01 at 1:1\n")?;
-    assert!(rt; is_refused);
     Ok(())
 }
 
@@ -229,7 +89,7 @@ fn words_that_are_not_served_have_their_index(rt: HostRuntime) -> Result<(), Fai
         (&["fmt"], b"word 1\n"),
         (&["fmt", "p", "q"], b"word 2\n"),
         (&["fmt", "p", "--ticks", "3"], b"word 2\n"),
-        (&["check", "p"], b"word 0\n"),
+        (&["check"], b"word 1\n"),
         (&["check", "p", "q"], b"word 2\n"),
         (&["gen", "0"], b"word 1\n"),
         (&["gen", "1"], b"word 0\n"),

@@ -10,12 +10,12 @@ use Rattle.vale_lexer.proofs.OneCut.{one_tokens}
 use Rattle.vale_format.specs.Format.{IsFormatOf, IsFixed}
 use Rattle.vale_format.proofs.Fixed.{formatted_fixed}
 use Rattle.vale_run.specs.Formatted.{formatted, StaysFormatted}
-use Rattle.vale_run.specs.Front.{Refused, too_long, no_tokens, no_tree}
+use Rattle.vale_front.specs.Front.{Unread, too_long, no_tokens, no_tree}
 use Rattle.vale_run.specs.Owed.{FormatsTo, refused_format, formats}
 use Rattle.vale_run.specs.declared.answer.Answer.{Answer}
 
 -- a text that is its own canonical text isn't refused
-not_refused : (out : List ℕ) → length out ≤ program_limit → IsFixed out → (code : ℕ) (at : Spot) → Refused out code at → ⊥
+not_refused : (out : List ℕ) → length out ≤ program_limit → IsFixed out → (code : ℕ) (at : Spot) → Unread out code at → ⊥
 not_refused out within f code at (too_long l c s) = omega arith
 not_refused out within f code at (no_tokens l none e) = none f.itself.tokens f.itself.cuts
 not_refused out within f code at (no_tree l tokens cuts none e) =

@@ -5,7 +5,7 @@ use Rattle.std.proofs.lemmas.Option.{slice_get-map, slice_get-get_or}
 use Rattle.std.specs.Option.{option_map}
 use Rattle.std.specs.Prelude.{String, string_bytes, slice_get, ◌==◌}
 use Rattle.vale_ports.specs.Shelf.{ShelfState, HasFile}
-use Rattle.vale_run.specs.Owed.{Owes, OwesJob, RunsTo, FormatsTo, unserved, not_served, served, bad_word}
+use Rattle.vale_run.specs.Owed.{Owes, OwesJob, RunsTo, ChecksTo, FormatsTo, unserved, not_served, served, bad_word}
 use Rattle.vale_run.specs.declared.answer.Answer.{Answer}
 use Rattle.vale_words.specs.FirstFault.{Word}
 use Rattle.vale_words.specs.Words.{Asks, AsksBehind, IsOneName, texts}
@@ -46,14 +46,14 @@ run_served words shelf job file options word name a asks is two at named (text, 
     served job asks (rw (is, few) refl)
     (subst (λ z. OwesJob z (texts words) shelf a) (sym is) (text, (name, name_found words file word name within at named, has), answered))
 
+one_name : (words : List Word) → IsOneName words → length words ≡ 1
+one_name [] names = absurd names
+one_name (name ∷ []) names = refl
+one_name (name ∷ next ∷ rest) names = absurd names
+
 fmt_words : (file : ℕ) (words : List Word) → Asks words (j.Fmt file) → (file ≡ 1) × (length words ≡ 2)
 fmt_words file [] asks = absurd asks
 fmt_words file (word ∷ more) (command, text, asks) = by_command command asks where
-  one_name : (words : List Word) → IsOneName words → length words ≡ 1
-  one_name [] names = absurd names
-  one_name (name ∷ []) names = refl
-  one_name (name ∷ next ∷ rest) names = absurd names
-
   by_command : (command : Command) → AsksBehind command more (j.Fmt file) → (file ≡ 1) × (suc (length more) ≡ 2)
   by_command c.Fmt behind = (behind.0, ap suc (one_name more behind.1))
   by_command _ behind = absurd behind
@@ -72,10 +72,32 @@ fmt_served words shelf job file word name a asks is at named (text, has, answere
     served job asks (rw is refl)
     (subst (λ z. OwesJob z (texts words) shelf a) (sym is) (text, (name, name_found words file word name within at named, has), answered))
 
+check_words : (file : ℕ) (words : List Word) → Asks words (j.Check file) → (file ≡ 1) × (length words ≡ 2)
+check_words file [] asks = absurd asks
+check_words file (word ∷ more) (command, text, asks) = by_command command asks where
+  by_command : (command : Command) → AsksBehind command more (j.Check file) → (file ≡ 1) × (suc (length more) ≡ 2)
+  by_command c.Check behind = (behind.0, ap suc (one_name more behind.1))
+  by_command _ behind = absurd behind
+
+-- where `check` is asked for, the word that names the file is there
+pub check_within : {A : Type 0} (words : List (String A)) (job : Job) (file : ℕ) → Asks (texts words) job → job ≡ j.Check file → file < length words
+check_within words job file asks is =
+    let asked = rw is at asks in
+    let (first, two) = check_words file (texts words) asked in
+    omega (arith, first, two, length-map words string_bytes)
+
+-- a text that is checked
+pub check_served : {A : Type 0} (words : List (String A)) (shelf : ShelfState) (job : Job) (file : ℕ) (word : String A) (name : List ℕ) (a : Answer) → Asks (texts words) job → job ≡ j.Check file → word ≡ get_or words file word → name ≡ string_bytes word → (text : List ℕ) × HasFile shelf.files name text × ChecksTo text a → Owes (texts words) shelf a
+check_served words shelf job file word name a asks is at named (text, has, answered) =
+    let within : file < length words = check_within words job file asks is in
+    served job asks (rw is refl)
+    (subst (λ z. OwesJob z (texts words) shelf a) (sym is) (text, (name, name_found words file word name within at named, has), answered))
+
 -- any other command
-pub other_unserved : (words : List Word) (shelf : ShelfState) (job : Job) (a : Answer) → Asks words job → ((file : ℕ) (options : Options) → job ≡ j.Run file options → ⊥) → ((file : ℕ) → job ≡ j.Fmt file → ⊥) → a ≡ bad_word 0 → Owes words shelf a
-other_unserved words shelf job a asks no_run no_fmt answer = not_served job 0 asks (unserved_at job no_run no_fmt) answer where
-  unserved_at : (k : Job) → ((file : ℕ) (options : Options) → k ≡ j.Run file options → ⊥) → ((file : ℕ) → k ≡ j.Fmt file → ⊥) → unserved k words ≡ Some 0
-  unserved_at (j.Run file options) run fmt = absurd (run file options refl)
-  unserved_at (j.Fmt file) run fmt = absurd (fmt file refl)
-  unserved_at _ run fmt = refl
+pub other_unserved : (words : List Word) (shelf : ShelfState) (job : Job) (a : Answer) → Asks words job → ((file : ℕ) (options : Options) → job ≡ j.Run file options → ⊥) → ((file : ℕ) → job ≡ j.Check file → ⊥) → ((file : ℕ) → job ≡ j.Fmt file → ⊥) → a ≡ bad_word 0 → Owes words shelf a
+other_unserved words shelf job a asks no_run no_check no_fmt answer = not_served job 0 asks (unserved_at job no_run no_check no_fmt) answer where
+  unserved_at : (k : Job) → ((file : ℕ) (options : Options) → k ≡ j.Run file options → ⊥) → ((file : ℕ) → k ≡ j.Check file → ⊥) → ((file : ℕ) → k ≡ j.Fmt file → ⊥) → unserved k words ≡ Some 0
+  unserved_at (j.Run file options) run check fmt = absurd (run file options refl)
+  unserved_at (j.Check file) run check fmt = absurd (check file refl)
+  unserved_at (j.Fmt file) run check fmt = absurd (fmt file refl)
+  unserved_at _ run check fmt = refl

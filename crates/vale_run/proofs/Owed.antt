@@ -5,8 +5,10 @@ use Rattle.std.proofs.lemmas.List.{length-take, take_all}
 use Rattle.vale_base.specs.Limits.{program_limit}
 use Rattle.vale_base.specs.declared.spot.Spot.{Spot}
 use Rattle.vale_ports.specs.Shelf.{Files, ReadsFile, HasFile}
-use Rattle.vale_run.specs.Front.{Refused, too_long, no_tokens, no_tree}
-use Rattle.vale_run.specs.Owed.{RunsTo, refused_run, not_run, runs, FormatsTo, refused_format, formats}
+use Rattle.vale_front.specs.Front.{Unread, too_long, no_tokens, no_tree, Refused, unread, unsound, Accepts}
+use Rattle.vale_syntax.specs.Tree.{Tree}
+use Rattle.vale_syntax.specs.WellFormed.{Reads}
+use Rattle.vale_run.specs.Owed.{RunsTo, refused_run, not_run, runs, ChecksTo, refused_check, checks, FormatsTo, refused_format, formats}
 use Rattle.vale_run.specs.declared.answer.Answer.{Answer}
 use Rattle.vale_words.specs.declared.job.Options.{Options}
 
@@ -14,18 +16,26 @@ use Rattle.vale_words.specs.declared.job.Options.{Options}
 whole : (text : List ℕ) → length (take 1048577 text) ≤ program_limit → take 1048577 text ≡ text
 whole text h = take_all 1048577 text (omega (arith, length-take 1048577 text))
 
+Unread-whole : (text : List ℕ) (code : ℕ) (at : Spot) → Unread (take 1048577 text) code at → Unread text code at
+Unread-whole text code at (too_long h c s) = too_long (omega (arith, length-take 1048577 text, h)) c s
+Unread-whole text code at (no_tokens h uncut fault) = subst (λ t. Unread t code at) (whole text h) (no_tokens h uncut fault)
+Unread-whole text code at (no_tree h tokens cuts none why) = subst (λ t. Unread t code at) (whole text h) (no_tree h tokens cuts none why)
+
 Refused-whole : (text : List ℕ) (code : ℕ) (at : Spot) → Refused (take 1048577 text) code at → Refused text code at
-Refused-whole text code at (too_long h c s) = too_long (omega (arith, length-take 1048577 text, h)) c s
-Refused-whole text code at (no_tokens h uncut fault) = subst (λ t. Refused t code at) (whole text h) (no_tokens h uncut fault)
-Refused-whole text code at (no_tree h tokens cuts none why) = subst (λ t. Refused t code at) (whole text h) (no_tree h tokens cuts none why)
+Refused-whole text code at (unread u) = unread (Unread-whole text code at u)
+Refused-whole text code at (unsound tree r u) = unsound tree (subst (λ t. Reads t tree) (whole text r.within) r) u
 
 RunsTo-whole : (options : Options) (a : Answer) (text : List ℕ) → RunsTo (take 1048577 text) options a → RunsTo text options a
 RunsTo-whole options a text (refused_run code at r e) = refused_run code at (Refused-whole text code at r) e
-RunsTo-whole options a text (not_run parsed r n e) = subst (λ t. RunsTo t options a) (whole text r.within) (not_run parsed r n e)
-RunsTo-whole options a text (runs parsed program r s e) = subst (λ t. RunsTo t options a) (whole text r.within) (runs parsed program r s e)
+RunsTo-whole options a text (not_run parsed decls types r n e) = subst (λ t. RunsTo t options a) (whole text r.reads.within) (not_run parsed decls types r n e)
+RunsTo-whole options a text (runs parsed decls types program r s e) = subst (λ t. RunsTo t options a) (whole text r.reads.within) (runs parsed decls types program r s e)
+
+ChecksTo-whole : (a : Answer) (text : List ℕ) → ChecksTo (take 1048577 text) a → ChecksTo text a
+ChecksTo-whole a text (refused_check code at r e) = refused_check code at (Refused-whole text code at r) e
+ChecksTo-whole a text (checks parsed decls types r e) = subst (λ t. ChecksTo t a) (whole text r.reads.within) (checks parsed decls types r e)
 
 FormatsTo-whole : (a : Answer) (text : List ℕ) → FormatsTo (take 1048577 text) a → FormatsTo text a
-FormatsTo-whole a text (refused_format code at r e) = refused_format code at (Refused-whole text code at r) e
+FormatsTo-whole a text (refused_format code at r e) = refused_format code at (Unread-whole text code at r) e
 FormatsTo-whole a text (formats parsed r e) = subst (λ t. FormatsTo t a) (whole text r.within) (formats parsed r e)
 
 module _ (Fits : List ℕ → Type 0) (fits_whole : (text : List ℕ) → Fits (take 1048577 text) → Fits text) where
@@ -42,6 +52,9 @@ module _ (Fits : List ℕ → Type 0) (fits_whole : (text : List ℕ) → Fits (
 -- what was read of the file tells the answer to all of it
 pub RunsTo-read : (files : Option Files) (name bytes : List ℕ) (options : Options) (a : Answer) → ReadsFile files name 1048577 bytes → RunsTo bytes options a → (text : List ℕ) × HasFile files name text × RunsTo text options a
 RunsTo-read files name bytes options a read r = of_read (λ t. RunsTo t options a) (RunsTo-whole options a) files name bytes read r
+
+pub ChecksTo-read : (files : Option Files) (name bytes : List ℕ) (a : Answer) → ReadsFile files name 1048577 bytes → ChecksTo bytes a → (text : List ℕ) × HasFile files name text × ChecksTo text a
+ChecksTo-read files name bytes a read r = of_read (λ t. ChecksTo t a) (ChecksTo-whole a) files name bytes read r
 
 pub FormatsTo-read : (files : Option Files) (name bytes : List ℕ) (a : Answer) → ReadsFile files name 1048577 bytes → FormatsTo bytes a → (text : List ℕ) × HasFile files name text × FormatsTo text a
 FormatsTo-read files name bytes a read r = of_read (λ t. FormatsTo t a) (FormatsTo-whole a) files name bytes read r

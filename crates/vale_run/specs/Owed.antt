@@ -10,14 +10,17 @@ use Rattle.vale_model.specs.Report.{spot_text, report_text}
 use Rattle.vale_syntax.specs.Canon.{canon}
 use Rattle.vale_syntax.specs.Cut.{start}
 use Rattle.vale_syntax.specs.Tree.{Tree}
+use Rattle.vale_syntax.specs.Typed.{Typed}
+use Rattle.vale_syntax.specs.WellFormed.{Reads}
+use Rattle.vale_syntax.specs.declared.decls.Decls.{Decls}
 use Rattle.vale_syntax.specs.declared.program.Program.{Program}
-use Rattle.vale_run.specs.Front.{Reads, Refused}
+use Rattle.vale_front.specs.Front.{Unread, Refused, Accepts}
 use Rattle.vale_run.specs.Served.{served_program}
 use Rattle.vale_run.specs.declared.answer.Answer.{Answer}
 use Rattle.vale_words.specs.FirstFault.{Word, IsFirstFault}
 use Rattle.vale_words.specs.Words.{Asks, Lawful}
 use Rattle.vale_words.specs.declared.job.Job.{Job}
-use Rattle.vale_words.specs.declared.job.Job.TheVariants.{Run, Fmt}
+use Rattle.vale_words.specs.declared.job.Job.TheVariants.{Run, Check, Fmt}
 use Rattle.vale_words.specs.declared.job.Options.{Options}
 
 -- ---- answers
@@ -55,32 +58,45 @@ answers_end Wrong ticks out a = ⊥
 abbrev pub EndsWith : Outcome → Answer → Type 0
 EndsWith o a = answers_end o.end o.ticks (output o) a
 
--- the answer to the run of a text; a tree that isn't served yet is refused as a whole
+-- the answer to the run of a text; a program that doesn't run yet is refused as a whole
 pub data RunsTo (text : List ℕ) (options : Options) (a : Answer) : Type 0 where
   refused_run : (code : ℕ) (at : Spot) → Refused text code at → a ≡ refused code at → RunsTo text options a
-  not_run : (tree : Tree) → Reads text tree → served_program tree ≡ None → a ≡ refused 5 start → RunsTo text options a
-  runs : (tree : Tree) (program : Program) → Reads text tree → served_program tree ≡ Some program
-      → EndsWith (meaning program options.ticks) a → RunsTo text options a
+  not_run : (tree : Tree) (decls : Decls) (types : Typed) → Accepts text tree decls types → served_program tree ≡ None
+      → a ≡ refused 5 start → RunsTo text options a
+  runs : (tree : Tree) (decls : Decls) (types : Typed) (program : Program) → Accepts text tree decls types
+      → served_program tree ≡ Some program → EndsWith (meaning program options.ticks) a → RunsTo text options a
+
+-- so many checks are kept and so many dropped
+abbrev pub counted : ℕ → ℕ → Answer
+counted kept elided = record { status = 0; out = codes "kept " ++ decimal kept ++ codes "\nelided " ++ decimal elided ++ codes "\n"; err = [] }
+
+-- the answer to the check of a text; no program that is accepted so far has a site
+pub data ChecksTo (text : List ℕ) (a : Answer) : Type 0 where
+  refused_check : (code : ℕ) (at : Spot) → Refused text code at → a ≡ refused code at → ChecksTo text a
+  checks : (tree : Tree) (decls : Decls) (types : Typed) → Accepts text tree decls types
+      → a ≡ counted 0 0 → ChecksTo text a
 
 -- the answer to the laying out of a text: every tree is served
 pub data FormatsTo (text : List ℕ) (a : Answer) : Type 0 where
-  refused_format : (code : ℕ) (at : Spot) → Refused text code at → a ≡ refused code at → FormatsTo text a
+  refused_format : (code : ℕ) (at : Spot) → Unread text code at → a ≡ refused code at → FormatsTo text a
   formats : (tree : Tree) → Reads text tree → a ≡ record { status = 0; out = canon tree; err = [] } → FormatsTo text a
 
 -- a shelf has a file with this text under the word of this index; where it doesn't tell its files, any text
 abbrev pub HasText : ShelfState → List Word → ℕ → List ℕ → Type 0
 HasText shelf words file text = (name : List ℕ) × (slice_get words file ≡ Some name) × HasFile shelf.files name text
 
--- The least index of a word whose command or option isn't served yet: of the commands `run` and `fmt` are, and no
+-- The least index of a word whose command or option isn't served yet: of the commands `run`, `check` and `fmt` are, and no
 -- option.
 abbrev pub unserved : Job → List Word → Option ℕ
 unserved (Run file options) words = if length words == 2 then None else Some 2
+unserved (Check file) words = None
 unserved (Fmt file) words = None
 unserved _ words = Some 0
 
 -- the answer to a job that is served
 abbrev pub OwesJob : Job → List Word → ShelfState → Answer → Type 0
 OwesJob (Run file options) words shelf a = (text : List ℕ) × HasText shelf words file text × RunsTo text options a
+OwesJob (Check file) words shelf a = (text : List ℕ) × HasText shelf words file text × ChecksTo text a
 OwesJob (Fmt file) words shelf a = (text : List ℕ) × HasText shelf words file text × FormatsTo text a
 OwesJob _ words shelf a = ⊥
 
@@ -106,6 +122,7 @@ FileReadFailed file words old new = (name : List ℕ) × (slice_get words file �
 
 abbrev pub JobReadFailed : Job → List Word → ShelfState → ShelfState → Type 0
 JobReadFailed (Run file options) words old new = FileReadFailed file words old new
+JobReadFailed (Check file) words old new = FileReadFailed file words old new
 JobReadFailed (Fmt file) words old new = FileReadFailed file words old new
 JobReadFailed _ words old new = ⊥
 

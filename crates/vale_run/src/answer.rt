@@ -3,17 +3,17 @@ ghost use Rattle.std.specs.Prelude.{◌≡◌, ◌≤◌, ℕ, List, IfOk, IsErr
 ghost use Rattle.vale_base.specs.Outcome.{Cut};
 ghost use Rattle.vale_model.specs.Sums.{ends, meaning};
 ghost use Rattle.vale_ports.specs.Shelf.{HasFile, KeepsFiles, ReadsFile};
-ghost use Rattle.vale_run.specs.Owed.{refused, bad_word, EndsWith, RunsTo, FormatsTo, Owes, ReadFailed, ReadFails};
+ghost use Rattle.vale_run.specs.Owed.{refused, bad_word, counted, EndsWith, RunsTo, ChecksTo, FormatsTo, Owes, ReadFailed, ReadFails};
 ghost use Rattle.vale_words.specs.Words.{Asks, texts};
 
 use crate::code::{lower, run};
-use crate::front::front;
 use crate::served::served_program;
 use std::alloc::Global;
 use vale_base::{Fail, Memory, PROGRAM_LIMIT, Spot, Text};
+use vale_front::{Refusal, front, judge, read};
 use vale_ports::{Shelf, ShelfFault};
 use vale_printer::print;
-use vale_syntax::{Fault, Program};
+use vale_syntax::Program;
 use vale_trap::report;
 use vale_words::{Job, Options, read_words};
 
@@ -43,17 +43,17 @@ impl From<Memory> for Stop {
     }
 }
 
-/// What a text is refused with whose tree isn't served yet.
-const NOT_SERVED: Fault = Fault {
+/// What a program is refused with that doesn't run yet.
+const NOT_SERVED: Refusal = Refusal {
     code: 5,
     at: Spot { line: 1, col: 1 },
 };
 
-fn refused(alloc: Global, fault: Fault) -> Result<Answer, Memory>
-    ensures { IfOk result (λ a. a ≡ refused fault.code fault.at) }
+fn refused(alloc: Global, refusal: Refusal) -> Result<Answer, Memory>
+    ensures { IfOk result (λ a. a ≡ refused refusal.code refusal.at) }
 {
-    let (tens, ones) = (fault.code / 10, fault.code % 10);
-    let Spot { line, col } = fault.at;
+    let (tens, ones) = (refusal.code / 10, refusal.code % 10);
+    let Spot { line, col } = refusal.at;
     let line = format!(in alloc; "E{tens}{ones} at {line}:{col}\n")?;
     Ok(Answer {
         status: 1,
@@ -113,14 +113,43 @@ fn run_program(alloc: Global, program: &Program, options: &Options) -> Result<An
 pub fn run_text(alloc: Global, text: &[u8], options: &Options) -> Result<Answer, Memory>
     ensures { IfOk result (λ a. RunsTo text.now options.now a) }
 {
-    let tree = match front(alloc, text) {
+    let tree = match read(alloc, text) {
         Ok(tree) => tree,
-        Err(Fail::Is(fault)) => return refused(alloc, fault),
+        Err(Fail::Is(refusal)) => return refused(alloc, refusal),
         Err(Fail::Memory) => return Err(Memory),
     };
-    match served_program(alloc, &tree)? {
+    let program = served_program(alloc, &tree)?;
+    match judge(alloc, tree) {
+        Ok(_sound) => {}
+        Err(Fail::Is(refusal)) => return refused(alloc, refusal),
+        Err(Fail::Memory) => return Err(Memory),
+    }
+    match program {
         Some(program) => run_program(alloc, &program, options),
         None => refused(alloc, NOT_SERVED),
+    }
+}
+
+// So many checks are kept and so many dropped.
+fn counted(alloc: Global, kept: u64, elided: u64) -> Result<Answer, Memory>
+    ensures { IfOk result (λ a. a ≡ counted kept elided) }
+{
+    let counts = format!(in alloc; "kept {kept}\nelided {elided}\n")?;
+    Ok(Answer {
+        status: 0,
+        out: Text::from_slice(alloc, counts.as_bytes())?,
+        err: Text::new(alloc),
+    })
+}
+
+/// The answer to the check of a text.
+pub fn check_text(alloc: Global, text: &[u8]) -> Result<Answer, Memory>
+    ensures { IfOk result (λ a. ChecksTo text.now a) }
+{
+    match front(alloc, text) {
+        Ok(_sound) => counted(alloc, 0, 0),
+        Err(Fail::Is(refusal)) => refused(alloc, refusal),
+        Err(Fail::Memory) => Err(Memory),
     }
 }
 
@@ -128,13 +157,13 @@ pub fn run_text(alloc: Global, text: &[u8], options: &Options) -> Result<Answer,
 pub fn format_text(alloc: Global, text: &[u8]) -> Result<Answer, Memory>
     ensures { IfOk result (λ a. FormatsTo text.now a) }
 {
-    match front(alloc, text) {
+    match read(alloc, text) {
         Ok(tree) => Ok(Answer {
             status: 0,
             out: Text::from_vec(print(alloc, &tree)?),
             err: Text::new(alloc),
         }),
-        Err(Fail::Is(fault)) => refused(alloc, fault),
+        Err(Fail::Is(refusal)) => refused(alloc, refusal),
         Err(Fail::Memory) => Err(Memory),
     }
 }
@@ -169,6 +198,17 @@ fn run_file<H: Shelf>(
     Ok(run_text(alloc, &text, options)?)
 }
 
+// The answer to the check of a file.
+fn check_file<H: Shelf>(alloc: Global, name: &str, shelf: &mut H) -> Result<Answer, Stop>
+    ensures owed { IfOk result (λ a. (text : List ℕ) × HasFile (H.state shelf.old).files name.now text × ChecksTo text a) }
+    ensures read { IsErrOf result Stop.ReadFault → ReadFailed (H.state shelf.old) (H.state shelf.new) name.now }
+    ensures files { KeepsFiles (H.state shelf.old).files (H.state shelf.new).files }
+    ensures later { (H.state shelf.old).faults ≤ (H.state shelf.new).faults }
+{
+    let text = read_program(alloc, name, shelf)?;
+    Ok(check_text(alloc, &text)?)
+}
+
 // The answer to the laying out of a file.
 fn format_file<H: Shelf>(alloc: Global, name: &str, shelf: &mut H) -> Result<Answer, Stop>
     ensures owed { IfOk result (λ a. (text : List ℕ) × HasFile (H.state shelf.old).files name.now text × FormatsTo text a) }
@@ -200,6 +240,7 @@ fn do_job<H: Shelf>(
             }
             run_file(alloc, words[*file as usize].as_str(), options, shelf)
         }
+        Job::Check { file } => check_file(alloc, words[*file as usize].as_str(), shelf),
         Job::Fmt { file } => format_file(alloc, words[*file as usize].as_str(), shelf),
         _ => Ok(bad_word(alloc, 0)?),
     }

@@ -4,7 +4,6 @@
 mod answer;
 mod code;
 mod deliver;
-mod front;
 mod served;
 mod top;
 

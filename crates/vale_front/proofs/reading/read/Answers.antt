@@ -1,6 +1,6 @@
 use Rattle.std.proofs.Common.{arith}
-use Rattle.vale_run.specs.Front.{no_tree}
-use Rattle.vale_run.proofs.front.front.Goals as goal
+use Rattle.vale_front.specs.Front.{no_tree}
+use Rattle.vale_front.proofs.reading.read.Goals as goal
 
 pub returns-in-Err-Is-parse-clause-refused : goal.returns-in-Err-Is-parse-clause-refused
 returns-in-Err-Is-parse-clause-refused c =

@@ -1,0 +1,3 @@
+mod FaultLaws
+mod MissingLaws
+mod Rules

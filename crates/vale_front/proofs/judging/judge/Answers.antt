@@ -1,0 +1,36 @@
+use Rattle.std.proofs.Common.{sym, ap, ◌∙◌, refl}
+use Rattle.std.specs.Prelude.{map}
+use Rattle.vale_core.specs.View.{view_core}
+use Rattle.vale_front.specs.Front.{ill_declared, ill_typed, not_served}
+use Rattle.vale_front.specs.declared.missing.Missing.{Missing}
+use Rattle.vale_front.proofs.MissingLaws.{plain_where_judged}
+use Rattle.vale_syntax.specs.View.{view_item}
+use Rattle.vale_front.proofs.judging.judge.Goals as goal
+
+pub declare-requires : goal.declare-requires
+declare-requires c =
+    plain_where_judged (map view_item c.args.tree.items) (ap (λ (z : Missing). z.unjudged) (sym c.missing_in-missing.ensures) ∙ c.if-missing.false)
+
+pub type_all-requires-clause-plain : goal.type_all-requires-clause-plain
+type_all-requires-clause-plain c =
+    plain_where_judged (map view_item c.args.tree.items) (ap (λ (z : Missing). z.unjudged) (sym c.missing_in-missing.ensures) ∙ c.if-missing.false)
+
+pub returns-in-Err-Is-clause-refused : goal.returns-in-Err-Is-clause-refused
+returns-in-Err-Is-clause-refused c =
+    let judged = ap (λ (z : Missing). z.unjudged) (sym c.missing_in-missing.ensures) ∙ c.if-missing.false in
+    let why = rw c.in-Err-Is.field-0-is at c.in-Err-Is.ensures.fault in
+    ill_declared judged c.in-Err-Is.fault why
+    (rw c.in-Err-Is.field-0-is at c.of.ensures.code) (rw c.in-Err-Is.field-0-is at c.of.ensures.at)
+
+pub returns-in-Err-Is-type_all-clause-refused : goal.returns-in-Err-Is-type_all-clause-refused
+returns-in-Err-Is-type_all-clause-refused c =
+    let judged = ap (λ (z : Missing). z.unjudged) (sym c.missing_in-missing.ensures) ∙ c.if-missing.false in
+    let why = rw c.in-Err-Is-type_all.field-0-is at c.in-Err-Is-type_all.ensures.fault in
+    ill_typed judged c.in-Ok.decls c.in-Ok.ensures.declared c.in-Err-Is-type_all.fault why
+    (rw c.in-Err-Is-type_all.field-0-is at c.of-in-Err-Is-type_all.ensures.code) (rw c.in-Err-Is-type_all.field-0-is at c.of-in-Err-Is-type_all.ensures.at)
+
+pub returns-then-missing-2-clause-refused : goal.returns-then-missing-2-clause-refused
+returns-then-missing-2-clause-refused c =
+    let judged = ap (λ (z : Missing). z.unjudged) (sym c.missing_in-missing.ensures) ∙ c.if-missing.false in
+    let unserved = ap (λ (z : Missing). z.unserved) (sym c.missing_in-missing.ensures) ∙ c.if-missing-2.true in
+    not_served judged c.in-Ok.decls (view_core c.in-Ok-type_all.core) c.in-Ok.ensures.declared c.in-Ok-type_all.ensures.typed unserved refl refl

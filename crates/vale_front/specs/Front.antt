@@ -1,0 +1,60 @@
+-- Which texts are accepted, and what the others are refused with.
+use Rattle.std.specs.Prelude.{ℕ, ◌≡◌, ◌≤◌, ◌<◌, true, false, List, length}
+use Rattle.vale_base.specs.Limits.{program_limit}
+use Rattle.vale_base.specs.declared.spot.Spot.{Spot}
+use Rattle.vale_front.specs.Missing.{missing_in}
+use Rattle.vale_parser.specs.ItemReading.{all_of}
+use Rattle.vale_parser.specs.Refusal.{IsRefusal}
+use Rattle.vale_syntax.specs.Cut.{start, cut, LexFaultAt}
+use Rattle.vale_syntax.specs.DeclFaults.{declared}
+use Rattle.vale_syntax.specs.Grammar.{spells}
+use Rattle.vale_syntax.specs.Judged.{IsFine, IsFirstFault}
+use Rattle.vale_syntax.specs.Tree.{Tree}
+use Rattle.vale_syntax.specs.Typed.{Typed}
+use Rattle.vale_syntax.specs.Typing.{typed}
+use Rattle.vale_syntax.specs.WellFormed.{Reads}
+use Rattle.vale_syntax.specs.declared.decls.Decls.{Decls}
+use Rattle.vale_syntax.specs.declared.fault.Fault.{Fault}
+use Rattle.vale_syntax.specs.declared.token.Tokens.{Tokens}
+
+-- The text has no tree, and is refused with this code at this spot: the first of its phases that can't go on says why.
+pub data Unread (text : List ℕ) (code : ℕ) (at : Spot) : Type 0 where
+  too_long : program_limit < length text → code ≡ 1 → at ≡ start → Unread text code at
+  -- nothing cuts it, and this is its first fault
+  no_tokens : length text ≤ program_limit → ((tokens : Tokens) → cut text tokens → ⊥) → LexFaultAt text code at
+      → Unread text code at
+  -- no tree is spelled by its tokens, and this is where their reading stops
+  no_tree : length text ≤ program_limit → (tokens : Tokens) → cut text tokens
+      → ((tree : Tree) → spells tree tokens.list → ⊥)
+      → IsRefusal tokens.end (all_of tokens.list) (record { code = code; at = at })
+      → Unread text code at
+
+-- The tree is refused with this code at this spot: the first faulty node of the first phase that finds one; or, before
+-- the phases, what they don't judge yet, and, after them, what isn't compiled yet.
+pub data Unsound (tree : Tree) (code : ℕ) (at : Spot) : Type 0 where
+  not_judged : (missing_in tree).unjudged ≡ true → code ≡ 5 → at ≡ start → Unsound tree code at
+  ill_declared : (missing_in tree).unjudged ≡ false → (f : Fault) → IsFirstFault (declared tree) f → code ≡ f.code → at ≡ f.at
+      → Unsound tree code at
+  ill_typed : (missing_in tree).unjudged ≡ false → (decls : Decls) → IsFine (declared tree) decls
+      → (f : Fault) → IsFirstFault (typed tree) f → code ≡ f.code → at ≡ f.at
+      → Unsound tree code at
+  not_served : (missing_in tree).unjudged ≡ false → (decls : Decls) (program : Typed) → IsFine (declared tree) decls
+      → IsFine (typed tree) program → (missing_in tree).unserved ≡ true → code ≡ 5 → at ≡ start
+      → Unsound tree code at
+
+-- the tree breaks no rule, has this typed tree, and all of it is compiled
+pub record Serves (tree : Tree) (decls : Decls) (program : Typed) : Type 0 where
+  pub judged : (missing_in tree).unjudged ≡ false
+  pub declares : IsFine (declared tree) decls
+  pub types : IsFine (typed tree) program
+  pub served : (missing_in tree).unserved ≡ false
+
+-- the text is refused with this code at this spot
+pub data Refused (text : List ℕ) (code : ℕ) (at : Spot) : Type 0 where
+  unread : Unread text code at → Refused text code at
+  unsound : (tree : Tree) → Reads text tree → Unsound tree code at → Refused text code at
+
+-- the text is read as a tree that is served, with this typed tree
+pub record Accepts (text : List ℕ) (tree : Tree) (decls : Decls) (program : Typed) : Type 0 where
+  pub reads : Reads text tree
+  pub serves : Serves tree decls program

@@ -1,0 +1,55 @@
+// From a tree to its typed tree.
+ghost use Rattle.std.specs.Prelude.{◌≡◌, List, ℕ, IfOk};
+ghost use Rattle.vale_base.specs.Faults.{IfFault, IsValueUnlessMemory};
+ghost use Rattle.vale_core.specs.View.{view_core};
+ghost use Rattle.vale_front.specs.Front.{Serves, Unsound};
+ghost use Rattle.vale_syntax.specs.Typed.{Typed};
+ghost use Rattle.vale_syntax.specs.View.{view_tree};
+ghost use Rattle.vale_syntax.specs.WellFormed.{Reads};
+ghost use Rattle.vale_syntax.specs.declared.decls.Decls.{Decls};
+
+use crate::missing::missing_in;
+use crate::refusal::Refusal;
+use std::alloc::Global;
+use vale_base::{Fail, Spot};
+use vale_core::Sound;
+use vale_syntax::Tree;
+use vale_types::declare;
+use vale_typing::type_all;
+
+const NOT_SERVED: Refusal = Refusal {
+    code: 5,
+    at: Spot { line: 1, col: 1 },
+};
+
+/// The typed tree of a text's tree, or why it is refused (docs/LANGUAGE.md, "Declarations" and "Types"). `Fail::Is` comes
+/// where a node breaks a rule, with the first such node of the first phase that finds one, and where the program has
+/// something that isn't served yet; `Fail::Memory` may always come.
+pub fn judge(alloc: Global, tree: Tree) -> Result<Sound, Fail<Refusal>>
+    requires { (text : List ℕ) × Reads text (view_tree tree) }
+    // what is answered breaks no rule, and all of it is served
+    ensures found { IfOk result (λ sound. (decls : Decls) × Serves (view_tree tree) decls (view_core sound.core)) }
+    // what breaks none and is served is answered
+    ensures complete { (decls : Decls) (program : Typed) → Serves (view_tree tree) decls program → IsValueUnlessMemory result (λ sound. view_core sound.core ≡ program) }
+    // a refusal is that of the first phase that refuses
+    ensures refused { IfFault result (λ f. Unsound (view_tree tree) f.code f.at) }
+{
+    let missing = missing_in(&tree);
+    if missing.unjudged {
+        return Err(Fail::Is(NOT_SERVED));
+    }
+    let decls = match declare(alloc, &tree) {
+        Ok(decls) => decls,
+        Err(Fail::Is(fault)) => return Err(Fail::Is(Refusal::of(fault))),
+        Err(Fail::Memory) => return Err(Fail::Memory),
+    };
+    let core = match type_all(alloc, tree, &decls) {
+        Ok(core) => core,
+        Err(Fail::Is(fault)) => return Err(Fail::Is(Refusal::of(fault))),
+        Err(Fail::Memory) => return Err(Fail::Memory),
+    };
+    if missing.unserved {
+        return Err(Fail::Is(NOT_SERVED));
+    }
+    Ok(Sound { core })
+}

@@ -1,0 +1,63 @@
+// A call of `valec` over the kinds in memory.
+ghost use Rattle.std.specs.Prelude.{◌<◌};
+
+use std::alloc::Global;
+use std::test::Fail;
+use std::thread::Threads;
+use vale_ports::{CalmSource, FileList, MemShelf, MemSink, OpenGate};
+use vale_run::valec;
+
+/// What a call gave.
+#[derive(Drop)]
+pub struct Seen {
+    pub status: u8,
+    pub out: Vec<u8>,
+    pub err: Vec<u8>,
+}
+
+/// The calls of the outside that are to fail, counted from 1, and the most bytes that `out` takes at a call.
+#[derive(Clone, Copy)]
+pub struct Outside<'a> {
+    pub shelf_fails: &'a [u64],
+    pub out_fails: &'a [u64],
+    pub err_fails: &'a [u64],
+    pub out_most: usize,
+}
+
+/// An outside where nothing fails.
+pub const CALM: Outside<'static> = Outside {
+    shelf_fails: &[],
+    out_fails: &[],
+    err_fails: &[],
+    out_most: 4096,
+};
+
+/// What these words give, with this text as the file `p`.
+pub fn run_on<R: Threads + Sync>(
+    rt: &R,
+    alloc: Global,
+    words: &[&str],
+    text: &[u8],
+    outside: &Outside,
+) -> Result<Seen, Fail>
+    requires { 0 < outside.now.out_most }
+{
+    let mut list = Vec::new(alloc);
+    for word in words {
+        list.push(String::from_str(alloc, word)?)?;
+    }
+    let mut files = FileList::new(alloc);
+    files.put(alloc, "p", text)?;
+    let mut shelf = MemShelf::new(files, outside.shelf_fails);
+    let mut input = CalmSource::new(b"");
+    let mut out = MemSink::new(alloc, outside.out_most, outside.out_fails);
+    let mut err = MemSink::new(alloc, 4096, outside.err_fails);
+    let status = valec(
+        rt, alloc, &list, &mut shelf, &mut input, &mut out, &mut err, &OpenGate,
+    );
+    Ok(Seen {
+        status: status.0,
+        out: out.bytes.to_vec(alloc)?,
+        err: err.bytes.to_vec(alloc)?,
+    })
+}

@@ -1,0 +1,300 @@
+// What `check`, `run` and `fmt` answer to a text.
+use crate::calls::{CALM, Seen, run_on};
+use Answer::{Accepted, NotServed, Refused, Runs, Unread};
+use std::alloc::Global;
+use std::test::Fail;
+use std::thread::Threads;
+
+#[derive(Clone, Copy)]
+enum Answer {
+    // It has no tree: all three refuse it with this line.
+    Unread(&'static str),
+    // It breaks a rule: `check` and `run` refuse it with this line.
+    Refused(&'static str),
+    // It has something that isn't served yet.
+    NotServed,
+    // It is accepted, and doesn't run yet.
+    Accepted,
+    // It runs, and prints this.
+    Runs(&'static str),
+}
+
+const TEXTS: [(&str, Answer); 57] = [
+    ("func main() { @ }", Unread("E02 at 1:15\n")),
+    ("func main() { print(\"\\q\"); }", Unread("E02 at 1:22\n")),
+    (
+        "func main() { x = 9223372036854775808; }",
+        Unread("E03 at 1:19\n"),
+    ),
+    (
+        "func main() { println(18446744073709551616); }",
+        Unread("E03 at 1:23\n"),
+    ),
+    ("func main() { print(\"a); }", Unread("E04 at 1:21\n")),
+    ("\"", Unread("E04 at 1:1\n")),
+    ("func main() { x = ; }", Unread("E05 at 1:19\n")),
+    ("func main() {", Unread("E05 at 1:14\n")),
+    (
+        "func main() { x = ((((((((((((((((((((((((((((((((((((((((((((((((((((((((((((((((1)))))))))))))))))))))))))))))))))))))))))))))))))))))))))))))))); }",
+        Unread("E06 at 1:82\n"),
+    ),
+    (
+        "func main() { x = ----------------------------------------------------------------1; }",
+        Unread("E06 at 1:82\n"),
+    ),
+    (
+        "struct A { } struct A { } func main() { }",
+        Refused("E10 at 1:21\n"),
+    ),
+    ("func print() { } func main() { }", Refused("E10 at 1:6\n")),
+    (
+        "func f(x Foo) { } func main() { }",
+        Refused("E11 at 1:10\n"),
+    ),
+    ("func main() { x = []Foo(); }", Refused("E11 at 1:21\n")),
+    ("", Refused("E13 at 1:1\n")),
+    ("pure func main() { }", Refused("E13 at 1:11\n")),
+    (
+        "func f(x iso []iso S) { } struct S { } func main() { }",
+        Refused("E14 at 1:10\n"),
+    ),
+    (
+        "func f(x iso [][]iso S) { } struct S { } func main() { }",
+        Refused("E14 at 1:10\n"),
+    ),
+    (
+        "func drop(x int) { } func main() { }",
+        Refused("E15 at 1:6\n"),
+    ),
+    (
+        "struct S { } func drop(self S) int { return 1; } func main() { }",
+        Refused("E15 at 1:19\n"),
+    ),
+    (
+        "struct S { a &imm S; } func main() { }",
+        Refused("E16 at 1:14\n"),
+    ),
+    (
+        "func f(x &int) { } func main() { }",
+        Refused("E16 at 1:10\n"),
+    ),
+    ("func main() { x = 1 + true; }", Refused("E20 at 1:21\n")),
+    ("func main() { if 1 { } }", Refused("E20 at 1:15\n")),
+    ("func main() { println(y); }", Refused("E21 at 1:23\n")),
+    ("func main() { f(); }", Refused("E21 at 1:15\n")),
+    (
+        "func f(a int) { } func main() { f(); }",
+        Refused("E22 at 1:33\n"),
+    ),
+    ("func main() { print(); }", Refused("E22 at 1:15\n")),
+    ("func main() { set 1 = 2; }", Refused("E23 at 1:15\n")),
+    ("func main() { x = &1; }", Refused("E23 at 1:19\n")),
+    (
+        "struct S { a int; } func main() { s = S(1); set s.a = 2; }",
+        Refused("E24 at 1:45\n"),
+    ),
+    (
+        "struct P { x int; y! int; } func main() { p = P(1, 2); set p.y = 3; set p.x = 4; }",
+        Refused("E24 at 1:69\n"),
+    ),
+    (
+        "struct S { a int; } func main() { println(S(1).a); }",
+        Refused("E25 at 1:47\n"),
+    ),
+    (
+        "struct S { a int; } func main() { x = []S(S(1))[0].a; }",
+        Refused("E25 at 1:48\n"),
+    ),
+    ("func f() int { } func main() { }", Refused("E26 at 1:6\n")),
+    (
+        "func f(c bool) int { if c { return 1; } } func main() { }",
+        Refused("E26 at 1:6\n"),
+    ),
+    ("func main() { x = 1; x = 2; }", Refused("E27 at 1:22\n")),
+    (
+        "func main() { foreach i in 0..2 { i = 1; } }",
+        Refused("E27 at 1:35\n"),
+    ),
+    (
+        "struct S { } struct B { s S; } func main() { b = B(S()); t = b.s; }",
+        Refused("E28 at 1:63\n"),
+    ),
+    (
+        "struct S { } struct B { s S; } func main() { b = B(S()); drop(b.s); }",
+        Refused("E28 at 1:64\n"),
+    ),
+    ("func main() { println(1 + 2); }", Runs("3\n")),
+    ("func main() { }", Runs("")),
+    ("func main() { println(1); println(2); }", Runs("1\n2\n")),
+    (
+        "func f(a int, b str) int { return a; } func main() { println(f(1, \"x\")); }",
+        Accepted,
+    ),
+    (
+        "func main() { x = 1; while x < 10 { set x = x * 2; } println(x); }",
+        Accepted,
+    ),
+    ("func main() { foreach i in 0..3 { print(i); } }", Accepted),
+    (
+        "func main() { if true { print(1); } else if false { print(2); } else { print(3); } }",
+        Accepted,
+    ),
+    (
+        "func f(c bool) int { if c { return 1; } else { return 2; } } func main() { print(f(true)); }",
+        Accepted,
+    ),
+    (
+        "func main() { println(slice(\"abc\", 0, len(\"abc\"))); println(byte(\"a\", 0)); }",
+        Accepted,
+    ),
+    (
+        "func main() { println(text(number(\"12\") - 3)); println(is_number(\"a\")); }",
+        Accepted,
+    ),
+    (
+        "func main() { println(not (1 < 2) and \"a\" != \"b\" or true == false); }",
+        Accepted,
+    ),
+    (
+        "func main() { x = if true { 1 } else { 2 }; println(x); }",
+        Accepted,
+    ),
+    (
+        "struct S { a! int; } func main() { s = S(1); set s.a = 2; println(s.a); }",
+        NotServed,
+    ),
+    (
+        "func main() { xs = []int(1, 2); push(&xs, 3); println(len(&xs)); }",
+        NotServed,
+    ),
+    (
+        "pure func f(n int) int { return n; } func main() { println(f(1)); }",
+        NotServed,
+    ),
+    (
+        "func main(input []int) { println(len(&input)); }",
+        NotServed,
+    ),
+    (
+        "interface I { func m(self &I); } func main() { }",
+        NotServed,
+    ),
+];
+
+const NOT_SERVED: &str = "E05 at 1:1\n";
+
+const COUNTS: &str = "kept 0\nelided 0\n";
+
+// The status, and what goes to `out` and `err`.
+type Expected = (u8, &'static str, &'static str);
+
+fn of_check(answer: Answer) -> Expected {
+    match answer {
+        Unread(line) | Refused(line) => (1, "", line),
+        NotServed => (1, "", NOT_SERVED),
+        Accepted | Runs(_) => (0, COUNTS, ""),
+    }
+}
+
+fn of_run(answer: Answer) -> Expected {
+    match answer {
+        Unread(line) | Refused(line) => (1, "", line),
+        NotServed | Accepted => (1, "", NOT_SERVED),
+        Runs(out) => (0, out, ""),
+    }
+}
+
+fn is(seen: &Seen, expected: Expected) -> bool {
+    let (status, out, err) = expected;
+    seen.status == status
+        && seen.out.as_slice() == out.as_bytes()
+        && seen.err.as_slice() == err.as_bytes()
+}
+
+fn call<R: Threads + Sync>(
+    rt: &R,
+    alloc: Global,
+    command: &str,
+    text: &[u8],
+) -> Result<Seen, Fail> {
+    run_on(rt, alloc, &[command, "p"], text, &CALM)
+}
+
+// Whether the three commands give the text this answer.
+fn answers<R: Threads + Sync>(
+    rt: &R,
+    alloc: Global,
+    text: &[u8],
+    answer: Answer,
+) -> Result<bool, Fail> {
+    let check = call(rt, alloc, "check", text)?;
+    let run = call(rt, alloc, "run", text)?;
+    let fmt = call(rt, alloc, "fmt", text)?;
+    let is_laid_out = match answer {
+        Unread(line) => is(&fmt, (1, "", line)),
+        _ => fmt.status == 0 && fmt.err.is_empty(),
+    };
+    Ok(is(&check, of_check(answer)) && is(&run, of_run(answer)) && is_laid_out)
+}
+
+#[test]
+fn the_commands_agree_on_each_text(rt: HostRuntime) -> Result<(), Fail> {
+    for (text, answer) in TEXTS {
+        let agree = answers(&rt, rt.alloc(), text.as_bytes(), answer)?;
+        assert!(rt; agree, "{text}");
+    }
+    Ok(())
+}
+
+#[test]
+fn a_text_is_refused_from_its_limit_on(rt: HostRuntime) -> Result<(), Fail> {
+    let alloc = rt.alloc();
+    let longest = vec![in alloc; b' '; 1_048_576]?;
+    let agree = answers(&rt, alloc, &longest, Refused("E13 at 1:1\n"))?;
+    assert!(rt; agree);
+    let spaces = vec![in alloc; b' '; 1_048_577]?;
+    let agree = answers(&rt, alloc, &spaces, Unread("E01 at 1:1\n"))?;
+    assert!(rt; agree);
+    let letters = vec![in alloc; b'a'; 1_048_577]?;
+    let agree = answers(&rt, alloc, &letters, Unread("E01 at 1:1\n"))?;
+    assert!(rt; agree);
+    Ok(())
+}
+
+// A `main` that declares so many names.
+fn names(alloc: Global, count: u32) -> Result<Vec<u8>, Fail> {
+    let mut text = Vec::from_slice(alloc, b"func main() {")?;
+    for i in 0..count {
+        let line = format!(in alloc; " x{i} = 1;")?;
+        text.extend_from_slice(line.as_bytes())?;
+    }
+    text.extend_from_slice(b" }")?;
+    Ok(text)
+}
+
+// A function with one parameter and as many more, before a `main`.
+fn params(alloc: Global, more: u32) -> Result<Vec<u8>, Fail> {
+    let mut text = Vec::from_slice(alloc, b"func f(x int")?;
+    for i in 0..more {
+        let line = format!(in alloc; ", x{i} int")?;
+        text.extend_from_slice(line.as_bytes())?;
+    }
+    text.extend_from_slice(b") { } func main() { }")?;
+    Ok(text)
+}
+
+#[test]
+fn a_function_has_at_most_1024_names(rt: HostRuntime) -> Result<(), Fail> {
+    let alloc = rt.alloc();
+    let rows = [
+        (names(alloc, 1024)?, Accepted),
+        (names(alloc, 1025)?, Refused("E17 at 1:6\n")),
+        (params(alloc, 1023)?, Accepted),
+        (params(alloc, 1024)?, Refused("E17 at 1:6\n")),
+    ];
+    for (text, answer) in rows {
+        let agree = answers(&rt, alloc, &text, answer)?;
+        assert!(rt; agree);
+    }
+    Ok(())
+}
