@@ -32,7 +32,7 @@ use Rattle.vale_lower.specs.Scopes.{Around, code_type, agree, may_be_called, num
 use Rattle.vale_lower_facts.specs.Slots.{Slot, slot_register, slot_type, local, waits, holds, Stand, with_slot, given, behind, Last, type_at}
 use Rattle.vale_lower_facts.specs.Marks.{Marks, mark, marked, with_args}
 use Rattle.vale_lower_facts.specs.Suits.{IsBuiltIn, IsCalled}
-use Rattle.vale_lower_facts.proofs.Stands.{Site, Covers, covers_less, covers_write, covers_kept, is_plain, plain_free, Below, below_slot, Says, says_same, says_then, says_slot}
+use Rattle.vale_lower_facts.proofs.Stands.{Site, Covers, covers_less, covers_write, covers_kept, is_plain, plain_free, plain_less, plain_given, Below, below_slot, Says, says_same, says_then, says_slot}
 use Rattle.vale_lower_facts.proofs.Runs.{row_at, next_known, Does, Runs, single}
 use Rattle.vale_lower_facts.proofs.Rows.{Fine, all_kept, Stored, all_passed, print_runs, len_runs, text_of_runs, slice_runs, byte_runs, is_num_runs, num_runs}
 use Rattle.vale_lower_facts.proofs.Names.{copies_too, IsFunc, Context, below_args, says_args, arg_here}
@@ -216,7 +216,7 @@ module _ (k : Site) where
         (all_registers h (count es) (omega (arith, room)))
 
     call_single : {p : ℕ} {due : Bool} → Runs k p (instr ∷ []) (mark due (with_args es h s) ∷ []) due (with_args es h s) false (given (y.is_copy (result_type f)) h (result_type f) s)
-    call_single = single k instr refl refl call_numbers call_does
+    call_single = single k instr refl refl call_numbers call_does (λ p. plain_given k (y.is_copy (result_type f)) h (result_type f) (λ q. copies_too (result_type f) q) (plain_less k (says_args k es h below) p))
 
   pub call_runs : (c : Context k) (n : NameAt) (es : Exprs) (x : Ty) (p h : ℕ) (s : Stand) (due : Bool) → IsCalled c.around.functions n (types es) x → Below k h s
       → Runs k p (call_code c.around (y.is_copy x) n (count es) h) (marked due (with_args es h s) (call_code c.around (y.is_copy x) n (count es) h)) due (with_args es h s) false (given (y.is_copy x) h x s)

@@ -82,10 +82,9 @@ module _ (k : Site) where
   -- what is known of the program round a function
   pub record Context : Type 0 where
     pub around : Around
-    pub result : Ty
-    pub gives : around.gives ≡ y.is_copy result
-    pub result_is : k.func.result ≡ code_type result
-    pub covered : type_is_covered result ≡ true
+    pub gives : around.gives ≡ y.is_copy k.result
+    pub result_is : k.func.result ≡ code_type k.result
+    pub covered : type_is_covered k.result ≡ true
     pub texts : around.texts ≡ k.code.texts
     pub called : (n : ℕ) (f : Function) → first_function (has_name n) around.functions ≡ Some f → IsFunc (slice_get k.code.funcs (number_of_function (has_name n) around.functions)) f
 
@@ -97,33 +96,37 @@ module _ (k : Site) where
     pub copy : y.is_copy l.ty ≡ true
 
   pub record Stands (env : Env) (h : ℕ) (s : Stand) : Type 0 where
+    pub gives : env.gives ≡ k.result
     pub below : Below k h s
     pub named : (m : ℕ) (l : Local) → local_of m env.scope ≡ Some l → Placed m l s
 
   pub stands_up : {env : Env} {h j : ℕ} {s : Stand} → h ≤ j → Stands env h s → Stands env j s
-  stands_up le st = record { below = below_up k le st.below; named = st.named }
+  stands_up le st = record { gives = st.gives; below = below_up k le st.below; named = st.named }
 
   pub stands_behind : {env : Env} {h : ℕ} {s : Stand} (returns : Bool) → Stands env h s → Stands env h (behind returns s)
   stands_behind {s = s} returns st = record {
+    gives = st.gives;
     below = below_behind k returns st.below;
     named = λ m l e. let p = st.named m l e in record { register = p.register; found = p.found; typed = (says_behind k s returns).each p.register (code_type l.ty) p.typed; copy = p.copy };
   }
 
   pub stands_holds : {env : Env} {h : ℕ} {s : Stand} (ty : Ty) → Stands env h s → Stands env (h + 1) (with_slot (holds h ty) s)
   stands_holds {h = h} {s} ty st = record {
+    gives = st.gives;
     below = below_slot k (holds h ty) st.below;
     named = λ m l e. let p = st.named m l e in record { register = p.register; found = p.found; typed = (says_slot k (holds h ty) st.below).each p.register (code_type l.ty) p.typed; copy = p.copy };
   }
 
   pub stands_waits : {env : Env} {h : ℕ} {s : Stand} (ty : Ty) → Stands env h s → Stands env (h + 1) (with_slot (waits h ty) s)
   stands_waits {h = h} {s} ty st = record {
+    gives = st.gives;
     below = below_slot k (waits h ty) st.below;
     named = λ m l e. let p = st.named m l e in record { register = p.register; found = p.found; typed = (says_slot k (waits h ty) st.below).each p.register (code_type l.ty) p.typed; copy = p.copy };
   }
 
   -- a local more
   pub stands_local : {env : Env} {h : ℕ} {s : Stand} (n : NameAt) (ty : Ty) → y.is_copy ty ≡ true → Stands env h s → Stands (with_local n ty env) (h + 1) (with_slot (local n.name.0 h ty) s)
-  stands_local {env} {h} {s} n ty copy st = record { below = below_slot k (local n.name.0 h ty) st.below; named = λ m l e. by m l (n.name.0 == m) refl e }
+  stands_local {env} {h} {s} n ty copy st = record { gives = st.gives; below = below_slot k (local n.name.0 h ty) st.below; named = λ m l e. by m l (n.name.0 == m) refl e }
     where
       new : Local
       new = record { name = n.name.0; ty = ty; depth = env.depth }

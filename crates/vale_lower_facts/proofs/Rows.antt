@@ -25,7 +25,7 @@ use Rattle.vale_lower.specs.Lowered.{room_for, room_of}
 use Rattle.vale_lower.specs.Scopes.{code_type}
 use Rattle.vale_lower_facts.specs.Slots.{Slot, slot_register, slot_type, local, waits, holds, Stand, with_slot, given, Last, type_at}
 use Rattle.vale_lower_facts.specs.Marks.{mark}
-use Rattle.vale_lower_facts.proofs.Stands.{Site, Covers, Says, says_same, says_then, says_with, covers_less, covers_write, covers_kept, covers_again, is_plain, plain_free}
+use Rattle.vale_lower_facts.proofs.Stands.{Site, Covers, Says, says_same, says_then, says_with, covers_less, covers_write, covers_kept, covers_again, is_plain, plain_free, plain_less, plain_slot}
 use Rattle.vale_lower_facts.proofs.Runs.{row_at, next_known, Does, Runs, single}
 
 -- ---- rules that are kept
@@ -86,7 +86,7 @@ module _ (k : Site) where
       → (room_for instr ≤ k.func.registers → numbers k.code k.func.registers instr ≡ true)
       → ((known : Known) → row_at k instr known ≡ gets known.depth known.regs (slot_register x) (code_type (slot_type x)) kept)
       → Runs k p (instr ∷ []) (mark due s ∷ []) due s false (with_slot x s)
-  sets instr x kept on none copy f number is = single k instr on none number (λ room known c. gets_does instr x kept (is known) f copy c)
+  sets instr x kept on none copy f number is = single k instr on none number (λ room known c. gets_does instr x kept (is known) f copy c) (plain_slot k x copy)
 
   -- a register holds a value of a type
   abbrev pub Has : Stand → ℕ → CodeTy → Type 0
@@ -101,6 +101,7 @@ module _ (k : Site) where
   from_one instr x a ty on none copy cty lt number is ha less =
       single k instr on none number
       (λ room known c. gets_does instr x (reads known.regs a ty fine) (is known) (reads_fine known.regs a all_kept cty (c.held a ty (lt room) ha)) copy (covers_less k c less))
+      (λ p. plain_slot k x copy (plain_less k less p))
 
   pub from_two : {p : ℕ} {due : Bool} {s u : Stand} (instr : Instr) (x : Slot) (a b : ℕ) (ta tb : CodeTy) → goes_on instr ≡ true → target_of instr ≡ None → is_copy (code_type (slot_type x)) ≡ true → is_copy ta ≡ true → is_copy tb ≡ true
       → (room_for instr ≤ k.func.registers → (a < k.func.registers) × (b < k.func.registers))
@@ -112,6 +113,7 @@ module _ (k : Site) where
       (λ room known c.
       gets_does instr x (reads known.regs b tb (reads known.regs a ta fine)) (is known)
       (reads_fine known.regs b (reads_fine known.regs a all_kept ca (c.held a ta (lt room).0 ha)) cb (c.held b tb (lt room).1 hb)) copy (covers_less k c less))
+      (λ p. plain_slot k x copy (plain_less k less p))
 
   pub from_three : {p : ℕ} {due : Bool} {s u : Stand} (instr : Instr) (x : Slot) (a b d : ℕ) (ta tb td : CodeTy) → goes_on instr ≡ true → target_of instr ≡ None → is_copy (code_type (slot_type x)) ≡ true → is_copy ta ≡ true → is_copy tb ≡ true → is_copy td ≡ true
       → (room_for instr ≤ k.func.registers → (a < k.func.registers) × (b < k.func.registers) × (d < k.func.registers))
@@ -123,6 +125,7 @@ module _ (k : Site) where
       (λ room known c.
       gets_does instr x (reads known.regs d td (reads known.regs b tb (reads known.regs a ta fine))) (is known)
       (reads_fine known.regs d (reads_fine known.regs b (reads_fine known.regs a all_kept ca (c.held a ta (lt room).0 ha)) cb (c.held b tb (lt room).1 hb)) cd (c.held d td (lt room).2 hd)) copy (covers_less k c less))
+      (λ p. plain_slot k x copy (plain_less k less p))
 
   -- ---- numbers of registers
 
@@ -227,6 +230,7 @@ module _ (k : Site) where
       refl
       (both_alike choice ty (fact_of known.regs a) (fact_of known.regs b) o copy (c.held a ty (omega (arith, room)) ha) (c.held b ty (omega (arith, room)) hb))
       refl (covers_less k c less))
+      (λ p. plain_slot k (holds to y.bool) refl (plain_less k less p))
 
   copies_after : (known : Known) (to a : ℕ) (ty : CodeTy) → fact_of known.regs a ≡ Held ty 0 false → (row_at k (i.Copy to a) known).after ≡ slice_set known.regs to (Held ty known.depth false)
   copies_after known to a ty e = ap (λ f. slice_set known.regs to (copy_of known.depth f)) e
@@ -246,6 +250,7 @@ module _ (k : Site) where
       (λ room known c.
       copies_does (slot_register x) a (code_type (slot_type x)) known copy (c.held a (code_type (slot_type x)) (omega (arith, room)) ha) c
       (covers_write k x copy (covers_less k c less)))
+      (λ p. plain_slot k x copy (plain_less k less p))
 
   -- to one that holds a value of the type already
   pub store_runs : {p : ℕ} {due : Bool} {s u : Stand} (to a : ℕ) (ty : CodeTy) → is_copy ty ≡ true → Has s a ty → Says k s u → Has u to ty → Runs k p (i.Copy to a ∷ []) (mark due s ∷ []) due s false u
@@ -255,6 +260,7 @@ module _ (k : Site) where
       let e = c.held a ty (omega (arith, room)) ha in
       copies_does to a ty known copy e c
       (subst (λ d. Covers k (record { depth = known.depth; regs = slice_set known.regs to (Held ty d false) }) u) (sym c.depth) (covers_again k to ty copy hto (covers_less k c less))))
+      (plain_less k less)
 
   pub print_runs : {p : ℕ} {due : Bool} {s u : Stand} (a choice : ℕ) (ty : CodeTy) → choice < 2 → is_copy ty ≡ true → Has s a ty → Says k s u → Runs k p (i.Print a choice ∷ []) (mark due s ∷ []) due s false u
   print_runs a choice ty few copy ha less =
@@ -263,6 +269,7 @@ module _ (k : Site) where
       (λ room known c.
       let e = c.held a ty (omega (arith, room)) ha in
       record { types = ap is_printable e ∙ (own ty copy).printable; present = ap is_there e; depths = refl; covers = covers_kept k (covers_less k c less) })
+      (plain_less k less)
 
   -- ---- calls
 
@@ -281,7 +288,7 @@ module _ (k : Site) where
   one_passed depth regs h (t.Frozen m) row copy e same f = absurd (cc)
   one_passed depth regs h (t.Iso m) row copy e same f = absurd (cc)
 
-  all_passed : (depth : ℕ) (regs : List RegFact) (h : ℕ) (tys : List Ty) (row : Row) → list_all y.is_copy tys ≡ true → Stored regs h tys → row.after ≡ regs → Fine row.kept
+  pub all_passed : (depth : ℕ) (regs : List RegFact) (h : ℕ) (tys : List Ty) (row : Row) → list_all y.is_copy tys ≡ true → Stored regs h tys → row.after ≡ regs → Fine row.kept
       → Fine (passes_all depth (map code_type tys) (registers_from h (length tys)) row).kept × ((passes_all depth (map code_type tys) (registers_from h (length tys)) row).after ≡ regs)
   all_passed depth regs h [] row copy st same f = (f, same)
   all_passed depth regs h (ty ∷ tys) row copy st same f =

@@ -19,7 +19,7 @@ use Rattle.vale_cert.specs.declared.fault.Fault.{Fault}
 use Rattle.vale_lower.specs.Lowered.{room_for}
 use Rattle.vale_lower_facts.specs.Slots.{Stand, behind, Last, type_at, label_for}
 use Rattle.vale_lower_facts.specs.Marks.{Marks, mark, if_marks, loop_marks}
-use Rattle.vale_lower_facts.proofs.Stands.{Site, Covers, Says, says_same, says_then, covers_less, Plain, covers_plain, plain_behind, enters_label, known_of, covers_stated, covers_kept}
+use Rattle.vale_lower_facts.proofs.Stands.{Site, Covers, Says, says_same, says_then, covers_less, Plain, plain_less, covers_plain, plain_behind, enters_label, known_of, covers_stated, covers_kept}
 
 one_kept : (n : ℕ) (a : Bool) (rest : Rules) → a ≡ true → broken rest ≡ None → broken ((n, a) ∷ rest) ≡ None
 one_kept n true rest e h = h
@@ -241,19 +241,35 @@ module _ (k : Site) where
 
   -- ---- parts of code
 
+  -- what the labels state are types of values
+  abbrev pub AllPlain : Marks → Type 0
+  AllPlain [] = Unit {0}
+  AllPlain (None ∷ ms) = AllPlain ms
+  AllPlain (Some s ∷ ms) = Plain k s × AllPlain ms
+
+  pub all_plain : (due : Bool) (s : Stand) (ms : Marks) → Plain k s → AllPlain ms → AllPlain (mark due s ∷ ms)
+  all_plain false s ms p q = q
+  all_plain true s ms p q = (p, q)
+
+  pub plain_both : (ms ns : Marks) → AllPlain ms → AllPlain ns → AllPlain (ms ++ ns)
+  plain_both [] ns p q = q
+  plain_both (None ∷ ms) ns p q = plain_both ms ns p q
+  plain_both (Some s ∷ ms) ns p q = (p.0, plain_both ms ns p.1 q)
+
   pub record Runs (p : ℕ) (cs : List Instr) (ms : Marks) (due : Bool) (s : Stand) (d : Bool) (u : Stand) : Type 0 where
     pub along : length ms ≡ length cs
     pub numbered : Fits p cs ms → list_all (numbers k.code k.func.registers) cs ≡ true
     pub ready : Fits p cs ms → (rest : List Instr) → Ready (p + length cs) d u rest → Ready p due s (cs ++ rest)
+    pub plains : Plain k s → Plain k u × AllPlain ms
 
   pub nothing : (p : ℕ) (due : Bool) (s : Stand) → Runs p [] [] due s due s
-  nothing p due s = record { along = refl; numbered = λ f. refl; ready = λ f rest r. subst (λ q. Ready q due s rest) (let z : p + 0 ≡ p = omega arith in z) r }
+  nothing p due s = record { along = refl; numbered = λ f. refl; ready = λ f rest r. subst (λ q. Ready q due s rest) (let z : p + 0 ≡ p = omega arith in z) r; plains = λ p. (p, tt) }
 
   pub runs_less : {p : ℕ} {cs : List Instr} {ms : Marks} {due d : Bool} {s u v : Stand} → Runs p cs ms due s d u → Says k u v → Runs p cs ms due s d v
-  runs_less x a = record { along = x.along; numbered = x.numbered; ready = λ f rest r. x.ready f rest (ready_more a r) }
+  runs_less x a = record { along = x.along; numbered = x.numbered; ready = λ f rest r. x.ready f rest (ready_more a r); plains = λ p. (plain_less k a (x.plains p).0, (x.plains p).1) }
 
   pub runs_more : {p : ℕ} {cs : List Instr} {ms : Marks} {due d : Bool} {s u v : Stand} → Says k v s → Runs p cs ms due s d u → Runs p cs ms due v d u
-  runs_more a x = record { along = x.along; numbered = x.numbered; ready = λ f rest r. ready_more a (x.ready f rest r) }
+  runs_more a x = record { along = x.along; numbered = x.numbered; ready = λ f rest r. ready_more a (x.ready f rest r); plains = λ p. x.plains (plain_less k a p) }
 
   -- one part and then another
   pub both : {p : ℕ} {a b : List Instr} {ma mb : Marks} {due d e : Bool} {s u v : Stand} → Runs p a ma due s d u → Runs (p + length a) b mb d u e v → Runs p (a ++ b) (ma ++ mb) due s e v
@@ -265,15 +281,18 @@ module _ (k : Site) where
     subst (λ l. Ready p due s l) (sym (append_assoc a b rest))
     (x.ready (front a b ma mb x.along f) (b ++ rest)
     (z.ready (back a b ma mb x.along f) rest (subst (λ q. Ready q e v rest) (let z : p + length (a ++ b) ≡ p + length a + length b = omega (arith, length-append a b) in z) r)));
+    plains = λ p. let one = x.plains p in let two = z.plains one.0 in (two.0, plain_both ma mb one.1 two.1);
   }
 
   -- an instruction that goes on
   pub single : {p : ℕ} {due : Bool} {s u : Stand} (instr : Instr) → goes_on instr ≡ true → target_of instr ≡ None
       → (room_for instr ≤ k.func.registers → numbers k.code k.func.registers instr ≡ true)
       → (room_for instr ≤ k.func.registers → (known : Known) → Covers k known s → Does instr known u)
+      → (Plain k s → Plain k u)
       → Runs p (instr ∷ []) (mark due s ∷ []) due s false u
-  single instr on none number does = record {
+  single {due = due} {s} instr on none number does pl = record {
     along = refl;
     numbered = λ f. and_from _ _ (number f.each.1) refl;
     ready = λ f rest r. goes instr on none f.each.0 (does f.each.1) r;
+    plains = λ p. (pl p, all_plain due s [] p tt);
   }

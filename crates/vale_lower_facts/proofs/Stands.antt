@@ -76,6 +76,8 @@ pub record Site : Type 0 where
   pub func : Func
   pub labels : List Label
   pub base : ℕ
+  -- the type of the function's result, in the program
+  pub result : Ty
   pub last : Last
   pub last_plain : (ty : CodeTy) → last.ty ≡ Some ty → is_copy ty ≡ true
 
@@ -142,6 +144,13 @@ module _ (k : Site) where
     where
       none : (r : ℕ) (ty : CodeTy) → slot_register x ≡ r → type_at k.last s r ≡ Some ty → ⊥
       none r ty same e = let n : type_at k.last s r ≡ None = nothing_at b r (omega (arith, same)) in cc
+
+  -- a slot that says what is said already
+  pub says_again : (x : Slot) (s : Stand) → type_at k.last s (slot_register x) ≡ Some (code_type (slot_type x)) → Says (with_slot x s) s
+  says_again x s has = record { each = λ r ty e. ⊎_elim (λ same. here r ty same e) (λ ne. type_there x s r ne ∙ e) (cases_eq (slot_register x) r) }
+    where
+      here : (r : ℕ) (ty : CodeTy) → slot_register x ≡ r → type_at k.last s r ≡ Some ty → type_at k.last (with_slot x s) r ≡ Some ty
+      here r ty same e = type_here x s r same ∙ sym has ∙ ap (type_at k.last s) same ∙ e
 
   -- the same slot over more
   pub says_with : {s u : Stand} (x z : Slot) → slot_register x ≡ slot_register z → slot_type x ≡ slot_type z → Says s u → Says (with_slot x s) (with_slot z u)
@@ -304,6 +313,19 @@ module _ (k : Site) where
   or_copy : (a b : Bool) (r : ℕ) (o : Option CodeTy) (ty : CodeTy) → (or_last k.last a r o ≡ Some ty → is_copy ty ≡ true) → or_last k.last b r o ≡ Some ty → is_copy ty ≡ true
   or_copy a b r (Some u) ty h e = h e
   or_copy a b r None ty h e = last_copy (b && (k.last.register == r)) ty e
+
+  pub plain_less : {s u : Stand} → Says s u → Plain s → Plain u
+  plain_less a p = record { each = λ r ty lt e. p.each r ty lt (a.each r ty e) }
+
+  pub plain_slot : {s : Stand} (x : Slot) → is_copy (code_type (slot_type x)) ≡ true → Plain s → Plain (with_slot x s)
+  plain_slot {s} x copy p = record { each = λ r ty lt e. ⊎_elim (λ same. here r ty same e) (λ ne. p.each r ty lt (sym (type_there x s r ne) ∙ e)) (cases_eq (slot_register x) r) }
+    where
+      here : (r : ℕ) (ty : CodeTy) → slot_register x ≡ r → type_at k.last (with_slot x s) r ≡ Some ty → is_copy ty ≡ true
+      here r ty same e = let is : code_type (slot_type x) ≡ ty = (let a = type_here x s r same in cc) in subst (λ q. is_copy q ≡ true) is copy
+
+  pub plain_given : {s : Stand} (b : Bool) (h : ℕ) (x : Ty) → (b ≡ true → is_copy (code_type x) ≡ true) → Plain s → Plain (given b h x s)
+  plain_given true h x copy p = plain_slot (holds h x) (copy refl) p
+  plain_given false h x copy p = p
 
   pub plain_behind : {s : Stand} (returns : Bool) → Plain s → Plain (behind returns s)
   plain_behind {s} returns p = record { each = λ r ty lt e. or_copy s.over (returns || s.over) r (slot_at s.slots r) ty (p.each r ty lt) e }

@@ -17,8 +17,8 @@ use Rattle.vale_cert.specs.declared.facts.RegFact.TheVariants.{Empty, Held}
 use Rattle.vale_lower.specs.Lowered.{room_for}
 use Rattle.vale_lower_facts.specs.Slots.{Stand, behind, Last, type_at, label_for}
 use Rattle.vale_lower_facts.specs.Marks.{Marks, mark, if_marks, loop_marks}
-use Rattle.vale_lower_facts.proofs.Stands.{Site, Covers, Says, says_same, says_then, Plain, covers_plain, plain_behind, covers_kept, is_plain, plain_free, known_of, covers_stated}
-use Rattle.vale_lower_facts.proofs.Runs.{W, row_at, next_known, Arrives, Ready, ready_more, Goes, step, no_way, label_mark, Does, goes, Target, target_ready, target_label, jumps, tests, Fits, front, back, tail, Runs, runs_less}
+use Rattle.vale_lower_facts.proofs.Stands.{Site, Covers, Says, says_same, says_then, Plain, plain_less, covers_plain, plain_behind, covers_kept, is_plain, plain_free, known_of, covers_stated}
+use Rattle.vale_lower_facts.proofs.Runs.{W, row_at, next_known, Arrives, Ready, ready_more, Goes, step, no_way, label_mark, Does, goes, Target, target_ready, target_label, jumps, tests, Fits, front, back, tail, AllPlain, all_plain, plain_both, Runs, runs_less}
 
 module _ (k : Site) where
   pub ready_due : {p : ℕ} {s : Stand} {is : List Instr} (d : Bool) → Ready k p true s is → Ready k p d s is
@@ -81,17 +81,21 @@ module _ (k : Site) where
         let len : p + length whole ≡ end = omega (arith, length-append test (i.Unless h other ∷ sides), length-append one (i.Jump end ∷ two)) in
         let r' : Ready k end true u rest = ready_at len r in
         let two_ready : Ready k other true s2 (two ++ rest) = z.ready (tail k f4) rest (ready_due d2 (ready_more k a5 r')) in
-        let jump_ready : Ready k (p + length test + 1 + length one) d1 b1 (i.Jump end ∷ (two ++ rest)) = jumps k end f4.each.0 (target_ready k r') a4 two_ready (λ pl. less a3 pl) in
+        let jump_ready : Ready k (p + length test + 1 + length one) d1 b1 (i.Jump end ∷ (two ++ rest)) = jumps k end f4.each.0 (target_ready k r') a4 two_ready (plain_less k a3) in
         let one_ready = y.ready (front k one (i.Jump end ∷ two) om (mark d1 b1 ∷ tw) y.along f3) (i.Jump end ∷ (two ++ rest)) jump_ready in
         ready_in (sym (assoc_if test one two rest (i.Unless h other) (i.Jump end)))
         (x.ready (front k test (i.Unless h other ∷ sides) tm (mark dt tested ∷ (om ++ (mark d1 b1 ∷ tw))) x.along f) (i.Unless h other ∷ (one ++ (i.Jump end ∷ (two ++ rest))))
         (tests k h other f2.each.0 (omega (arith, room)) is (target_ready k two_ready) a2 one_ready a1))
-      where
-        less : {v w : Stand} → Says k v w → Plain k v → Plain k w
-        less a pl = record { each = λ r ty lt e. pl.each r ty lt (a.each r ty e) }
+
+    if_plains : Plain k s → Plain k u × AllPlain k (if_marks tm dt tested om d1 b1 tw)
+    if_plains p =
+        let a = x.plains p in
+        let b = y.plains (plain_less k a1 a.0) in
+        let c = z.plains (plain_less k a2 a.0) in
+        (plain_less k a4 b.0, plain_both k tm (mark dt tested ∷ (om ++ (mark d1 b1 ∷ tw))) a.1 (all_plain k dt tested (om ++ (mark d1 b1 ∷ tw)) a.0 (plain_both k om (mark d1 b1 ∷ tw) b.1 (all_plain k d1 b1 tw b.0 c.1))))
 
     if_whole : Runs k p whole (if_marks tm dt tested om d1 b1 tw) due s true u
-    if_whole = record { along = if_along; numbered = if_numbered; ready = if_ready }
+    if_whole = record { along = if_along; numbered = if_numbered; ready = if_ready; plains = if_plains }
 
   pub if_runs : {p : ℕ} (h : ℕ) {test one two : List Instr} {tm om tw : Marks} {due dt d1 d2 : Bool} {s tested s1 b1 s2 b2 u : Stand} → Runs k p test tm due s dt tested → type_at k.last tested h ≡ Some t.Truth
       → Runs k (p + length test + 1) one om false s1 d1 b1 → Runs k (p + length test + 1 + length one + 1) two tw true s2 d2 b2
@@ -109,6 +113,7 @@ module _ (k : Site) where
     let room = f.each.1 in
     let r' : Ready k (p + 1 + length one) true u rest = ready_at (let z : p + suc (length one) ≡ p + 1 + length one = omega arith in z) r in
     tests k h (p + 1 + length one) f.each.0 (omega (arith, room)) is (target_ready k r') a2 (y.ready (tail k f) rest (ready_due d (ready_more k a3 r'))) a1;
+    plains = λ p. (plain_less k a2 p, all_plain k due tested om p (y.plains (plain_less k a1 p)).1);
   }
 
   -- ---- loops
@@ -169,8 +174,14 @@ module _ (k : Site) where
         let all : Ready k p due s (i.Jump start ∷ i.Tick ∷ (body ++ (test ++ (turns ++ rest)))) = jumps k start f.each.0 (target_ready k test_ready) (says_same k s) tick_ready (λ pl. pl) in
         ready_in (ap (λ l. i.Jump start ∷ i.Tick ∷ l) (sym (append_assoc body (test ++ turns) rest ∙ ap (λ l. body ++ l) (append_assoc test turns rest)))) all
 
+    loop_plains : Plain k s → Plain k s × AllPlain k loop_ms
+    loop_plains p =
+        let a = x.plains p in
+        let c = y.plains p in
+        (p, all_plain k due s (Some s ∷ (bm ++ (tm ++ (mark dt tested ∷ None ∷ [])))) p (p, plain_both k bm (tm ++ (mark dt tested ∷ None ∷ [])) a.1 (plain_both k tm (mark dt tested ∷ None ∷ []) c.1 (all_plain k dt tested (None ∷ []) c.0 tt))))
+
     loop_whole : Runs k p loop loop_ms due s true s
-    loop_whole = record { along = loop_along; numbered = loop_numbered; ready = loop_ready }
+    loop_whole = record { along = loop_along; numbered = loop_numbered; ready = loop_ready; plains = loop_plains }
 
   pub loop_runs : {p : ℕ} (h : ℕ) {body test : List Instr} {bm tm : Marks} (due : Bool) {d dt : Bool} {s b tested : Stand} → Runs k (p + 2) body bm false s d b → Runs k (p + 2 + length body) test tm true s dt tested
       → type_at k.last tested h ≡ Some t.Truth → Says k b s → Says k tested s
@@ -252,7 +263,8 @@ module _ (k : Site) where
     along = refl;
     numbered = λ f. let room = f.each.1 in and_from _ _ (lt-ltb h k.func.registers (omega (arith, room))) refl;
     ready = λ f rest r. let room = f.each.1 in ret_ready h f.each.0 (omega (arith, room)) is r;
+    plains = λ p. (plain_behind k true p, all_plain k due s [] p tt);
   }
 
   pub void_runs : {p : ℕ} {due : Bool} {s : Stand} → k.func.result ≡ t.Void → Runs k p (i.RetVoid ∷ []) (mark due s ∷ []) due s true (behind true s)
-  void_runs is = record { along = refl; numbered = λ f. refl; ready = λ f rest r. void_ready f.each.0 is r }
+  void_runs {due = due} {s} is = record { along = refl; numbered = λ f. refl; ready = λ f rest r. void_ready f.each.0 is r; plains = λ p. (plain_behind k true p, all_plain k due s [] p tt) }
