@@ -1,3 +1,4 @@
+mod Copies
 mod Fine
 mod Fits
 mod Functions
@@ -6,4 +7,5 @@ mod Literals
 mod Main
 mod Parts
 mod Returns
+mod Served
 mod Sound

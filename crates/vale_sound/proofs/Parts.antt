@@ -72,7 +72,7 @@ goes_on s (more_links l ls) e = tt
 
 -- ---- calls
 
-called_program : (a : Option BuiltIn) (b : Option (List FieldDecl)) (c : Option Head) (h : Head) → called_else a b c ≡ program h → c ≡ Some h
+pub called_program : (a : Option BuiltIn) (b : Option (List FieldDecl)) (c : Option Head) (h : Head) → called_else a b c ≡ program h → c ≡ Some h
 called_program (Some f) b c h e = absurd (cc)
 called_program None (Some fs) c h e = absurd (cc)
 called_program None None (Some g) h e = let same : g ≡ h = cc in ap Some same

@@ -3,4 +3,4 @@
 
 mod laws;
 
-pub use laws::well_formed_programs_suit;
+pub use laws::{served_programs_are_covered, well_formed_programs_suit};
