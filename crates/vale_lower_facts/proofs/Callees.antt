@@ -1,5 +1,5 @@
 -- How the walk goes through calls.
-use Rattle.std.proofs.Common.{◌≡◌, ◌≢◌, ℕ, zero, suc, ◌+◌, ◌<◌, ◌≤◌, List, [], ◌∷◌, ◌++◌, length, map, Option, Some, None, Bool, true, false, ◌&&◌, ◌||◌, ◌==◌, if◌then◌else◌, max, refl, sym, ap, ◌∙◌, subst, arith}
+use Rattle.std.proofs.Common.{◌≡◌, ℕ, zero, suc, ◌+◌, ◌<◌, ◌≤◌, List, [], ◌∷◌, length, map, Some, Bool, true, false, ◌&&◌, ◌||◌, if◌then◌else◌, max, refl, sym, ap, ◌∙◌, subst, arith}
 use Rattle.std.specs.Prelude.{slice_get, slice_set, nat_lt}
 use Rattle.std.specs.List.{list_all}
 use Rattle.std.proofs.lemmas.Bool.{and_parts, and_from, lt-ltb, eq-eqb}
@@ -13,29 +13,26 @@ use Rattle.vale_syntax.specs.Types as y
 use Rattle.vale_syntax.specs.TypeRules.{is_int, is_array_ref, takes_arguments, built_in_gives, param_types}
 use Rattle.vale_syntax.specs.Typed.{Expr, Exprs, no_exprs, more_exprs, type, types, Function}
 use Rattle.vale_model.specs.Kinds.{head_of}
-use Rattle.vale_model.specs.Parts.{first_function, has_name, is_pure}
-use Rattle.vale_code.specs.declared.func.Func.{Func}
+use Rattle.vale_model.specs.Parts.{first_function, has_name}
 use Rattle.vale_code.specs.declared.instr.Instr.{Instr}
 use Rattle.vale_code.specs.declared.instr.Instr.TheVariants as i
 use Rattle.vale_code.specs.declared.ty.Ty.{Ty as CodeTy}
 use Rattle.vale_code.specs.declared.ty.Ty.TheVariants as t
-use Rattle.vale_cert.specs.Known.{Known, fact_of, is_free}
-use Rattle.vale_cert.specs.Numbers.{numbers, is_register, are_registers, takes_result, calls_function}
+use Rattle.vale_cert.specs.Known.{Known, fact_of}
+use Rattle.vale_cert.specs.Numbers.{numbers, takes_result, calls_function}
 use Rattle.vale_cert.specs.Rules.{Row, gets, passes_all, comes_back, all_fine, calls, call_by_form}
-use Rattle.vale_cert.specs.declared.facts.RegFact.{RegFact}
-use Rattle.vale_cert.specs.declared.facts.RegFact.TheVariants.{Empty, Held}
-use Rattle.vale_cert.specs.declared.rules.Kept.{Kept}
+use Rattle.vale_cert.specs.declared.facts.RegFact.TheVariants.{Held}
 use Rattle.vale_lower.specs.Covered.{type_is_covered, built_in_is_covered}
-use Rattle.vale_lower.specs.Instructions.{only_if, registers_from, built_in_code}
+use Rattle.vale_lower.specs.Instructions.{registers_from, built_in_code}
 use Rattle.vale_lower.specs.Lowered.{count, call_code, room_of}
-use Rattle.vale_lower.specs.Scopes.{Around, code_type, agree, may_be_called, number_of_function, result_type}
-use Rattle.vale_lower_facts.specs.Slots.{Slot, slot_register, slot_type, local, waits, holds, Stand, with_slot, given, behind, Last, type_at}
-use Rattle.vale_lower_facts.specs.Marks.{Marks, mark, marked, with_args}
+use Rattle.vale_lower.specs.Scopes.{code_type, agree, may_be_called, number_of_function, result_type}
+use Rattle.vale_lower_facts.specs.Slots.{waits, holds, Stand, with_slot, given, type_at}
+use Rattle.vale_lower_facts.specs.Marks.{mark, marked, with_args}
 use Rattle.vale_lower_facts.specs.Suits.{IsBuiltIn, IsCalled}
-use Rattle.vale_lower_facts.proofs.Stands.{Site, Covers, covers_less, covers_write, covers_kept, is_plain, plain_free, plain_less, plain_given, Below, below_slot, Says, says_same, says_then, says_slot}
-use Rattle.vale_lower_facts.proofs.Runs.{row_at, next_known, Does, Runs, single}
+use Rattle.vale_lower_facts.proofs.Stands.{Site, Covers, covers_less, covers_write, covers_kept, is_plain, plain_free, plain_less, plain_given, Below, below_slot}
+use Rattle.vale_lower_facts.proofs.Runs.{row_at, Does, Runs, single}
 use Rattle.vale_lower_facts.proofs.Rows.{Fine, all_kept, Stored, all_passed, print_runs, len_runs, text_of_runs, slice_runs, byte_runs, is_num_runs, num_runs}
-use Rattle.vale_lower_facts.proofs.Names.{copies_too, IsFunc, Context, below_args, says_args, arg_here}
+use Rattle.vale_lower_facts.proofs.Names.{copies_too, IsFunc, Context, says_args, arg_here}
 use Rattle.vale_lower_facts.proofs.Operators.{int_type, chosen_marked}
 
 -- ---- types of arguments
@@ -55,9 +52,9 @@ measured (y.ref x) e c = absurd (cc)
 measured (y.imm x) e c = absurd (cc)
 measured (y.iso x) e c = absurd (cc)
 
-pub agree_same : (b : Bool) → agree b b ≡ true
-agree_same true = refl
-agree_same false = refl
+pub agree_with_itself : (b : Bool) → agree b b ≡ true
+agree_with_itself true = refl
+agree_with_itself false = refl
 
 pub count_types : (es : Exprs) → count es ≡ length (types es)
 count_types no_exprs = refl
@@ -133,9 +130,10 @@ module _ (k : Site) where
 
   stored : (known : Known) (es : Exprs) (h : ℕ) (s : Stand) → Below k h s → Covers k known (with_args es h s) → room_of (registers_from h (count es)) ≤ k.func.registers → Stored k known.regs h (types es)
   stored known no_exprs h s b c room = tt
-  stored known (more_exprs e es) h s b c room =
-      (c.held h (code_type (type e)) (omega (arith, room)) (arg_here k e es h b),
-      stored known es (h + 1) (with_slot (waits h (type e)) s) (below_slot k (waits h (type e)) b) c (omega (arith, room)))
+  stored known (more_exprs e es) h s b c room = (
+    c.held h (code_type (type e)) (omega (arith, room)) (arg_here k e es h b),
+    stored known es (h + 1) (with_slot (waits h (type e)) s) (below_slot k (waits h (type e)) b) c (omega (arith, room)),
+  )
 
   all_registers : (h n : ℕ) → room_of (registers_from h n) ≤ k.func.registers → list_all (λ r. nat_lt r k.func.registers) (registers_from h n) ≡ true
   all_registers h zero room = refl
@@ -152,8 +150,8 @@ module _ (k : Site) where
       (record {
         fine = record { types = f.types; present = and_from _ _ f.present (plain_free (fact_of row.after to) (subst (λ r. is_plain (fact_of r to) ≡ true) (sym same) (c.plain to))); depths = f.depths };
         covers =
-        subst (λ g. Covers k (record { depth = known.depth; regs = slice_set row.after to (Held (code_type x) known.depth false) }) (given g to x s)) (sym copy)
-        (subst (λ r. Covers k (record { depth = known.depth; regs = slice_set r to (Held (code_type x) known.depth false) }) (with_slot (holds to x) s)) (sym same) (covers_write k (holds to x) (copies_too x copy) c));
+            subst (λ g. Covers k (record { depth = known.depth; regs = slice_set row.after to (Held (code_type x) known.depth false) }) (given g to x s)) (sym copy)
+            (subst (λ r. Covers k (record { depth = known.depth; regs = slice_set r to (Held (code_type x) known.depth false) }) (with_slot (holds to x) s)) (sym same) (covers_write k (holds to x) (copies_too x copy) c));
       })
 
   comes_does : (to : ℕ) (x : Ty) (known : Known) (s : Stand) (row : Row) → type_is_covered x ≡ true → Fine row.kept → row.after ≡ known.regs → Covers k known s → Back to x known s (comes_back known.depth (code_type x) to row)
@@ -225,7 +223,7 @@ module _ (k : Site) where
       chosen_marked k (i.Call h (number_of_function (has_name n.name.0) c.around.functions) (registers_from h (count es)) n.at ∷ [])
       (may_be_called (y.is_copy x) (first_function (has_name n.name.0) c.around.functions)) h
       (ap (may_be_called (y.is_copy x)) su.found ∙ ap (λ b. if b then false else agree (y.is_copy x) (y.is_copy (result_type su.is))) fc.plain
-      ∙ ap (λ z. agree (y.is_copy z) (y.is_copy (result_type su.is))) su.given ∙ agree_same (y.is_copy (result_type su.is)))
+      ∙ ap (λ z. agree (y.is_copy z) (y.is_copy (result_type su.is))) su.given ∙ agree_with_itself (y.is_copy (result_type su.is)))
       (subst (λ x. Runs k p (i.Call h (number_of_function (has_name n.name.0) c.around.functions) (registers_from h (count es)) n.at ∷ []) (mark due (with_args es h s) ∷ []) due (with_args es h s) false (given (y.is_copy x) h x s))
       (sym su.given)
       (call_single (number_of_function (has_name n.name.0) c.around.functions) su.is fc es su.taken n.at h s below))

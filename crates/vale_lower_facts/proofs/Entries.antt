@@ -1,8 +1,9 @@
 -- What is known where a function is entered.
-use Rattle.std.proofs.Common.{◌≡◌, ◌≢◌, ℕ, zero, suc, ◌+◌, ◌-◌, ◌<◌, ◌≤◌, List, [], ◌∷◌, ◌++◌, length, map, replicate, Option, Some, None, Bool, true, false, ◌&&◌, ◌||◌, ◌==◌, if◌then◌else◌, refl, sym, ap, ◌∙◌, subst, ⊎_elim, ◌⊎◌, inl, inr, arith, length-append}
+use Rattle.std.proofs.Common.{◌≡◌, ◌≢◌, ℕ, zero, suc, ◌+◌, ◌-◌, ◌≤◌, List, [], ◌∷◌, ◌++◌, length, map, replicate, Option, Some, None, Bool, true, false, ◌==◌, if◌then◌else◌, refl, sym, ap, ◌∙◌, subst, ⊎_elim, ◌⊎◌, inl, inr, arith, length-append}
 use Rattle.std.specs.Prelude.{slice_get}
 use Rattle.std.specs.List.{list_all}
 use Rattle.std.proofs.lemmas.Bool.{and_parts, eqb-true}
+use Rattle.std.proofs.lemmas.List.{length-map}
 use Rattle.vale_syntax.specs.declared.tree.NameAt.{NameAt}
 use Rattle.vale_syntax.specs.Tree.{Param, param}
 use Rattle.vale_syntax.specs.Declarations.{param_type}
@@ -11,13 +12,11 @@ use Rattle.vale_syntax.specs.Types as y
 use Rattle.vale_syntax.specs.Typing.{Env, with_local, with_params}
 use Rattle.vale_model.specs.Parts.{param_names}
 use Rattle.vale_code.specs.declared.ty.Ty.{Ty as CodeTy}
-use Rattle.vale_code.specs.declared.ty.Ty.TheVariants as t
-use Rattle.vale_cert.specs.Known.{Known, fact_of, params_from}
-use Rattle.vale_cert.specs.Types.{is_copy}
+use Rattle.vale_cert.specs.Known.{fact_of, params_from}
 use Rattle.vale_cert.specs.declared.facts.RegFact.{RegFact}
 use Rattle.vale_cert.specs.declared.facts.RegFact.TheVariants.{Empty, Held}
-use Rattle.vale_lower.specs.Scopes.{Scope, entry, place_of, parameters, code_type}
-use Rattle.vale_lower_facts.specs.Slots.{Slot, Slots, slot_register, slot_type, local, waits, holds, scope_of, Stand, scope_at, slot_at, Last, or_last, type_at}
+use Rattle.vale_lower.specs.Scopes.{place_of, parameters, code_type}
+use Rattle.vale_lower_facts.specs.Slots.{Slots, local, scope_of, Stand, slot_at, or_last, type_at}
 use Rattle.vale_lower_facts.specs.Marks.{param_slots}
 use Rattle.vale_lower_facts.proofs.Stands.{Site, Covers, type_here, type_there, is_plain}
 use Rattle.vale_lower_facts.proofs.Names.{copies_too, Placed}
@@ -58,11 +57,11 @@ params_facts [] n j ty rest e = absurd (cc)
 params_facts (u ∷ tys) n zero ty rest e = let same : u ≡ ty = cc in ap (λ x. Held x 0 false) same
 params_facts (u ∷ tys) n (suc j) ty rest e = params_facts tys (n + 1) j ty rest e
 
-pub count_params : (tys : List CodeTy) (n : ℕ) → length (params_from n [] tys) ≡ length tys
+count_params : (tys : List CodeTy) (n : ℕ) → length (params_from n [] tys) ≡ length tys
 count_params [] n = refl
 count_params (u ∷ tys) n = ap suc (count_params tys (n + 1))
 
-pub count_empty : (n : ℕ) → length (replicate n Empty) ≡ n
+count_empty : (n : ℕ) → length (replicate n Empty) ≡ n
 count_empty zero = refl
 count_empty (suc n) = ap suc (count_empty n)
 
@@ -128,7 +127,7 @@ module _ (k : Site) where
   params_enter (param n x ∷ ps) r env s copy en =
       let w = and_parts (y.is_copy (type_of x)) (all_copy ps) copy in
       let more = params_enter ps (r + 1) (with_local n (type_of x) env) (local n.name.0 r (type_of x) ∷ s) w.1
-          (record { free = λ q le. slot_off q (omega (arith, le)) ∙ en.free q (omega (arith, le)); named = named_more n (type_of x) r env s w.0 (en.free r (omega arith)) en.named }) in
+      (record { free = λ q le. slot_off q (omega (arith, le)) ∙ en.free q (omega (arith, le)); named = named_more n (type_of x) r env s w.0 (en.free r (omega arith)) en.named }) in
       record { free = λ q le. more.free q (omega (arith, le)); named = more.named }
     where
       slot_off : (q : ℕ) → r ≢ q → slot_at (local n.name.0 r (type_of x) ∷ s) q ≡ slot_at s q
@@ -144,12 +143,8 @@ module _ (k : Site) where
     held = λ r ty lt e. by r ty (param_slot ps 0 r [] ty (sym (at_start (param_slots 0 ps []) r) ∙ e));
   }
     where
-      count_map : (ps : List Param) → length (map code_param ps) ≡ length ps
-      count_map [] = refl
-      count_map (p ∷ ps) = ap suc (count_map ps)
-
       size : length (params_from 0 [] (map code_param ps) ++ replicate (k.func.registers - length (map code_param ps)) Empty) ≡ k.func.registers
-      size = omega (arith, le, length-append (params_from 0 [] (map code_param ps)) (replicate (k.func.registers - length (map code_param ps)) Empty), count_params (map code_param ps) 0, count_map ps, count_empty (k.func.registers - length (map code_param ps)))
+      size = omega (arith, le, length-append (params_from 0 [] (map code_param ps)) (replicate (k.func.registers - length (map code_param ps)) Empty), count_params (map code_param ps) 0, length-map ps code_param, count_empty (k.func.registers - length (map code_param ps)))
 
       by : (r : ℕ) (ty : CodeTy) → (slot_at [] r ≡ Some ty) ⊎ ((j : ℕ) × (r ≡ 0 + j) × (slice_get (map code_param ps) j ≡ Some ty)) → fact_of (params_from 0 [] (map code_param ps) ++ replicate (k.func.registers - length (map code_param ps)) Empty) r ≡ Held ty 0 false
       by r ty (inl e) = absurd (cc)

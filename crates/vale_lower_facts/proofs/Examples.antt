@@ -1,16 +1,15 @@
 -- Codes that their facts certify, by computation; and that the facts are needed.
-use Rattle.std.proofs.Common.{◌≡◌, ℕ, List, [], ◌∷◌, Option, Some, None, length, map, refl}
+use Rattle.std.proofs.Common.{◌≡◌, ℕ, List, [], ◌∷◌, Option, Some, None, map, refl}
 use Rattle.std.specs.Prelude.{true, false, codes, pos}
 use Rattle.vale_base.specs.declared.spot.Spot.{Spot}
-use Rattle.vale_syntax.specs.declared.tree.BinaryOp.TheVariants.{Equal, Less, Add, Sub, And, Or}
+use Rattle.vale_syntax.specs.declared.tree.BinaryOp.TheVariants.{Equal, Less, Add, Sub, And}
 use Rattle.vale_syntax.specs.declared.tree.NameAt.{NameAt}
 use Rattle.vale_syntax.specs.Judged.{Judged, fine, faulty}
 use Rattle.vale_syntax.specs.Typed.{Typed}
 use Rattle.vale_syntax.specs.Typing.{typed}
-use Rattle.vale_syntax.specs.Tree.{int_type, set, chain, number, quote, truth, name, call, paren, form, no_exprs, more_exprs, link, no_links, more_links, branch, no_else, otherwise, block, declare, return_value, return_nothing, while, foreach, form_stmt, express, no_stmts, last, more_stmts, param, head, function, function_item, Tree, tree}
+use Rattle.vale_syntax.specs.Tree.{int_type, set, chain, number, quote, truth, name, call, form, no_exprs, more_exprs, link, no_links, more_links, branch, otherwise, block, declare, return_value, return_nothing, while, foreach, form_stmt, express, no_stmts, last, more_stmts, param, head, function, function_item, Tree, tree}
 use Rattle.vale_cert.specs.Certificate.{first_fault}
 use Rattle.vale_cert.specs.declared.facts.FuncFacts.{FuncFacts}
-use Rattle.vale_cert.specs.declared.facts.Label.{Label}
 use Rattle.vale_cert.specs.declared.fault.Fault.{Fault}
 use Rattle.vale_lower.specs.Lowered.{lowered}
 use Rattle.vale_lower_facts.specs.Marks.{lowered_facts}
@@ -25,14 +24,6 @@ n k line column = record { name = record { 0 = k }; at = at line column }
 abbrev fault_of : (Typed → List FuncFacts) → Judged Typed → Option (Option Fault)
 fault_of facts (fine program) = Some (first_fault (lowered program) (facts program))
 fault_of facts (faulty f fs) = None
-
--- the places of the labels of each function
-abbrev places : List FuncFacts → List (List ℕ)
-places facts = map (λ f. map (λ label. label.at) f.labels) facts
-
-abbrev places_of : Judged Typed → Option (List (List ℕ))
-places_of (fine program) = Some (places (lowered_facts program))
-places_of (faulty f fs) = None
 
 abbrev bare : FuncFacts → FuncFacts
 bare f = record { live = f.live; labels = [] }

@@ -1,9 +1,7 @@
 -- The labels that marks give.
-use Rattle.std.proofs.Common.{◌≡◌, ◌≢◌, ℕ, zero, suc, ◌+◌, ◌<◌, ◌≤◌, List, [], ◌∷◌, ◌++◌, length, Option, Some, None, Bool, true, false, ◌&&◌, ◌==◌, if◌then◌else◌, max, refl, sym, ap, ◌∙◌, subst, arith}
-use Rattle.std.specs.Prelude.{slice_get, nat_lt}
+use Rattle.std.proofs.Common.{◌≡◌, ℕ, zero, suc, ◌+◌, ◌<◌, ◌≤◌, List, [], ◌∷◌, length, Option, Some, None, Bool, true, if◌then◌else◌, refl, ap, ◌∙◌, arith}
 use Rattle.std.specs.List.{list_all}
-use Rattle.std.proofs.lemmas.Bool.{and_parts, and_from, lt-ltb, eq-eqb, ne_eqb}
-use Rattle.vale_code.specs.declared.func.Func.{Func}
+use Rattle.std.proofs.lemmas.Bool.{and_from, lt-ltb, eq-eqb, ne_eqb}
 use Rattle.vale_code.specs.declared.instr.Instr.{Instr}
 use Rattle.vale_code.specs.declared.ty.Ty.{Ty as CodeTy}
 use Rattle.vale_code.specs.declared.ty.Ty.TheVariants as t
@@ -11,12 +9,11 @@ use Rattle.vale_cert.specs.Known.{label_at, rise, rise_from}
 use Rattle.vale_cert.specs.Shape.{label_is_lawful, fact_is_lawful}
 use Rattle.vale_cert.specs.Types.{is_copy, is_type}
 use Rattle.vale_cert.specs.declared.facts.Label.{Label}
-use Rattle.vale_cert.specs.declared.facts.RegFact.{RegFact}
-use Rattle.vale_lower.specs.Lowered.{room_for, registers_in}
+use Rattle.vale_lower.specs.Lowered.{registers_in}
 use Rattle.vale_lower_facts.specs.Slots.{Stand, Last, type_at, fact_for, facts_from, label_for}
-use Rattle.vale_lower_facts.specs.Marks.{Marks, with_label, labels_from}
-use Rattle.vale_lower_facts.proofs.Stands.{Site, Plain}
-use Rattle.vale_lower_facts.proofs.Runs.{label_mark, FitsEach, AllPlain}
+use Rattle.vale_lower_facts.specs.Marks.{Marks, labels_from}
+use Rattle.vale_lower_facts.proofs.Stands.{Site, Plain, length_facts}
+use Rattle.vale_lower_facts.proofs.Runs.{FitsEach, AllPlain}
 
 module _ (l : Last) (registers : ℕ) where
   -- ---- where they stand
@@ -57,17 +54,21 @@ module _ (k : Site) where
   pub fits_each : (cs : List Instr) (ms : Marks) (p : ℕ) → length ms ≡ length cs → Same k.last k.func.registers k.labels (labels_from k.last k.func.registers p ms) p → registers_in cs ≤ k.func.registers → FitsEach k p cs ms
   fits_each [] ms p len same room = tt
   fits_each (x ∷ cs) [] p len same room = absurd (omega (arith, len))
-  fits_each (x ∷ cs) (None ∷ ms) p len same room =
-      (same p (omega arith) ∙ none_before k.last k.func.registers ms (p + 1) p (omega arith), omega (arith, room),
-      fits_each cs ms (p + 1) (omega (arith, len)) (λ q le. same q (omega (arith, le))) (omega (arith, room)))
-  fits_each (x ∷ cs) (Some s ∷ ms) p len same room =
-      (first_label k.last k.func.registers k.labels s ms p same, omega (arith, room),
-      fits_each cs ms (p + 1) (omega (arith, len)) (later_labels k.last k.func.registers k.labels s ms p same) (omega (arith, room)))
+  fits_each (x ∷ cs) (None ∷ ms) p len same room = (
+    same p (omega arith) ∙ none_before k.last k.func.registers ms (p + 1) p (omega arith),
+    omega (arith, room),
+    fits_each cs ms (p + 1) (omega (arith, len)) (λ q le. same q (omega (arith, le))) (omega (arith, room)),
+  )
+  fits_each (x ∷ cs) (Some s ∷ ms) p len same room = (
+    first_label k.last k.func.registers k.labels s ms p same,
+    omega (arith, room),
+    fits_each cs ms (p + 1) (omega (arith, len)) (later_labels k.last k.func.registers k.labels s ms p same) (omega (arith, room)),
+  )
 
   -- ---- they are lawful
 
   module _ (reaches : ℕ → Bool) where
-    copy_lawful : (ty : CodeTy) → is_copy ty ≡ true → is_type k.code reaches ty ≡ true
+    pub copy_lawful : (ty : CodeTy) → is_copy ty ≡ true → is_type k.code reaches ty ≡ true
     copy_lawful t.Int e = refl
     copy_lawful t.Truth e = refl
     copy_lawful t.Text e = refl
@@ -85,15 +86,11 @@ module _ (k : Site) where
         by None e = refl
         by (Some ty) e = copy_lawful ty (p.each r ty (omega (arith, all)) e)
 
-    count_facts : (s : Stand) (r count : ℕ) → length (facts_from k.last s r count) ≡ count
-    count_facts s r zero = refl
-    count_facts s r (suc count) = ap suc (count_facts s (r + 1) count)
-
     pub labels_lawful : (ms : Marks) (p : ℕ) → p + length ms ≤ length k.func.body → AllPlain k ms → list_all (label_is_lawful k.code reaches k.func) (labels_from k.last k.func.registers p ms) ≡ true
     labels_lawful [] p le pl = refl
     labels_lawful (None ∷ ms) p le pl = labels_lawful ms (p + 1) (omega (arith, le)) pl
     labels_lawful (Some s ∷ ms) p le pl =
         and_from _ _
-        (and_from _ _ (and_from _ _ (lt-ltb p (length k.func.body) (omega (arith, le))) (eq-eqb (length (facts_from k.last s 0 k.func.registers)) k.func.registers (count_facts s 0 k.func.registers)))
+        (and_from _ _ (and_from _ _ (lt-ltb p (length k.func.body) (omega (arith, le))) (eq-eqb (length (facts_from k.last s 0 k.func.registers)) k.func.registers (length_facts k s 0 k.func.registers)))
         (facts_lawful s 0 k.func.registers (omega arith) pl.0))
         (labels_lawful ms (p + 1) (omega (arith, le)) pl.1)

@@ -1,25 +1,24 @@
 -- The locals that a part of a program sees, and the registers that hold them.
-use Rattle.std.proofs.Common.{◌≡◌, ◌≢◌, ℕ, zero, suc, ◌+◌, ◌<◌, ◌≤◌, List, [], ◌∷◌, ◌++◌, length, map, Option, Some, None, Bool, true, false, ◌&&◌, ◌||◌, ◌==◌, if◌then◌else◌, refl, sym, ap, ◌∙◌, subst, ⊎_elim, ◌⊎◌, inl, inr, arith}
+use Rattle.std.proofs.Common.{◌≡◌, ℕ, suc, ◌+◌, ◌<◌, ◌≤◌, List, [], ◌∷◌, ◌++◌, length, map, Option, Some, Bool, true, false, ◌==◌, if◌then◌else◌, refl, ap, ◌∙◌, subst, arith}
 use Rattle.std.specs.Prelude.{slice_get}
 use Rattle.std.specs.List.{list_all}
-use Rattle.std.proofs.lemmas.Bool.{and_parts, cases_eq}
 use Rattle.vale_syntax.specs.declared.tree.NameAt.{NameAt}
 use Rattle.vale_syntax.specs.Types.{Ty, Local, local_of}
 use Rattle.vale_syntax.specs.Types as y
 use Rattle.vale_syntax.specs.TypeRules.{param_types}
 use Rattle.vale_syntax.specs.Declarations.{head_params}
-use Rattle.vale_syntax.specs.Typed.{Expr, Exprs, no_exprs, more_exprs, type, types, Function}
+use Rattle.vale_syntax.specs.Typed.{Expr, Exprs, no_exprs, more_exprs, type, Function}
 use Rattle.vale_syntax.specs.Typing.{Env, with_local}
 use Rattle.vale_model.specs.Kinds.{head_of}
 use Rattle.vale_model.specs.Parts.{first_function, has_name, is_pure}
 use Rattle.vale_code.specs.declared.func.Func.{Func}
-use Rattle.vale_code.specs.declared.ty.Ty.{Ty as CodeTy}
 use Rattle.vale_cert.specs.Types.{is_copy}
 use Rattle.vale_lower.specs.Covered.{type_is_covered}
-use Rattle.vale_lower.specs.Scopes.{Around, Scope, place_of, code_type, result_type, number_of_function}
-use Rattle.vale_lower_facts.specs.Slots.{Slot, Slots, local, waits, holds, slot_register, slot_type, Stand, scope_at, with_slot, given, behind, slot_at, Last, type_at}
+use Rattle.vale_lower.specs.Scopes.{Around, place_of, code_type, result_type, number_of_function}
+use Rattle.vale_lower.proofs.Lookups.{in_front}
+use Rattle.vale_lower_facts.specs.Slots.{local, waits, holds, Stand, scope_at, with_slot, behind, type_at}
 use Rattle.vale_lower_facts.specs.Marks.{with_args}
-use Rattle.vale_lower_facts.proofs.Stands.{Site, Below, below_up, below_slot, below_behind, nothing_at, type_here, type_there, Says, says_same, says_then, says_slot, says_behind}
+use Rattle.vale_lower_facts.proofs.Stands.{Site, Below, below_up, below_slot, below_behind, type_here, type_there, Says, says_same, says_then, says_slot, says_behind}
 
 -- ---- types
 
@@ -63,17 +62,15 @@ pub record IsFunc (found : Option Func) (f : Function) : Type 0 where
 pub record Among (some all : List (List ℕ)) : Type 0 where
   pub each : (i : ℕ) (text : List ℕ) → slice_get some i ≡ Some text → (j : ℕ) × (slice_get all j ≡ Some text)
 
-get_front : {A : Type 0} (xs ys : List A) (i : ℕ) (x : A) → slice_get xs i ≡ Some x → slice_get (xs ++ ys) i ≡ Some x
-get_front [] ys i x e = absurd (cc)
-get_front (z ∷ xs) ys zero x e = e
-get_front (z ∷ xs) ys (suc i) x e = get_front xs ys i x e
-
 get_back : {A : Type 0} (xs ys : List A) (i : ℕ) (x : A) → slice_get ys i ≡ Some x → slice_get (xs ++ ys) (length xs + i) ≡ Some x
 get_back [] ys i x e = subst (λ n. slice_get ys n ≡ Some x) (let z : i ≡ 0 + i = omega arith in z) e
 get_back (z ∷ xs) ys i x e = subst (λ n. slice_get (z ∷ (xs ++ ys)) n ≡ Some x) (let q : suc (length xs + i) ≡ suc (length xs) + i = omega arith in q) (get_back xs ys i x e)
 
+pub among_same : (a : List (List ℕ)) → Among a a
+among_same a = record { each = λ i text e. (i, e) }
+
 pub among_front : (a b : List (List ℕ)) {all : List (List ℕ)} → Among (a ++ b) all → Among a all
-among_front a b m = record { each = λ i text e. m.each i text (get_front a b i text e) }
+among_front a b m = record { each = λ i text e. m.each i text (in_front a b i text e) }
 
 pub among_back : (a b : List (List ℕ)) {all : List (List ℕ)} → Among (a ++ b) all → Among b all
 among_back a b m = record { each = λ i text e. m.each (length a + i) text (get_back a b i text e) }

@@ -1,5 +1,5 @@
 -- How the walk goes through operators.
-use Rattle.std.proofs.Common.{◌≡◌, ◌≢◌, ℕ, zero, suc, ◌+◌, ◌<◌, ◌≤◌, pos, List, [], ◌∷◌, ◌++◌, length, Option, Some, None, Bool, true, false, ◌&&◌, ◌||◌, if◌then◌else◌, refl, sym, ap, ◌∙◌, subst, ⊎_elim, ◌⊎◌, inl, inr, arith}
+use Rattle.std.proofs.Common.{◌≡◌, ℕ, zero, suc, ◌+◌, ◌<◌, pos, List, [], ◌∷◌, ◌++◌, length, Some, Bool, true, false, ◌&&◌, refl, sym, ap, ◌∙◌, subst, ⊎_elim, ◌⊎◌, inl, inr, arith}
 use Rattle.std.proofs.lemmas.Bool.{and_parts}
 use Rattle.vale_base.specs.declared.spot.Spot.{Spot}
 use Rattle.vale_syntax.specs.declared.tree.BinaryOp.{BinaryOp}
@@ -16,17 +16,16 @@ use Rattle.vale_code.specs.declared.instr.Instr.TheVariants as i
 use Rattle.vale_code.specs.declared.ty.Ty.{Ty as CodeTy}
 use Rattle.vale_code.specs.declared.ty.Ty.TheVariants as t
 use Rattle.vale_cert.specs.Rules.{is_ordered}
-use Rattle.vale_cert.specs.Types.{is_copy}
 use Rattle.vale_lower.specs.Covered.{unary_is_covered}
-use Rattle.vale_lower.specs.Instructions.{only_if, operator, link_code, unary_code}
+use Rattle.vale_lower.specs.Instructions.{only_if, link_code, unary_code}
 use Rattle.vale_lower.specs.Lowered.{value_code}
 use Rattle.vale_lower.specs.Scopes.{Around, code_type}
-use Rattle.vale_lower_facts.specs.Slots.{Slot, slot_register, slot_type, local, waits, holds, Stand, scope_at, with_slot, given, behind, Last, type_at}
+use Rattle.vale_lower_facts.specs.Slots.{holds, Stand, scope_at, with_slot, given, behind, type_at}
 use Rattle.vale_lower_facts.specs.Returned.{expr_returns}
-use Rattle.vale_lower_facts.specs.Marks.{Marks, mark, only_marks, marked, if_marks, link_due, link_marks, value_due, value_marks}
+use Rattle.vale_lower_facts.specs.Marks.{Marks, mark, only_marks, marked, link_due, link_marks, value_due, value_marks}
 use Rattle.vale_lower_facts.specs.Suits.{unary_suits}
-use Rattle.vale_lower_facts.proofs.Stands.{Site, Below, below_slot, below_behind, nothing_at, type_here, type_there, Says, says_same, says_then, says_slot, says_with, says_behind, says_given}
-use Rattle.vale_lower_facts.proofs.Runs.{Runs, nothing, runs_less, runs_more, both}
+use Rattle.vale_lower_facts.proofs.Stands.{Site, Below, below_slot, type_here, type_there, Says, says_same, says_then, says_slot, says_with, says_behind}
+use Rattle.vale_lower_facts.proofs.Runs.{Runs, nothing, runs_less, both}
 use Rattle.vale_lower_facts.proofs.Ways.{if_runs, and_runs}
 use Rattle.vale_lower_facts.proofs.Rows.{int_runs, add_runs, sub_runs, mul_runs, div_runs, rem_runs, join_runs, cmp_runs, not_runs}
 use Rattle.vale_lower_facts.proofs.Names.{copies_too, Stands, stands_holds}

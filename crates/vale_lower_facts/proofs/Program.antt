@@ -1,8 +1,9 @@
 -- The code of a program whose types fit is certified.
-use Rattle.std.proofs.Common.{◌≡◌, ◌≢◌, ℕ, zero, suc, ◌+◌, ◌-◌, ◌<◌, ◌≤◌, List, [], ◌∷◌, ◌++◌, length, map, flat_map, replicate, Option, Some, None, Bool, true, false, not, ◌&&◌, ◌||◌, ◌==◌, if◌then◌else◌, max, refl, sym, ap, ◌∙◌, subst, arith, length-append}
-use Rattle.std.specs.Prelude.{slice_get, nat_lt, nat_le, codes}
+use Rattle.std.proofs.Common.{◌≡◌, ℕ, zero, suc, ◌+◌, ◌<◌, ◌≤◌, List, [], ◌∷◌, ◌++◌, length, map, flat_map, Some, None, Bool, true, false, not, ◌&&◌, ◌||◌, ◌==◌, if◌then◌else◌, refl, ap, ◌∙◌, subst, arith, length-append}
+use Rattle.std.specs.Prelude.{slice_get, nat_lt, codes}
 use Rattle.std.specs.List.{list_all}
 use Rattle.std.proofs.lemmas.Bool.{and_parts, and_from, lt-ltb, le-leb, eq-eqb, eqb-true}
+use Rattle.std.proofs.lemmas.List.{length-map}
 use Rattle.std.proofs.lemmas.List.Folds.{list_all-append}
 use Rattle.std.proofs.lemmas.Option.{slice_get_within}
 use Rattle.vale_base.specs.State.{no_input}
@@ -15,37 +16,36 @@ use Rattle.vale_syntax.specs.Typed.{Function, function_body, Item, struct_item, 
 use Rattle.vale_syntax.specs.Typing.{Env}
 use Rattle.vale_syntax.specs.Typing as typing
 use Rattle.vale_model.specs.Kinds.{head_of, body_of}
-use Rattle.vale_model.specs.Parts.{Parts, parts_of, is_pure, name_text, name_of, first_function, has_name, has_text, functions_of}
+use Rattle.vale_model.specs.Parts.{Parts, parts_of, is_pure, name_text, name_of, has_name, has_text, functions_of}
 use Rattle.vale_code.specs.Parts.{Parts as Code}
 use Rattle.vale_code.specs.declared.func.Func.{Func}
 use Rattle.vale_code.specs.declared.instr.Instr.{Instr}
 use Rattle.vale_code.specs.declared.instr.Instr.TheVariants as i
 use Rattle.vale_code.specs.declared.ty.Ty.{Ty as CodeTy}
 use Rattle.vale_code.specs.declared.ty.Ty.TheVariants as t
-use Rattle.vale_cert.specs.Certificate.{first_fault, rule_one, Certified}
+use Rattle.vale_cert.specs.Certificate.{rule_one, Certified}
 use Rattle.vale_cert.specs.Input.{takes_input, function_takes, params_take}
-use Rattle.vale_cert.specs.Known.{Known, entry, label_at, may_enter, rise}
+use Rattle.vale_cert.specs.Known.{Known, entry, label_at, may_enter}
 use Rattle.vale_cert.specs.Numbers.{numbers}
-use Rattle.vale_cert.specs.Shape.{shape_fault, or_else as or_number, counted_after, funcs_fault, func_is_lawful, head_is_lawful, body_is_lawful, has_live, has_form, has_input, label_is_lawful, is_main}
+use Rattle.vale_cert.specs.Shape.{counted_after, funcs_fault, func_is_lawful, head_is_lawful, body_is_lawful, has_form, has_input, label_is_lawful, is_main}
 use Rattle.vale_cert.specs.Types.{is_copy, is_type, is_result, is_void, reaches_isolate, ◌⇒◌}
 use Rattle.vale_cert.specs.Walk.{or_else, walk, function_fault, functions_fault}
 use Rattle.vale_cert.specs.declared.facts.FuncFacts.{FuncFacts}
-use Rattle.vale_cert.specs.declared.fault.Fault.{Fault}
 use Rattle.vale_lower.specs.Covered.{type_is_covered, function_is_covered, item_is_covered, block_is_covered, is_covered}
-use Rattle.vale_lower.specs.Lowered.{registers_in, end_code, form_of, around_of, names_in, block_code, lowered_body, lowered_function, functions_in, texts_in, lowered_parts, lowered}
-use Rattle.vale_lower.specs.Scopes.{Around, code_type, head_result, result_type, parameters, number_of_function, number_of_text}
+use Rattle.vale_lower.specs.Lowered.{registers_in, end_code, form_of, around_of, names_in, block_code, lowered_function, functions_in, texts_in, lowered_parts, lowered}
+use Rattle.vale_lower.specs.Scopes.{Around, code_type, head_result, result_type, parameters, number_of_function}
 use Rattle.vale_lower.specs.Texts.{function_quotes, block_quotes}
-use Rattle.vale_lower.proofs.Lookups.{found_function, found_text}
-use Rattle.vale_lower_facts.specs.Slots.{Stand, scope_at, behind, Last, type_at, or_last}
+use Rattle.vale_lower.proofs.Lookups.{found_function, found_text, in_front}
+use Rattle.vale_lower_facts.specs.Slots.{Stand, behind, type_at, or_last}
 use Rattle.vale_lower_facts.specs.Returned.{block_returns}
-use Rattle.vale_lower_facts.specs.Marks.{Marks, mark, block_due, block_marks, param_slots, entry_stand, value_type, last_of, labels_from, function_marks, function_facts, facts_of_parts, lowered_facts}
-use Rattle.vale_lower_facts.specs.Suits.{block_suits, function_suits, all_suit, PartsSuit, Suits}
-use Rattle.vale_lower_facts.proofs.Stands.{Site, Covers, covers_plain, Plain}
-use Rattle.vale_lower_facts.proofs.Runs.{Arrives, Ready, Goes, step, label_mark, Fits, front, back, AllPlain, all_plain, plain_both, Runs}
-use Rattle.vale_lower_facts.proofs.Ways.{Leaves, value_leaves, nothing_leaves}
-use Rattle.vale_lower_facts.proofs.Names.{copies_too, IsFunc, Among, among_front, among_back, Context, Stands}
+use Rattle.vale_lower_facts.specs.Marks.{Marks, mark, block_due, block_marks, param_slots, entry_stand, value_type, last_of, function_marks, function_facts, facts_of_parts, lowered_facts}
+use Rattle.vale_lower_facts.specs.Suits.{function_suits, all_suit, PartsSuit, Suits}
+use Rattle.vale_lower_facts.proofs.Stands.{Site, Covers, covers_plain}
+use Rattle.vale_lower_facts.proofs.Runs.{Arrives, Ready, Goes, step, Fits, front, back, AllPlain, all_plain, plain_both, Runs}
+use Rattle.vale_lower_facts.proofs.Ways.{value_leaves, nothing_leaves}
+use Rattle.vale_lower_facts.proofs.Names.{copies_too, IsFunc, Among, among_same, among_front, among_back, Context, Stands}
 use Rattle.vale_lower_facts.proofs.Tree.{block_runs}
-use Rattle.vale_lower_facts.proofs.Labels.{rises, fits_each, labels_lawful}
+use Rattle.vale_lower_facts.proofs.Labels.{rises, fits_each, copy_lawful, labels_lawful}
 use Rattle.vale_lower_facts.proofs.Entries.{code_param, all_copy, count_names, params_scope, params_gives, named_none, Entered, params_enter, covers_entry}
 
 -- ---- lists
@@ -60,23 +60,15 @@ map_at f [] i x h = absurd (cc)
 map_at f (z ∷ xs) zero x h = let same : z ≡ x = cc in ap (λ q. Some (f q)) same
 map_at f (z ∷ xs) (suc i) x h = map_at f xs i x h
 
-get_first : {A : Type 0} (xs ys : List A) (i : ℕ) (x : A) → slice_get xs i ≡ Some x → slice_get (xs ++ ys) i ≡ Some x
-get_first [] ys i x e = absurd (cc)
-get_first (z ∷ xs) ys zero x e = e
-get_first (z ∷ xs) ys (suc i) x e = get_first xs ys i x e
-
-among_all : (a : List (List ℕ)) → Among a a
-among_all a = record { each = λ i text e. (i, e) }
-
 quotes_among : (fs : List Function) (i : ℕ) (f : Function) → slice_get fs i ≡ Some f → Among (function_quotes f) (flat_map function_quotes fs)
 quotes_among [] i f h = absurd (cc)
 quotes_among (g ∷ fs) zero f h =
     let same : g ≡ f = cc in
     subst (λ q. Among (function_quotes q) (function_quotes g ++ flat_map function_quotes fs)) same
-    (among_front (function_quotes g) (flat_map function_quotes fs) (among_all (function_quotes g ++ flat_map function_quotes fs)))
+    (among_front (function_quotes g) (flat_map function_quotes fs) (among_same (function_quotes g ++ flat_map function_quotes fs)))
 quotes_among (g ∷ fs) (suc i) f h =
     let more = quotes_among fs i f h in
-    let all = among_back (function_quotes g) (flat_map function_quotes fs) (among_all (function_quotes g ++ flat_map function_quotes fs)) in
+    let all = among_back (function_quotes g) (flat_map function_quotes fs) (among_same (function_quotes g ++ flat_map function_quotes fs)) in
     record { each = λ j text e. let d = more.each j text e in all.each d.0 text d.1 }
 
 suits_at : (functions fs : List Function) (i : ℕ) (f : Function) → all_suit functions fs → slice_get fs i ≡ Some f → function_suits functions f
@@ -249,7 +241,7 @@ module _ (p : Parts) (covered : list_all function_is_covered (functions_in p) �
     texts_there =
         subst (λ q. Among q texts) (quotes_same f)
         (let some = quotes_among fs n f at in
-        let all = among_back (map (λ f. name_text p (name_of f)) fs) (flat_map function_quotes fs) (among_all texts) in
+        let all = among_back (map (λ f. name_text p (name_of f)) fs) (flat_map function_quotes fs) (among_same texts) in
         record { each = λ j text e. let d = some.each j text e in all.each d.0 text d.1 })
 
     inner_runs : Runs k 0 inner inner_marks false start due behind_all
@@ -328,14 +320,10 @@ module _ (p : Parts) (covered : list_all function_is_covered (functions_in p) �
         list_all-append (numbers code (func f).registers) inner (end_code around.gives count)
         ∙ and_from _ _ (inner_runs.numbered (front k inner (end_code around.gives count) inner_marks last_mark inner_runs.along fits)) (numbered_end around.gives)
 
-    count_params : (ps : List Param) → length (map code_param ps) ≡ length ps
-    count_params [] = refl
-    count_params (q ∷ ps) = ap suc (count_params ps)
-
     body_lawful : body_is_lawful code (func f) ≡ true
     body_lawful =
         and_from _ _
-        (and_from _ _ (le-leb (length (func f).params) (func f).registers (omega (arith, count_params params, few))) (lt-ltb 0 (length whole) (omega (arith, inside)))) numbered
+        (and_from _ _ (le-leb (length (func f).params) (func f).registers (omega (arith, length-map params code_param, few))) (lt-ltb 0 (length whole) (omega (arith, inside)))) numbered
 
     module _ (reaches : ℕ → Bool) where
       plains : AllPlain k (function_marks around f)
@@ -344,20 +332,9 @@ module _ (p : Parts) (covered : list_all function_is_covered (functions_in p) �
       labels_are : list_all (label_is_lawful code reaches (func f)) (facts_for f).labels ≡ true
       labels_are = labels_lawful k reaches (function_marks around f) 0 (omega (arith, along)) plains
 
-      param_lawful : (x : Ty) → y.is_copy x ≡ true → is_type code reaches (code_type x) ≡ true
-      param_lawful y.int e = refl
-      param_lawful y.bool e = refl
-      param_lawful y.str e = refl
-      param_lawful y.void e = absurd (cc)
-      param_lawful (y.kind m) e = absurd (cc)
-      param_lawful (y.array x) e = absurd (cc)
-      param_lawful (y.ref x) e = absurd (cc)
-      param_lawful (y.imm x) e = absurd (cc)
-      param_lawful (y.iso x) e = absurd (cc)
-
       params_lawful : (ps : List Param) → all_copy ps ≡ true → list_all (is_type code reaches) (map code_param ps) ≡ true
       params_lawful [] e = refl
-      params_lawful (q ∷ ps) e = let w = and_parts (y.is_copy (type_of (param_type q))) (all_copy ps) e in and_from _ _ (param_lawful (type_of (param_type q)) w.0) (params_lawful ps w.1)
+      params_lawful (q ∷ ps) e = let w = and_parts (y.is_copy (type_of (param_type q))) (all_copy ps) e in and_from _ _ (copy_lawful k reaches (code_param q) (copies_too (type_of (param_type q)) w.0)) (params_lawful ps w.1)
 
       result_lawful : (x : Ty) → type_is_covered x ≡ true → is_result code reaches (code_type x) ≡ true
       result_lawful y.int e = refl
@@ -372,7 +349,7 @@ module _ (p : Parts) (covered : list_all function_is_covered (functions_in p) �
 
       named : nat_lt (func f).name (length texts) ≡ true
       named =
-          let here = get_first (map (λ f. name_text p (name_of f)) fs) (flat_map function_quotes fs) n (name_text p (name_of f)) (map_at (λ f. name_text p (name_of f)) fs n f at) in
+          let here = in_front (map (λ f. name_text p (name_of f)) fs) (flat_map function_quotes fs) n (name_text p (name_of f)) (map_at (λ f. name_text p (name_of f)) fs n f at) in
           lt-ltb (func f).name (length texts)
           (slice_get_within texts (func f).name (name_text p (name_of f)) (found_text (name_text p (name_of f)) texts n here))
 

@@ -1,32 +1,31 @@
 -- What the instructions of lowered code do to what is known of the registers.
-use Rattle.std.proofs.Common.{◌≡◌, ◌≢◌, ℕ, zero, suc, ◌+◌, ◌<◌, ◌≤◌, ℤ, List, [], ◌∷◌, ◌++◌, length, map, Option, Some, None, Bool, true, false, not, ◌&&◌, ◌||◌, ◌==◌, if◌then◌else◌, max, refl, sym, ap, ◌∙◌, subst, ⊎_elim, arith}
-use Rattle.std.specs.Prelude.{slice_get, slice_set, nat_lt, nat_le}
+use Rattle.std.proofs.Common.{◌≡◌, ℕ, ◌+◌, ◌<◌, ◌≤◌, ℤ, List, [], ◌∷◌, length, map, Some, None, Bool, true, false, ◌&&◌, max, refl, sym, ap, ◌∙◌, subst, arith}
+use Rattle.std.specs.Prelude.{slice_get, slice_set, nat_lt}
 use Rattle.std.specs.List.{list_all}
-use Rattle.std.proofs.lemmas.Bool.{and_from, lt-ltb, cases_eq}
+use Rattle.std.proofs.lemmas.Bool.{and_parts, and_from, lt-ltb}
 use Rattle.vale_base.specs.declared.spot.Spot.{Spot}
 use Rattle.vale_syntax.specs.Types.{Ty}
 use Rattle.vale_syntax.specs.Types as y
-use Rattle.vale_code.specs.Kinds.{same_type}
-use Rattle.vale_code.specs.declared.func.Func.{Func}
 use Rattle.vale_code.specs.declared.instr.Instr.{Instr}
 use Rattle.vale_code.specs.declared.instr.Instr.TheVariants as i
 use Rattle.vale_code.specs.declared.ty.Ty.{Ty as CodeTy}
 use Rattle.vale_code.specs.declared.ty.Ty.TheVariants as t
-use Rattle.vale_cert.specs.Types.{is_copy, is_owned}
-use Rattle.vale_cert.specs.Known.{Known, fact_of, is_there, has, is_free}
+use Rattle.vale_cert.specs.Types.{is_copy}
+use Rattle.vale_cert.specs.Known.{Known, fact_of, is_there, has}
 use Rattle.vale_cert.specs.Numbers.{numbers}
-use Rattle.vale_cert.specs.Rules.{Row, fine, reads, uses, gets, copies, copy_of, is_copied, is_usable, compares, is_ordered, is_comparable, are_alike, prints, is_printable, is_short, if_types, passes, after_passing, passed, passes_all, comes_back, all_fine, calls, call_by_form}
+use Rattle.vale_cert.specs.Rules.{Row, fine, reads, uses, gets, copy_of, is_copied, is_usable, is_ordered, is_comparable, are_alike, is_printable, is_short, if_types, passed, passes_all}
 use Rattle.vale_cert.specs.Walk.{goes_on, target_of}
 use Rattle.vale_cert.specs.declared.facts.RegFact.{RegFact}
-use Rattle.vale_cert.specs.declared.facts.RegFact.TheVariants.{Empty, Held}
+use Rattle.vale_cert.specs.declared.facts.RegFact.TheVariants.{Held}
 use Rattle.vale_cert.specs.declared.rules.Kept.{Kept}
 use Rattle.vale_lower.specs.Instructions.{registers_from}
-use Rattle.vale_lower.specs.Lowered.{room_for, room_of}
+use Rattle.vale_lower.specs.Lowered.{room_for}
 use Rattle.vale_lower.specs.Scopes.{code_type}
-use Rattle.vale_lower_facts.specs.Slots.{Slot, slot_register, slot_type, local, waits, holds, Stand, with_slot, given, Last, type_at}
+use Rattle.vale_lower_facts.specs.Slots.{Slot, slot_register, slot_type, holds, Stand, with_slot, type_at}
 use Rattle.vale_lower_facts.specs.Marks.{mark}
-use Rattle.vale_lower_facts.proofs.Stands.{Site, Covers, Says, says_same, says_then, says_with, covers_less, covers_write, covers_kept, covers_again, is_plain, plain_free, plain_less, plain_slot}
-use Rattle.vale_lower_facts.proofs.Runs.{row_at, next_known, Does, Runs, single}
+use Rattle.vale_lower_facts.proofs.Stands.{Site, Covers, Says, covers_less, covers_write, covers_kept, covers_again, plain_free, plain_less, plain_slot}
+use Rattle.vale_lower_facts.proofs.Names.{copies_too}
+use Rattle.vale_lower_facts.proofs.Runs.{row_at, Does, Runs, single}
 
 -- ---- rules that are kept
 
@@ -214,8 +213,8 @@ module _ (k : Site) where
       → Fine (record { types = is_comparable choice a && is_comparable choice b && are_alike a b; present = is_there a && is_there b; depths = true })
   both_alike choice ty a b o copy ea eb = record {
     types =
-    and_from _ _ (and_from _ _ (ap (is_comparable choice) ea ∙ o) (ap (is_comparable choice) eb ∙ o))
-    (ap (λ x. are_alike x b) ea ∙ ap (are_alike (Held ty 0 false)) eb ∙ (own ty copy).alike);
+        and_from _ _ (and_from _ _ (ap (is_comparable choice) ea ∙ o) (ap (is_comparable choice) eb ∙ o))
+        (ap (λ x. are_alike x b) ea ∙ ap (are_alike (Held ty 0 false)) eb ∙ (own ty copy).alike);
     present = and_from _ _ (ap is_there ea) (ap is_there eb);
     depths = refl;
   }
@@ -292,21 +291,6 @@ module _ (k : Site) where
       → Fine (passes_all depth (map code_type tys) (registers_from h (length tys)) row).kept × ((passes_all depth (map code_type tys) (registers_from h (length tys)) row).after ≡ regs)
   all_passed depth regs h [] row copy st same f = (f, same)
   all_passed depth regs h (ty ∷ tys) row copy st same f =
-      let c = and_two (y.is_copy ty) (list_all y.is_copy tys) copy in
+      let c = and_parts (y.is_copy ty) (list_all y.is_copy tys) copy in
       let one = one_passed depth regs h (code_type ty) row (copies_too ty c.0) st.0 same f in
       all_passed depth regs (h + 1) tys (passed depth h (code_type ty) row) c.1 st.1 one.1 one.0
-    where
-      and_two : (a b : Bool) → (a && b) ≡ true → (a ≡ true) × (b ≡ true)
-      and_two true b e = (refl, e)
-      and_two false b e = absurd (cc)
-
-      copies_too : (x : Ty) → y.is_copy x ≡ true → is_copy (code_type x) ≡ true
-      copies_too y.int e = refl
-      copies_too y.bool e = refl
-      copies_too y.str e = refl
-      copies_too y.void e = absurd (cc)
-      copies_too (y.kind m) e = absurd (cc)
-      copies_too (y.array x) e = absurd (cc)
-      copies_too (y.ref x) e = absurd (cc)
-      copies_too (y.imm x) e = absurd (cc)
-      copies_too (y.iso x) e = absurd (cc)

@@ -1,25 +1,23 @@
 -- How the walk of a function goes through parts of its code: where the walk goes through what stands behind a part, from whatever
 -- covers the place behind it, it goes through the part too, from whatever covers the place before it.
-use Rattle.std.proofs.Common.{◌≡◌, ◌≢◌, ℕ, zero, suc, ◌+◌, ◌<◌, ◌≤◌, List, [], ◌∷◌, ◌++◌, length, Option, Some, None, Bool, true, false, ◌&&◌, ◌||◌, if◌then◌else◌, max, refl, sym, ap, ◌∙◌, subst, arith, length-append, append_assoc}
+use Rattle.std.proofs.Common.{◌≡◌, ℕ, ◌+◌, ◌<◌, ◌≤◌, List, [], ◌∷◌, ◌++◌, length, Option, Some, None, Bool, true, false, ◌&&◌, if◌then◌else◌, refl, sym, ap, ◌∙◌, subst, arith, length-append, append_assoc}
 use Rattle.std.specs.List.{list_all}
 use Rattle.std.proofs.lemmas.Bool.{and_from, lt-ltb}
 use Rattle.std.proofs.lemmas.List.Folds.{list_all-append}
 use Rattle.vale_code.specs.declared.instr.Instr.{Instr}
 use Rattle.vale_code.specs.declared.instr.Instr.TheVariants as i
-use Rattle.vale_code.specs.declared.ty.Ty.{Ty as CodeTy}
 use Rattle.vale_code.specs.declared.ty.Ty.TheVariants as t
 use Rattle.vale_cert.specs.Known.{Known, fact_of, is_there, has, label_at, is_label, may_enter, stated}
 use Rattle.vale_cert.specs.Numbers.{numbers}
 use Rattle.vale_cert.specs.Rules.{Row}
 use Rattle.vale_cert.specs.Walk.{Rules, broken, fault_of, or_else, row_of, after, enters, has_target, next_of, is_place, rules, known_after, if_known, walk, goes_on, target_of}
 use Rattle.vale_cert.specs.declared.facts.Label.{Label}
-use Rattle.vale_cert.specs.declared.facts.RegFact.{RegFact}
 use Rattle.vale_cert.specs.declared.facts.RegFact.TheVariants.{Held}
 use Rattle.vale_cert.specs.declared.fault.Fault.{Fault}
 use Rattle.vale_lower.specs.Lowered.{room_for}
-use Rattle.vale_lower_facts.specs.Slots.{Stand, behind, Last, type_at, label_for}
-use Rattle.vale_lower_facts.specs.Marks.{Marks, mark, if_marks, loop_marks}
-use Rattle.vale_lower_facts.proofs.Stands.{Site, Covers, Says, says_same, says_then, covers_less, Plain, plain_less, covers_plain, plain_behind, enters_label, known_of, covers_stated, covers_kept}
+use Rattle.vale_lower_facts.specs.Slots.{Stand, type_at, label_for}
+use Rattle.vale_lower_facts.specs.Marks.{Marks, mark}
+use Rattle.vale_lower_facts.proofs.Stands.{Site, Covers, Says, covers_less, Plain, plain_less, covers_plain, enters_label, known_of, covers_stated, covers_kept}
 
 one_kept : (n : ℕ) (a : Bool) (rest : Rules) → a ≡ true → broken rest ≡ None → broken ((n, a) ∷ rest) ≡ None
 one_kept n true rest e h = h
@@ -109,22 +107,22 @@ module _ (k : Site) where
   step p false s instr rest e go = record {
     labelled = λ x. absurd (cc);
     arrives = λ known c.
-    record {
-      enters = subst (λ o. may_enter o known ≡ true) (sym e) refl;
-      inside = (go known c).inside;
-      walks = walk_by p instr rest (Some known) known (ap (λ o. stated o (Some known)) e) (go known c);
-    };
+        record {
+          enters = subst (λ o. may_enter o known ≡ true) (sym e) refl;
+          inside = (go known c).inside;
+          walks = walk_by p instr rest (Some known) known (ap (λ o. stated o (Some known)) e) (go known c);
+        };
   }
   step p true s instr rest e go = record {
     labelled = λ x. ap is_label e;
     arrives = λ known c.
-    record {
-      enters = subst (λ o. may_enter o known ≡ true) (sym e) (enters_label k p c);
-      inside = (go known c).inside;
-      walks =
-      walk_by p instr rest (Some known) (known_of k s) (ap (λ o. stated o (Some known)) e)
-      (go (known_of k s) (covers_stated k s (covers_plain k c)));
-    };
+        record {
+          enters = subst (λ o. may_enter o known ≡ true) (sym e) (enters_label k p c);
+          inside = (go known c).inside;
+          walks =
+              walk_by p instr rest (Some known) (known_of k s) (ap (λ o. stated o (Some known)) e)
+              (go (known_of k s) (covers_stated k s (covers_plain k c)));
+        };
   }
 
   -- a label that nothing runs into
@@ -268,19 +266,16 @@ module _ (k : Site) where
   pub runs_less : {p : ℕ} {cs : List Instr} {ms : Marks} {due d : Bool} {s u v : Stand} → Runs p cs ms due s d u → Says k u v → Runs p cs ms due s d v
   runs_less x a = record { along = x.along; numbered = x.numbered; ready = λ f rest r. x.ready f rest (ready_more a r); plains = λ p. (plain_less k a (x.plains p).0, (x.plains p).1) }
 
-  pub runs_more : {p : ℕ} {cs : List Instr} {ms : Marks} {due d : Bool} {s u v : Stand} → Says k v s → Runs p cs ms due s d u → Runs p cs ms due v d u
-  runs_more a x = record { along = x.along; numbered = x.numbered; ready = λ f rest r. ready_more a (x.ready f rest r); plains = λ p. x.plains (plain_less k a p) }
-
   -- one part and then another
   pub both : {p : ℕ} {a b : List Instr} {ma mb : Marks} {due d e : Bool} {s u v : Stand} → Runs p a ma due s d u → Runs (p + length a) b mb d u e v → Runs p (a ++ b) (ma ++ mb) due s e v
   both {p} {a} {b} {ma} {mb} {due} {d} {e} {s} {u} {v} x z = record {
     along = length-append ma mb ∙ ap (λ n. n + length mb) x.along ∙ ap (λ n. length a + n) z.along ∙ sym (length-append a b);
     numbered = λ f.
-    list_all-append (numbers k.code k.func.registers) a b ∙ and_from _ _ (x.numbered (front a b ma mb x.along f)) (z.numbered (back a b ma mb x.along f));
+        list_all-append (numbers k.code k.func.registers) a b ∙ and_from _ _ (x.numbered (front a b ma mb x.along f)) (z.numbered (back a b ma mb x.along f));
     ready = λ f rest r.
-    subst (λ l. Ready p due s l) (sym (append_assoc a b rest))
-    (x.ready (front a b ma mb x.along f) (b ++ rest)
-    (z.ready (back a b ma mb x.along f) rest (subst (λ q. Ready q e v rest) (let z : p + length (a ++ b) ≡ p + length a + length b = omega (arith, length-append a b) in z) r)));
+        subst (λ l. Ready p due s l) (sym (append_assoc a b rest))
+        (x.ready (front a b ma mb x.along f) (b ++ rest)
+        (z.ready (back a b ma mb x.along f) rest (subst (λ q. Ready q e v rest) (let z : p + length (a ++ b) ≡ p + length a + length b = omega (arith, length-append a b) in z) r)));
     plains = λ p. let one = x.plains p in let two = z.plains one.0 in (two.0, plain_both ma mb one.1 two.1);
   }
 

@@ -1,22 +1,21 @@
 -- What is known of registers against what the slots of a place say.
-use Rattle.std.proofs.Common.{◌≡◌, ◌≢◌, ℕ, zero, suc, ◌+◌, ◌<◌, ◌≤◌, List, [], ◌∷◌, length, Option, Some, None, Bool, true, false, ◌&&◌, ◌||◌, ◌==◌, if◌then◌else◌, refl, sym, ap, ◌∙◌, subst, ⊎_elim, ◌⊎◌, inl, inr, arith}
-use Rattle.std.specs.Prelude.{slice_get, slice_set}
+use Rattle.std.proofs.Common.{◌≡◌, ◌≢◌, ℕ, zero, suc, ◌+◌, ◌<◌, ◌≤◌, List, [], ◌∷◌, length, Option, Some, None, Bool, true, false, ◌&&◌, ◌||◌, ◌==◌, if◌then◌else◌, refl, sym, ap, ◌∙◌, subst, ⊎_elim, arith}
+use Rattle.std.specs.Prelude.{slice_set}
 use Rattle.std.proofs.lemmas.Bool.{and_from, cases_eq, eq-eqb, eqb-true, ne_eqb}
 use Rattle.std.proofs.lemmas.List.{length-set}
 use Rattle.vale_syntax.specs.Types.{Ty}
-use Rattle.vale_syntax.specs.Types as y
 use Rattle.vale_code.specs.Kinds.{same_type}
 use Rattle.vale_code.specs.Parts.{Parts as Code}
 use Rattle.vale_code.specs.declared.func.Func.{Func}
 use Rattle.vale_code.specs.declared.ty.Ty.{Ty as CodeTy}
 use Rattle.vale_code.specs.declared.ty.Ty.TheVariants as t
-use Rattle.vale_cert.specs.Types.{is_copy, is_owned}
-use Rattle.vale_cert.specs.Known.{Known, or_empty, fact_of, is_free, agrees, agree, may_enter}
+use Rattle.vale_cert.specs.Types.{is_copy}
+use Rattle.vale_cert.specs.Known.{Known, fact_of, is_free, agrees, agree, may_enter}
 use Rattle.vale_cert.specs.declared.facts.Label.{Label}
 use Rattle.vale_cert.specs.declared.facts.RegFact.{RegFact}
 use Rattle.vale_cert.specs.declared.facts.RegFact.TheVariants.{Empty, Held}
 use Rattle.vale_lower.specs.Scopes.{code_type}
-use Rattle.vale_lower_facts.specs.Slots.{Slot, Slots, local, waits, holds, slot_register, slot_type, Stand, with_slot, given, behind, slot_at, Last, or_last, type_at, fact_for, facts_from, label_for}
+use Rattle.vale_lower_facts.specs.Slots.{Slot, holds, slot_register, slot_type, Stand, with_slot, given, behind, slot_at, Last, or_last, type_at, fact_for, facts_from, label_for}
 
 -- ---- facts
 
@@ -36,19 +35,6 @@ fact_other (y ∷ regs) (suc q) (suc r) x ne = fact_other regs q r x (λ e. ne (
 abbrev pub is_plain : RegFact → Bool
 is_plain Empty = true
 is_plain (Held ty depth live) = is_copy ty
-
-pub copy_not_owned : (ty : CodeTy) → is_copy ty ≡ true → is_owned ty ≡ false
-copy_not_owned t.Int e = refl
-copy_not_owned t.Truth e = refl
-copy_not_owned t.Text e = refl
-copy_not_owned t.Void e = absurd (cc)
-copy_not_owned (t.Own k) e = absurd (cc)
-copy_not_owned (t.Ref k) e = absurd (cc)
-copy_not_owned (t.Frozen k) e = absurd (cc)
-copy_not_owned (t.Iso k) e = absurd (cc)
-
-not_true : (b : Bool) → b ≡ false → (if b then false else true) ≡ true
-not_true b e = ap (λ x. if x then false else true) e
 
 pub plain_free : (x : RegFact) → is_plain x ≡ true → is_free x ≡ true
 plain_free Empty e = refl
@@ -365,7 +351,7 @@ module _ (k : Site) where
       and_from (0 == known.depth) (agree (facts_from k.last s 0 k.func.registers) known.regs) (eq-eqb 0 known.depth (sym c.depth))
       (agree_from s 0 k.func.registers known.regs c.size c.plain (λ q ty lt e. c.held q ty lt (subst (λ x. type_at k.last s x ≡ Some ty) (let z : 0 + q ≡ q = omega arith in z) e)))
 
-  length_facts : (s : Stand) (r count : ℕ) → length (facts_from k.last s r count) ≡ count
+  pub length_facts : (s : Stand) (r count : ℕ) → length (facts_from k.last s r count) ≡ count
   length_facts s r zero = refl
   length_facts s r (suc count) = ap suc (length_facts s (r + 1) count)
 

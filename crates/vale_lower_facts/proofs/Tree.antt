@@ -1,5 +1,5 @@
 -- The walk goes through the code of each part of a program whose types fit.
-use Rattle.std.proofs.Common.{◌≡◌, ◌≢◌, ℕ, zero, suc, ◌+◌, ◌<◌, ◌≤◌, pos, List, [], ◌∷◌, ◌++◌, length, map, Option, Some, None, Bool, true, false, not, ◌&&◌, ◌||◌, if◌then◌else◌, refl, sym, ap, ◌∙◌, subst, arith}
+use Rattle.std.proofs.Common.{◌≡◌, ℕ, ◌+◌, ◌<◌, pos, List, [], ◌∷◌, ◌++◌, length, Option, Some, None, Bool, true, false, ◌&&◌, ◌||◌, refl, sym, ap, ◌∙◌, subst, arith}
 use Rattle.std.specs.Prelude.{slice_get, nat_le}
 use Rattle.std.specs.List.{list_all}
 use Rattle.std.proofs.lemmas.Bool.{and_parts, and_from}
@@ -12,30 +12,29 @@ use Rattle.vale_syntax.specs.declared.tree.UnaryOp.{UnaryOp}
 use Rattle.vale_syntax.specs.declared.tree.UnaryOp.TheVariants as unary_op
 use Rattle.vale_syntax.specs.Types.{Ty}
 use Rattle.vale_syntax.specs.Types as y
-use Rattle.vale_syntax.specs.TypeRules.{takes_operands, link_gives}
-use Rattle.vale_syntax.specs.Typed.{Callee, built_in, constructor, function, Expr, expr, Node, set, chain, unary, steps, number, quote, truth, name, call, paren, array, iso, form, Exprs, no_exprs, more_exprs, Link, link, Links, no_links, more_links, Form, branch, pure, parallel_range, parallel_each, else_if, Elses, no_else, otherwise, more_elses, Block, block, Stmt, declare, destructure, return_nothing, return_value, while, foreach, form_stmt, express, Stmts, no_stmts, last, more_stmts, Function, type, types, block_type}
-use Rattle.vale_syntax.specs.Typing.{Env, with_local, after}
+use Rattle.vale_syntax.specs.Typed.{built_in, constructor, function, Expr, expr, Node, set, chain, unary, steps, number, quote, truth, name, call, paren, array, iso, form, Exprs, no_exprs, more_exprs, link, Links, no_links, more_links, Form, branch, pure, parallel_range, parallel_each, else_if, Elses, no_else, otherwise, more_elses, Block, block, Stmt, declare, destructure, return_nothing, return_value, while, foreach, form_stmt, express, Stmts, no_stmts, last, more_stmts, Function, type, types, block_type}
+use Rattle.vale_syntax.specs.Typing.{Env, with_local}
 use Rattle.vale_code.specs.declared.instr.Instr.{Instr}
 use Rattle.vale_code.specs.declared.instr.Instr.TheVariants as i
 use Rattle.vale_code.specs.declared.ty.Ty.TheVariants as t
 use Rattle.vale_cert.specs.Rules.{is_short}
 use Rattle.vale_lower.specs.Covered.{type_is_covered, unary_is_covered, callee_is_covered, is_local, expr_is_covered, node_is_covered, exprs_are_covered, links_are_covered, form_is_covered, elses_are_covered, block_is_covered, stmts_are_covered, stmt_is_covered}
-use Rattle.vale_lower.specs.Instructions.{only_if, load, store, exchange, link_code, unary_code, count_code}
-use Rattle.vale_lower.specs.Lowered.{count, truth_number, callee_code, set_code, store_code, expr_code, value_code, node_code, args_code, links_code, form_code, elses_code, block_code, stmts_code, stmt_code, unused_code}
-use Rattle.vale_lower.specs.Scopes.{Around, Scope, place_of, code_type, agree, number_of_text}
+use Rattle.vale_lower.specs.Instructions.{only_if, load, store, exchange, link_code, count_code}
+use Rattle.vale_lower.specs.Lowered.{truth_number, set_code, store_code, expr_code, value_code, node_code, args_code, links_code, form_code, elses_code, block_code, stmts_code, stmt_code, unused_code}
+use Rattle.vale_lower.specs.Scopes.{Around, place_of, code_type, agree, number_of_text}
 use Rattle.vale_lower.specs.Texts.{is_lawful_text, is_byte, expr_quotes, node_quotes, exprs_quotes, links_quotes, form_quotes, elses_quotes, block_quotes, stmts_quotes, stmt_quotes}
 use Rattle.vale_lower.proofs.Lookups.{found_text}
-use Rattle.vale_lower_facts.specs.Slots.{Slot, slot_register, slot_type, local, waits, holds, Stand, scope_at, with_slot, given, behind, Last, type_at}
+use Rattle.vale_lower_facts.specs.Slots.{local, waits, holds, Stand, scope_at, with_slot, given, behind, type_at}
 use Rattle.vale_lower_facts.specs.Returned.{block_returns, stmts_return, stmt_returns, expr_returns, node_returns, form_returns, elses_return}
 use Rattle.vale_lower_facts.specs.Marks.{Marks, mark, marked, only_marks, with_args, counted, count_marks, link_due, links_due, form_due, expr_due, node_due, value_due, unused_due, args_due, stmt_due, stmts_due, block_due, expr_marks, value_marks, node_marks, args_marks, links_marks, form_marks, elses_marks, block_marks, stmts_marks, stmt_marks, unused_marks}
-use Rattle.vale_lower_facts.specs.Suits.{unary_suits, IsLocal, IsCalled, IsBuiltIn, set_suits, callee_suits, expr_suits, node_suits, exprs_suit, links_suit, form_suits, elses_suit, block_suits, stmts_suit, stmt_suits}
-use Rattle.vale_lower_facts.proofs.Stands.{Site, Below, below_up, below_slot, below_behind, nothing_at, type_here, type_there, Says, says_same, says_then, says_slot, says_again, says_with, says_behind, says_returns, says_both, says_given, says_ungiven, Within, within_same, within_behind, within_slot, says_within}
-use Rattle.vale_lower_facts.proofs.Runs.{Runs, nothing, runs_less, runs_more, both}
+use Rattle.vale_lower_facts.specs.Suits.{unary_suits, IsLocal, set_suits, expr_suits, node_suits, exprs_suit, links_suit, form_suits, elses_suit, block_suits, stmts_suit, stmt_suits}
+use Rattle.vale_lower_facts.proofs.Stands.{Site, Below, below_behind, type_here, Says, says_same, says_then, says_slot, says_again, says_with, says_behind, says_returns, says_both, says_given, says_ungiven, Within, within_same, within_behind, within_slot, says_within}
+use Rattle.vale_lower_facts.proofs.Runs.{Runs, nothing, runs_less, both}
 use Rattle.vale_lower_facts.proofs.Ways.{if_runs, loop_runs, ret_runs, void_runs}
 use Rattle.vale_lower_facts.proofs.Rows.{int_runs, truth_runs, text_runs, copy_runs, store_runs, add_runs, sub_runs, cmp_runs}
 use Rattle.vale_lower_facts.proofs.Names.{copies_too, covered_copy, Among, among_front, among_back, Context, Placed, Stands, stands_up, stands_behind, stands_holds, stands_waits, stands_local}
-use Rattle.vale_lower_facts.proofs.Operators.{operands_copy, gives_copy, chosen, chosen_too, chosen_marked, runs_due, as_given, two, below_two, says_two, first_of, second_of, Operand, link_runs, unary_runs}
-use Rattle.vale_lower_facts.proofs.Callees.{agree_same, built_in_runs, call_runs, args_copy, built_in_copies}
+use Rattle.vale_lower_facts.proofs.Operators.{operands_copy, gives_copy, chosen, chosen_too, runs_due, as_given, two, below_two, says_two, first_of, second_of, link_runs, unary_runs}
+use Rattle.vale_lower_facts.proofs.Callees.{agree_with_itself, built_in_runs, call_runs, args_copy, built_in_copies}
 
 unary_copy : (o : UnaryOp) (ty x : Ty) → unary_is_covered o ≡ true → unary_suits o ty x → (y.is_copy ty ≡ true) × (y.is_copy x ≡ true)
 unary_copy unary_op.Minus ty x cov su = (ap y.is_copy su.0, ap y.is_copy su.1)
@@ -275,9 +274,6 @@ module _ (k : Site) (c : Context k) where
       runs_due k (sym gives) (chosen k (agree a.gives false) h gives (void_runs k (c.result_is ∙ ap code_type is)))
 
   -- a loop over numbers, from the runs of its body
-  abbrev counting : NameAt → ℕ → Stand → Stand
-  counting n h s = with_slot (local n.name.0 (h + 1 + 1) y.int) s
-
   module _ (n : NameAt) (at : Spot) (x z : Ty) (is_x : x ≡ y.int) (is_z : z ≡ y.int) (h : ℕ) (s : Stand) (b : Below k h s) where
     abbrev r : ℕ
     r = h + 1 + 1
@@ -352,7 +348,7 @@ module _ (k : Site) (c : Context k) where
     node_runs env x (name n true) p h s due su cx cov q st = absurd (cc)
     node_runs env x (name n false) p h s due su cx cov q st = load_runs n x su st
     node_runs env x (paren at e) p h s due su cx cov q st =
-        let same = agree_same (y.is_copy (type e)) in
+        let same = agree_with_itself (y.is_copy (type e)) in
         subst (λ x. NodeRuns x (paren at e) p h s due) (sym su.0)
         (runs_due k (ap (λ b. b && expr_due e) (sym same))
         (chosen_too k (agree (y.is_copy (type e)) (y.is_copy (type e))) h same

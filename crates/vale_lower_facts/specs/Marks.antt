@@ -3,25 +3,21 @@
 -- A part of the code doesn't label the place behind it, where another part may end too. It says whether that place is due a label,
 -- and the instruction that stands there is marked with what is known where its own part begins, which is never more. So one walk
 -- emits code and labels: whether a label is due is handed on, and the next instruction is put down together with its label.
-use Rattle.std.specs.Prelude.{ℕ, suc, ◌+◌, Bool, true, false, ◌&&◌, List, [], ◌∷◌, ◌++◌, length, map, Option, Some, None, if◌then◌else◌}
-use Rattle.vale_text.specs.Operations.{is_int}
+use Rattle.std.specs.Prelude.{ℕ, ◌+◌, Bool, true, false, ◌&&◌, List, [], ◌∷◌, ◌++◌, length, map, Option, Some, None, if◌then◌else◌}
 use Rattle.vale_syntax.specs.declared.tree.BinaryOp.{BinaryOp}
 use Rattle.vale_syntax.specs.declared.tree.BinaryOp.TheVariants as op
-use Rattle.vale_syntax.specs.declared.tree.NameAt.{NameAt}
 use Rattle.vale_syntax.specs.Tree.{Param, param}
-use Rattle.vale_syntax.specs.Declarations.{head_params, param_type}
+use Rattle.vale_syntax.specs.Declarations.{head_params}
 use Rattle.vale_syntax.specs.Types.{Ty, int, bool, is_copy, type_of}
-use Rattle.vale_syntax.specs.Typed.{Expr, expr, Node, set, chain, unary, steps, number, quote, truth, name, call, paren, array, iso, form, Exprs, no_exprs, more_exprs, Link, link, Links, no_links, more_links, Form, branch, pure, parallel_range, parallel_each, else_if, Elses, no_else, otherwise, more_elses, Block, block, Stmt, declare, destructure, return_nothing, return_value, while, foreach, form_stmt, express, Stmts, no_stmts, last, more_stmts, Function, Typed, type, block_type}
+use Rattle.vale_syntax.specs.Typed.{Expr, expr, Node, set, chain, unary, steps, number, quote, truth, name, call, paren, array, iso, form, Exprs, no_exprs, more_exprs, link, Links, no_links, more_links, Form, branch, pure, parallel_range, parallel_each, else_if, Elses, no_else, otherwise, more_elses, Block, block, Stmt, declare, destructure, return_nothing, return_value, while, foreach, form_stmt, express, Stmts, no_stmts, last, more_stmts, Function, Typed, type, block_type}
 use Rattle.vale_model.specs.Kinds.{head_of, body_of}
 use Rattle.vale_model.specs.Parts.{Parts, parts_of}
-use Rattle.vale_code.specs.declared.func.Func.{Func}
 use Rattle.vale_code.specs.declared.instr.Instr.{Instr}
 use Rattle.vale_code.specs.declared.ty.Ty.{Ty as CodeTy}
 use Rattle.vale_cert.specs.declared.facts.FuncFacts.{FuncFacts}
 use Rattle.vale_cert.specs.declared.facts.Label.{Label}
-use Rattle.vale_lower.specs.Instructions.{load, unary_code}
-use Rattle.vale_lower.specs.Scopes.{code_type, place_of, agree, Around, result_type}
-use Rattle.vale_lower.specs.Texts.{is_lawful_text}
+use Rattle.vale_lower.specs.Instructions.{unary_code}
+use Rattle.vale_lower.specs.Scopes.{code_type, agree, Around, result_type}
 use Rattle.vale_lower.specs.Lowered.{count, callee_code, set_code, store_code, around_of, names_in, lowered_function, functions_in, texts_in}
 use Rattle.vale_lower_facts.specs.Returned.{block_returns, stmt_returns, expr_returns}
 use Rattle.vale_lower_facts.specs.Slots.{Slots, local, waits, holds, Stand, scope_at, with_slot, given, behind, Last, label_for}
