@@ -1,0 +1,11 @@
+mod Copies
+mod Fine
+mod Fits
+mod Functions
+mod Lexed
+mod Literals
+mod Main
+mod Parts
+mod Returns
+mod Served
+mod Sound

@@ -1,0 +1,40 @@
+//! What holds of every program that the phases accept: laws of the definitions, the contracts of functions that do nothing.
+
+ghost use Rattle.std.specs.Prelude.{◌≡◌, ℕ, List, true};
+ghost use Rattle.std.specs.List.{list_all};
+ghost use Rattle.vale_syntax.specs.Tree.{Tree};
+ghost use Rattle.vale_syntax.specs.Typed.{Typed};
+ghost use Rattle.vale_syntax.specs.WellFormed.{WellFormed};
+ghost use Rattle.vale_syntax.specs.declared.decls.Decls.{Decls};
+ghost use Rattle.vale_front.specs.Front.{Serves, Accepts};
+ghost use Rattle.vale_lower.specs.Covered.{is_covered};
+ghost use Rattle.vale_lower.specs.Texts.{is_byte};
+ghost use Rattle.vale_lower_facts.specs.Suits.{Suits};
+ghost use Rattle.vale_sound.specs.Runs.{Runs};
+
+use vale_lower::lowered_code_does_what_is_meant;
+use vale_lower_facts::{lowered_code_is_certified, suitable_code_does_what_is_meant};
+
+/// The types of a well-formed program fit, where its text is one of bytes and it is one of those that are lowered.
+pub fn well_formed_programs_suit()
+    ensures { (text : List ℕ) (tree : Tree) (decls : Decls) (program : Typed) → list_all is_byte text ≡ true → WellFormed text tree decls program
+        → is_covered program ≡ true → Suits program }
+{}
+
+/// What the front serves is among what is lowered.
+pub fn served_programs_are_covered()
+    ensures { (tree : Tree) (decls : Decls) (program : Typed) → Serves tree decls program → is_covered program ≡ true }
+{}
+
+/// The code of a program whose text is accepted is certified, takes no input, never goes wrong, does exactly what the program
+/// means and needs as many frames; the text is one of bytes.
+pub fn accepted_programs_run()
+    ensures { (text : List ℕ) (tree : Tree) (decls : Decls) (program : Typed) → list_all is_byte text ≡ true → Accepts text tree decls program
+        → Runs program }
+{
+    served_programs_are_covered();
+    well_formed_programs_suit();
+    lowered_code_is_certified();
+    suitable_code_does_what_is_meant();
+    lowered_code_does_what_is_meant();
+}

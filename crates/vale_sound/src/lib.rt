@@ -1,0 +1,7 @@
+//! What the phases that refuse promise to those that compile: the types of a program that is accepted fit, all of it is
+//! lowered, and so its code does what it means.
+#![tactic(auto)]
+
+mod laws;
+
+pub use laws::{accepted_programs_run, served_programs_are_covered, well_formed_programs_suit};
