@@ -25,4 +25,6 @@ mod run_tests;
 #[cfg(test)]
 mod trap_tests;
 #[cfg(test)]
+mod verifier_tests;
+#[cfg(test)]
 mod words_tests;

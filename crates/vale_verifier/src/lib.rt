@@ -7,8 +7,6 @@ mod judge;
 mod known;
 mod labels;
 mod rules;
-#[cfg(test)]
-mod tests;
 mod verified;
 mod verifier;
 mod walk;

@@ -1,9 +1,10 @@
-use crate::{VerifyFault, certified, verify};
+// Which facts certify a code, and how a fault of certificates is told.
 use std::alloc::Global;
 use std::test::Fail;
-use vale_base::{Memory, Text};
+use vale_base::{Fail as Fault, Memory, Text};
 use vale_cert::{Facts, FuncFacts};
 use vale_code::{Code, Func, Instr, Sequence, Ty};
+use vale_verifier::{VerifyFault, certified, verify};
 
 // The code that prints 7, with this last instruction.
 fn seven(alloc: Global, last: Instr) -> Result<Code, Memory> {
@@ -51,12 +52,7 @@ fn a_code_that_runs_past_its_end_is_refused_there(rt: HostRuntime) -> Result<(),
     let code = seven(rt.alloc(), Instr::Tick).ok().ok_or("memory")?;
     let facts = no_labels(rt.alloc()).ok().ok_or("memory")?;
     let answer = verify(rt.alloc(), code, facts);
-    assert!(rt;
-        matches!(
-            answer,
-            Err(vale_base::Fail::Is(VerifyFault { rule: 7, at: 2 }))
-        )
-    );
+    assert!(rt; matches!(answer, Err(Fault::Is(VerifyFault { rule: 7, at: 2 }))));
     Ok(())
 }
 
