@@ -1,17 +1,15 @@
 -- A code whose shape is as it must be, function by function.
-use Rattle.std.proofs.Common.{◌≡◌, ℕ, zero, suc, ◌+◌, ◌<◌, ◌≤◌, List, [], ◌∷◌, ◌++◌, length, get_or, take, drop, Bool, true, false, Some, None, Option, ◌&&◌, if◌then◌else◌, refl, sym, ap, ◌∙◌, subst, arith, add-one}
+use Rattle.std.proofs.Common.{◌≡◌, ℕ, zero, suc, ◌+◌, ◌<◌, ◌≤◌, List, [], ◌∷◌, ◌++◌, length, get_or, take, drop, Bool, true, false, Some, None, Option, ◌&&◌, if◌then◌else◌, refl, sym, ap, ◌∙◌, arith, add-one}
 use Rattle.std.proofs.lemmas.List.{drop_more, take_more}
 use Rattle.std.proofs.lemmas.List.Folds.{list_all-append}
-use Rattle.std.proofs.lemmas.Bool.{and_parts, and_from, eqb-true, leb-true, le-leb}
+use Rattle.std.proofs.lemmas.Bool.{and_parts, and_from, leb-true, le-leb}
 use Rattle.std.specs.Prelude.{nat_le, nat_lt, ◌==◌, slice_get}
 use Rattle.vale_shape.proofs.ShapeLaws.{drop_none, drop_some}
 use Rattle.std.specs.List.{list_all}
 use Rattle.vale_code.specs.Parts.{Parts}
 use Rattle.vale_code.specs.Sizes.{instructions}
 use Rattle.vale_code.specs.declared.func.Func.{Func}
-use Rattle.vale_code.specs.declared.instr.Instr.{Instr}
-use Rattle.vale_cert.specs.Certificate.{first_fault, rule_one}
-use Rattle.vale_cert.specs.Known.{Known, entry, label_at, rise, may_enter}
+use Rattle.vale_cert.specs.Known.{entry, label_at, rise, may_enter}
 use Rattle.vale_cert.specs.Numbers.{numbers}
 use Rattle.vale_cert.specs.Shape.{shape_fault, or_else as or_number, counted_after, kinds_fault, impls_fault, funcs_fault, func_is_lawful, head_is_lawful, body_is_lawful, has_live, label_is_lawful, fact_is_lawful, is_main}
 use Rattle.vale_cert.specs.Types.{reaches_isolate, ◌⇒◌}

@@ -1,20 +1,20 @@
 -- The rules of one instruction, and what the walk makes of them.
-use Rattle.std.proofs.Common.{◌≡◌, ℕ, ◌+◌, ◌<◌, ◌≤◌, List, [], ◌∷◌, length, get_or, drop, Bool, true, false, Some, None, Option, ◌&&◌, if◌then◌else◌, refl, sym, ap, ◌∙◌, subst, arith}
+use Rattle.std.proofs.Common.{◌≡◌, ℕ, ◌+◌, ◌<◌, List, [], ◌∷◌, length, get_or, drop, Bool, true, false, Some, None, Option, ◌&&◌, if◌then◌else◌, refl, sym, ap, ◌∙◌, subst}
 use Rattle.std.proofs.lemmas.List.{drop_more}
 use Rattle.std.proofs.lemmas.Bool.{and_parts, eqb-true}
-use Rattle.std.specs.Prelude.{IfSome, ◌==◌, option_copied}
+use Rattle.std.specs.Prelude.{IfSome, ◌==◌}
 use Rattle.std.specs.List.{list_all}
 use Rattle.vale_code.specs.Parts.{Parts}
 use Rattle.vale_code.specs.declared.func.Func.{Func}
 use Rattle.vale_code.specs.declared.instr.Instr.{Instr}
 use Rattle.vale_cert.specs.Known.{Known, label_at, stated, may_enter}
 use Rattle.vale_cert.specs.Rules.{Row, row}
-use Rattle.vale_cert.specs.Walk.{broken, rules, enters, has_target, next_of, is_place, target_of, walk, goes_on, row_of, after, if_known, or_else, fault_of, known_after}
+use Rattle.vale_cert.specs.Walk.{broken, rules, enters, has_target, next_of, is_place, target_of, walk, goes_on, if_known, or_else, fault_of, known_after}
 use Rattle.vale_cert.specs.declared.facts.Label.{Label}
 use Rattle.vale_cert.specs.declared.facts.RegFact.{RegFact}
 use Rattle.vale_cert.specs.declared.fault.Fault.{Fault}
 use Rattle.vale_cert.specs.declared.rules.Kept.{Kept}
-use Rattle.vale_verifier.specs.Walking.{Ahead, known_of, states_all}
+use Rattle.vale_verifier.specs.Walking.{states_all}
 
 -- ---- the rules of one instruction
 

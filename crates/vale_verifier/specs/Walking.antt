@@ -1,5 +1,5 @@
 -- What the walk over instructions carries.
-use Rattle.std.specs.Prelude.{◌≡◌, ℕ, ◌+◌, ◌≤◌, List, [], ◌∷◌, length, Option, Some, None, Bool, true, ◌==◌, nat_le}
+use Rattle.std.specs.Prelude.{ℕ, ◌+◌, ◌≤◌, List, [], ◌∷◌, length, Option, Some, None, Bool, true, ◌==◌, nat_le}
 use Rattle.vale_code.specs.declared.func.Func.{Func}
 use Rattle.vale_cert.specs.Known.{Known, is_label}
 use Rattle.vale_cert.specs.declared.facts.Label.{Label}

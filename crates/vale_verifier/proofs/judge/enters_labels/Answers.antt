@@ -1,6 +1,4 @@
-use Rattle.std.proofs.Common.{◌≡◌, ◌+◌, ◌<◌, ℕ, Option, sym, ap, ◌∙◌, arith}
-use Rattle.vale_code.specs.Parts.{Parts}
-use Rattle.vale_code.specs.declared.func.Func.{Func}
+use Rattle.std.proofs.Common.{◌+◌, ◌<◌, ℕ, Option, sym, ap, ◌∙◌, arith}
 use Rattle.vale_cert.specs.Known.{Known}
 use Rattle.vale_cert.specs.Walk.{enters, next_of, target_of}
 use Rattle.vale_verifier.proofs.WalkLaws.{both_hold, first_fails, next_enters}

@@ -1,4 +1,4 @@
-use Rattle.std.proofs.Common.{◌≡◌, ℕ, Option, sym, ap, ◌∙◌}
+use Rattle.std.proofs.Common.{ℕ, Option, sym, ap, ◌∙◌}
 use Rattle.vale_cert.specs.Walk.{has_target, is_place, next_of, target_of}
 use Rattle.vale_verifier.proofs.WalkLaws.{both_hold, first_fails}
 use Rattle.vale_verifier.proofs.judge.leads_on.Goals as goal

@@ -1,4 +1,4 @@
-use Rattle.std.proofs.Common.{◌≡◌, ◌++◌, ◌-◌, List, Bool, length, get_or, take, replicate, ap, ◌∙◌}
+use Rattle.std.proofs.Common.{◌++◌, ◌-◌, List, Bool, length, get_or, take, replicate, ap, ◌∙◌}
 use Rattle.std.proofs.Math.ListN.{set}
 use Rattle.std.proofs.lemmas.List.{get_or_default}
 use Rattle.vale_code.specs.declared.ty.Ty.{Ty}

@@ -1,4 +1,4 @@
-use Rattle.std.proofs.Common.{◌≡◌, ◌-◌, ◌/◌, ◌<◌, ◌≤◌, List, length, take, drop, subst, sym, ap, ◌∙◌, arith}
+use Rattle.std.proofs.Common.{◌/◌, ◌<◌, ◌≤◌, List, length, subst, sym, ap, ◌∙◌, arith}
 use Rattle.vale_cert.specs.Known.{label_at}
 use Rattle.vale_cert.specs.declared.facts.Label.{Label}
 use Rattle.vale_verifier.specs.Walking.{Ahead}

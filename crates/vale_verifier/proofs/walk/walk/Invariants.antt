@@ -1,4 +1,4 @@
-use Rattle.std.proofs.Common.{◌≡◌, ℕ, ◌≤◌, length, drop, Some}
+use Rattle.std.proofs.Common.{◌≡◌, ℕ, ◌≤◌, drop, Some}
 use Rattle.vale_cert.specs.Known.{label_at}
 use Rattle.vale_cert.specs.Walk.{walk}
 use Rattle.vale_verifier.specs.Walking.{Ahead, known_of}
