@@ -1,0 +1,519 @@
+// The code of a body, in one walk over it.
+ghost use Rattle.std.specs.Prelude.{◌≡◌, ◌+◌, ◌++◌, ◌∷◌, [], None, length, map, option_map, if◌then◌else◌, IfOk, OnOk};
+ghost use Rattle.vale_core.specs.View.{view_expr, view_node, view_form, view_stmt, view_block, view_else_if, view_link, exprs_of, links_of, else_end, stmts_of, last_end, return_of};
+ghost use Rattle.vale_lower.specs.Lowered.{expr_code, value_code, node_code, args_code, links_code, form_code, elses_code, block_code, stmts_code, stmt_code, unused_code};
+ghost use Rattle.vale_lower_code.specs.Entries.{entries, framed};
+ghost use Rattle.vale_lower_code.specs.Going.{is_lowered, next_code, next_register, next_scope, set_only_code};
+ghost use Rattle.vale_lower_code.specs.Sides.{else_if_code, else_if_end, sides_code, sides_ends};
+ghost use Rattle.vale_lower_code.specs.Surroundings.{view_around};
+ghost use Rattle.vale_lower_code.specs.Links.{one_link_code};
+
+use crate::around::Around;
+use crate::emission::{Emission, above};
+use crate::frame::Frame;
+use crate::nodes::{is_set, put_callee, put_local, put_operator, put_quote, put_set, put_set_only};
+use crate::scope::{Local, Scope};
+use crate::shapes::{agree, put_number, put_truth, put_unary};
+use sqlite_items::{Boxed, Items};
+use std::alloc::Global;
+use vale_base::Memory;
+use vale_code::Instr;
+use vale_core::{Block, ElseIf, Expr, Form, Link, Node, Stmt};
+use vale_syntax::BinaryOp;
+
+#[cycle(emit)]
+#[tactic(auto, using(crate::proofs::WalkLaws::exprs))]
+fn emit_expr(
+    alloc: Global,
+    expr: &Expr,
+    h: u32,
+    scope: &Scope,
+    around: &Around,
+    emission: &mut Emission,
+) -> Result<(), Memory>
+    ensures { OnOk result (emission.new.code.items ≡ emission.old.code.items ++ expr_code (view_around around.now) (view_expr expr.now) (length emission.old.code.items) h (entries scope.now)) }
+{
+    let gives = expr.seen.value.is_copy();
+    emit_node(alloc, &expr.node, gives, h, scope, around, emission)
+}
+
+// An expression whose value is used.
+#[cycle(emit)]
+#[tactic(auto, using(crate::proofs::WalkLaws::exprs))]
+fn emit_value(
+    alloc: Global,
+    expr: &Expr,
+    h: u32,
+    scope: &Scope,
+    around: &Around,
+    emission: &mut Emission,
+) -> Result<(), Memory>
+    ensures { OnOk result (emission.new.code.items ≡ emission.old.code.items ++ value_code (view_around around.now) (view_expr expr.now) (length emission.old.code.items) h (entries scope.now)) }
+{
+    if !expr.seen.value.is_copy() {
+        return emission.put_stuck(h);
+    }
+    emit_node(alloc, &expr.node, true, h, scope, around, emission)
+}
+
+// An expression whose value isn't used.
+#[cycle(emit)]
+#[tactic(auto, using(crate::proofs::WalkLaws::unused))]
+fn emit_unused(
+    alloc: Global,
+    expr: &Expr,
+    h: u32,
+    scope: &Scope,
+    around: &Around,
+    emission: &mut Emission,
+) -> Result<(), Memory>
+    ensures { OnOk result (emission.new.code.items ≡ emission.old.code.items ++ unused_code (view_around around.now) (view_expr expr.now) (length emission.old.code.items) h (entries scope.now)) }
+{
+    if !is_set(expr) {
+        return emit_expr(alloc, expr, h, scope, around, emission);
+    }
+    emit_set_only(alloc, &expr.node, h, scope, around, emission)
+}
+
+// A `set` whose value isn't used.
+#[cycle(emit)]
+#[tactic(auto, using(crate::proofs::WalkLaws::nodes))]
+fn emit_set_only(
+    alloc: Global,
+    node: &Node,
+    h: u32,
+    scope: &Scope,
+    around: &Around,
+    emission: &mut Emission,
+) -> Result<(), Memory>
+    ensures { OnOk result (emission.new.code.items ≡ emission.old.code.items ++ set_only_code (view_around around.now) (view_node node.now) (length emission.old.code.items) h (entries scope.now)) }
+{
+    match node {
+        Node::Set(_, place, value) => {
+            emit_value(alloc, value.get(), h, scope, around, emission)?;
+            put_set_only(emission, place.get(), h, scope)
+        }
+        Node::Chain(..)
+        | Node::Unary(..)
+        | Node::Steps(..)
+        | Node::Number(..)
+        | Node::Quote(..)
+        | Node::Truth(..)
+        | Node::Name(..)
+        | Node::Call(..)
+        | Node::Paren(..)
+        | Node::Array(..)
+        | Node::Iso(..)
+        | Node::Form(..) => emission.put_stuck(h),
+    }
+}
+
+#[cycle(emit)]
+#[tactic(auto, using(crate::proofs::WalkLaws::nodes))]
+fn emit_node(
+    alloc: Global,
+    node: &Node,
+    gives: bool,
+    h: u32,
+    scope: &Scope,
+    around: &Around,
+    emission: &mut Emission,
+) -> Result<(), Memory>
+    ensures { OnOk result (emission.new.code.items ≡ emission.old.code.items ++ node_code (view_around around.now) gives (view_node node.now) (length emission.old.code.items) h (entries scope.now)) }
+{
+    match node {
+        Node::Number(_, number) => put_number(emission, gives, *number, h),
+        Node::Quote(_, text) => put_quote(emission, around.texts, gives, text, h),
+        Node::Truth(_, truth) => put_truth(emission, gives, *truth, h),
+        Node::Name(name, moved) => put_local(emission, scope, gives, *moved, name.name, h),
+        Node::Paren(_, inner) => {
+            if !agree(gives, inner.get().seen.value.is_copy()) {
+                return emission.put_stuck(h);
+            }
+            emit_expr(alloc, inner.get(), h, scope, around, emission)
+        }
+        Node::Chain(first, links) => {
+            if !gives {
+                return emission.put_stuck(h);
+            }
+            emit_value(alloc, first.get(), h, scope, around, emission)?;
+            emit_links(alloc, links, h, scope, around, emission)
+        }
+        Node::Unary(at, op, operand) => {
+            if !gives {
+                return emission.put_stuck(h);
+            }
+            emit_value(alloc, operand.get(), h, scope, around, emission)?;
+            put_unary(emission, *op, *at, h)
+        }
+        Node::Set(_, place, value) => {
+            if !gives {
+                return emission.put_stuck(h);
+            }
+            emit_value(alloc, value.get(), h, scope, around, emission)?;
+            put_set(emission, place.get(), h, scope)
+        }
+        Node::Call(name, callee, args) => {
+            let args = args.as_slice();
+            emit_args(alloc, args, h, scope, around, emission)?;
+            put_callee(
+                alloc,
+                emission,
+                around,
+                gives,
+                *name,
+                *callee,
+                args.len(),
+                h,
+            )
+        }
+        Node::Form(form) => emit_form(alloc, form.get(), gives, h, scope, around, emission),
+        Node::Steps(..) | Node::Array(..) | Node::Iso(..) => emission.put_stuck(h),
+    }
+}
+
+// The values go to registers from one on; each waits for those behind it.
+#[cycle(emit)]
+#[tactic(auto, using(crate::proofs::WalkLaws::lists))]
+fn emit_args(
+    alloc: Global,
+    args: &[Expr],
+    h: u32,
+    scope: &Scope,
+    around: &Around,
+    emission: &mut Emission,
+) -> Result<(), Memory>
+    ensures { OnOk result (emission.new.code.items ≡ emission.old.code.items ++ args_code (view_around around.now) (exprs_of (map view_expr args.now)) (length emission.old.code.items) h (entries scope.now)) }
+{
+    let mut next = h;
+    for (at, arg) in args.iter().enumerate() {
+        let inner = Scope::Waiting(h, at, &*scope);
+        emit_value(alloc, arg, next, &inner, around, emission)?;
+        next = above(next)?;
+    }
+    Ok(())
+}
+
+// What stands in the register, with the operator and the operand behind it.
+#[cycle(emit)]
+#[tactic(auto, using(crate::proofs::WalkLaws::links))]
+fn emit_link(
+    alloc: Global,
+    link: &Link,
+    h: u32,
+    scope: &Scope,
+    around: &Around,
+    emission: &mut Emission,
+) -> Result<(), Memory>
+    ensures { OnOk result (emission.new.code.items ≡ emission.old.code.items ++ one_link_code (view_around around.now) (view_link link.now) (length emission.old.code.items) h (entries scope.now)) }
+{
+    match link.op {
+        BinaryOp::Or => {
+            let jump = emission.begin_or(h)?;
+            emit_value(alloc, &link.operand, h, scope, around, emission)?;
+            emission.end_or(jump)
+        }
+        BinaryOp::And => {
+            let test = emission.hold()?;
+            emit_value(alloc, &link.operand, h, scope, around, emission)?;
+            emission.end_and(test, h)
+        }
+        _ => {
+            let next = above(h)?;
+            emit_value(alloc, &link.operand, next, scope, around, emission)?;
+            put_operator(emission, link.op, &link.seen.value, link.at, h)
+        }
+    }
+}
+
+#[cycle(emit)]
+#[tactic(auto, using(crate::proofs::WalkLaws::lists))]
+fn emit_links(
+    alloc: Global,
+    links: &Items<Link>,
+    h: u32,
+    scope: &Scope,
+    around: &Around,
+    emission: &mut Emission,
+) -> Result<(), Memory>
+    ensures { OnOk result (emission.new.code.items ≡ emission.old.code.items ++ links_code (view_around around.now) (links_of (map view_link links.now)) (length emission.old.code.items) h (entries scope.now)) }
+{
+    let slice = links.as_slice();
+    for link in slice {
+        emit_link(alloc, link, h, scope, around, emission)?;
+    }
+    Ok(())
+}
+
+#[cycle(emit)]
+#[tactic(auto, using(crate::proofs::WalkLaws::forms))]
+fn emit_form(
+    alloc: Global,
+    form: &Form,
+    gives: bool,
+    h: u32,
+    scope: &Scope,
+    around: &Around,
+    emission: &mut Emission,
+) -> Result<(), Memory>
+    ensures { OnOk result (emission.new.code.items ≡ emission.old.code.items ++ form_code (view_around around.now) gives (view_form form.now) (length emission.old.code.items) h (entries scope.now)) }
+{
+    match form {
+        Form::If(_, condition, block, else_ifs, otherwise) => {
+            let next = above(h)?;
+            let mut ends = Vec::new(alloc);
+            emit_value(alloc, condition, h, scope, around, emission)?;
+            let test = emission.hold()?;
+            emit_block(alloc, block, gives, h, next, scope, around, emission)?;
+            emission.end_side(test, h, &mut ends)?;
+            emit_else_ifs(
+                alloc, else_ifs, gives, h, scope, around, emission, &mut ends,
+            )?;
+            emit_else(alloc, otherwise, gives, h, scope, around, emission)?;
+            emission.end_sides(&ends)
+        }
+        Form::Pure(..) | Form::ParallelRange(..) | Form::ParallelEach(..) => emission.put_stuck(h),
+    }
+}
+
+#[cycle(emit)]
+#[tactic(auto, using(crate::proofs::WalkLaws::sides))]
+fn emit_else_if(
+    alloc: Global,
+    else_if: &ElseIf,
+    gives: bool,
+    h: u32,
+    scope: &Scope,
+    around: &Around,
+    emission: &mut Emission,
+    ends: &mut Vec<u32>,
+) -> Result<(), Memory>
+    ensures code { OnOk result (emission.new.code.items ≡ emission.old.code.items ++ else_if_code (view_around around.now) gives (view_else_if else_if.now) 0 (length emission.old.code.items) h (entries scope.now)) }
+    ensures ends { OnOk result (ends.new.items ≡ ends.old.items ++ else_if_end (view_around around.now) gives (view_else_if else_if.now) (length emission.old.code.items) h (entries scope.now) ∷ []) }
+{
+    let next = above(h)?;
+    emit_value(alloc, &else_if.condition, h, scope, around, emission)?;
+    let test = emission.hold()?;
+    emit_block(
+        alloc,
+        &else_if.block,
+        gives,
+        h,
+        next,
+        scope,
+        around,
+        emission,
+    )?;
+    emission.end_side(test, h, ends)
+}
+
+#[cycle(emit)]
+#[tactic(auto, using(crate::proofs::WalkLaws::lists))]
+fn emit_else_ifs(
+    alloc: Global,
+    else_ifs: &Items<ElseIf>,
+    gives: bool,
+    h: u32,
+    scope: &Scope,
+    around: &Around,
+    emission: &mut Emission,
+    ends: &mut Vec<u32>,
+) -> Result<(), Memory>
+    ensures code { OnOk result (emission.new.code.items ≡ emission.old.code.items ++ sides_code (view_around around.now) gives (map view_else_if else_ifs.now) 0 (length emission.old.code.items) h (entries scope.now)) }
+    ensures ends { OnOk result (ends.new.items ≡ ends.old.items ++ sides_ends (view_around around.now) gives (map view_else_if else_ifs.now) (length emission.old.code.items) h (entries scope.now)) }
+{
+    let slice = else_ifs.as_slice();
+    for else_if in slice {
+        emit_else_if(alloc, else_if, gives, h, scope, around, emission, ends)?;
+    }
+    Ok(())
+}
+
+#[cycle(emit)]
+#[tactic(auto, using(crate::proofs::WalkLaws::lasts))]
+fn emit_else(
+    alloc: Global,
+    otherwise: &Option<Block>,
+    gives: bool,
+    h: u32,
+    scope: &Scope,
+    around: &Around,
+    emission: &mut Emission,
+) -> Result<(), Memory>
+    ensures { OnOk result (emission.new.code.items ≡ emission.old.code.items ++ elses_code (view_around around.now) gives (else_end (option_map view_block otherwise.now)) (length emission.old.code.items) h (entries scope.now)) }
+{
+    match otherwise {
+        Some(block) => {
+            let next = above(h)?;
+            emit_block(alloc, block, gives, h, next, scope, around, emission)
+        }
+        None => {
+            if gives {
+                return emission.put_stuck(h);
+            }
+            Ok(())
+        }
+    }
+}
+
+/// The code of a block, whose value, where one is wanted, goes to the register `to`.
+#[cycle(emit)]
+#[tactic(auto, using(crate::proofs::WalkLaws::blocks))]
+pub fn emit_block(
+    alloc: Global,
+    block: &Block,
+    gives: bool,
+    to: u32,
+    h: u32,
+    scope: &Scope,
+    around: &Around,
+    emission: &mut Emission,
+) -> Result<(), Memory>
+    ensures { OnOk result (emission.new.code.items ≡ emission.old.code.items ++ block_code (view_around around.now) gives (view_block block.now) (length emission.old.code.items) to h (entries scope.now)) }
+{
+    let mut frame = Frame::new(alloc, h);
+    let stmts = block.stmts.as_slice();
+    for stmt in stmts {
+        let goes_on = emit_next(alloc, stmt, &mut frame, scope, around, emission)?;
+        if !goes_on {
+            return Ok(());
+        }
+    }
+    let inner = Scope::Frame(&frame.locals, &*scope);
+    emit_last(
+        alloc,
+        &block.last,
+        gives,
+        to,
+        frame.next,
+        &inner,
+        around,
+        emission,
+    )
+}
+
+#[cycle(emit)]
+#[tactic(auto, using(crate::proofs::WalkLaws::lasts))]
+fn emit_last(
+    alloc: Global,
+    last: &Option<Boxed<Expr>>,
+    gives: bool,
+    to: u32,
+    h: u32,
+    scope: &Scope,
+    around: &Around,
+    emission: &mut Emission,
+) -> Result<(), Memory>
+    ensures { OnOk result (emission.new.code.items ≡ emission.old.code.items ++ stmts_code (view_around around.now) gives (last_end (option_map view_expr last.now)) (length emission.old.code.items) to h (entries scope.now)) }
+{
+    match last {
+        Some(value) => {
+            if gives {
+                emit_value(alloc, value.get(), h, scope, around, emission)?;
+                return emission.put(Instr::Copy { to, from: h });
+            }
+            if value.get().seen.value.is_copy() {
+                return emission.put_stuck(h);
+            }
+            emit_expr(alloc, value.get(), h, scope, around, emission)
+        }
+        None => {
+            if gives {
+                return emission.put_stuck(h);
+            }
+            Ok(())
+        }
+    }
+}
+
+// The next statement of a block. Whether the block goes on behind it.
+#[cycle(emit)]
+#[tactic(auto, using(crate::proofs::WalkLaws::nexts))]
+fn emit_next(
+    alloc: Global,
+    stmt: &Stmt,
+    frame: &mut Frame,
+    scope: &Scope,
+    around: &Around,
+    emission: &mut Emission,
+) -> Result<bool, Memory>
+    ensures goes_on { IfOk result (λ goes_on. goes_on ≡ is_lowered (view_stmt stmt.now)) }
+    ensures code { OnOk result (emission.new.code.items ≡ emission.old.code.items ++ next_code (view_around around.now) (view_stmt stmt.now) (length emission.old.code.items) frame.old.next (framed frame.old.locals.items (entries scope.now))) }
+    ensures next { OnOk result (frame.new.next ≡ next_register (view_stmt stmt.now) frame.old.next) }
+    ensures scope { OnOk result (framed frame.new.locals.items (entries scope.now) ≡ next_scope (view_stmt stmt.now) frame.old.next (framed frame.old.locals.items (entries scope.now))) }
+{
+    match stmt {
+        Stmt::Declare(name, _, value) => {
+            let inner = Scope::Frame(&frame.locals, &*scope);
+            emit_value(alloc, value, frame.next, &inner, around, emission)?;
+            frame.declare(name.name)?;
+            Ok(true)
+        }
+        Stmt::Destructure(..) => {
+            emission.put_stuck(frame.next)?;
+            Ok(false)
+        }
+        Stmt::Return(..) | Stmt::While(..) | Stmt::Foreach(..) | Stmt::Form(_) | Stmt::Express(_) =>
+            {
+                let inner = Scope::Frame(&frame.locals, &*scope);
+                emit_stmt(alloc, stmt, frame.next, &inner, around, emission)?;
+                Ok(true)
+            }
+    }
+}
+
+#[cycle(emit)]
+#[tactic(auto, using(crate::proofs::WalkLaws::stmts))]
+fn emit_stmt(
+    alloc: Global,
+    stmt: &Stmt,
+    h: u32,
+    scope: &Scope,
+    around: &Around,
+    emission: &mut Emission,
+) -> Result<(), Memory>
+    ensures { OnOk result (emission.new.code.items ≡ emission.old.code.items ++ stmt_code (view_around around.now) (view_stmt stmt.now) (length emission.old.code.items) h (entries scope.now)) }
+{
+    match stmt {
+        Stmt::Declare(..) | Stmt::Destructure(..) => emission.put_stuck(h),
+        Stmt::Return(_, None) => {
+            if around.gives {
+                return emission.put_stuck(h);
+            }
+            emission.put(Instr::RetVoid)
+        }
+        Stmt::Return(_, Some(value)) => {
+            if !around.gives {
+                return emission.put_stuck(h);
+            }
+            emit_value(alloc, value.get(), h, scope, around, emission)?;
+            emission.put(Instr::Ret { from: h })
+        }
+        Stmt::While(_, condition, block) => {
+            let next = above(h)?;
+            let start = emission.hold()?;
+            emission.put(Instr::Tick)?;
+            emit_block(alloc, block, false, h, next, scope, around, emission)?;
+            let test = emission.place()?;
+            emit_value(alloc, condition, h, scope, around, emission)?;
+            emission.end_loop(start, test, h)
+        }
+        Stmt::Foreach(at, name, from, to, block) => {
+            let bound = above(h)?;
+            let turn = above(bound)?;
+            let next = above(turn)?;
+            emit_value(alloc, from, h, scope, around, emission)?;
+            emit_value(alloc, to, bound, scope, around, emission)?;
+            let start = emission.begin_count(h, turn, *at)?;
+            let local = [Local {
+                name: name.name,
+                register: turn,
+            }];
+            let inner = Scope::Frame(&local, &*scope);
+            emit_block(alloc, block, false, h, next, &inner, around, emission)?;
+            emission.end_count(start, h, bound, turn, *at)
+        }
+        Stmt::Form(form) => emit_form(alloc, form, false, h, scope, around, emission),
+        Stmt::Express(value) => emit_unused(alloc, value, h, scope, around, emission),
+    }
+}
