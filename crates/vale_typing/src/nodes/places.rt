@@ -1,0 +1,68 @@
+// Names and what is set: what each is, or its own fault.
+ghost use Rattle.std.specs.Prelude.{◌≡◌};
+ghost use Rattle.vale_syntax.specs.Judged.{first, leaf, Gives};
+ghost use Rattle.vale_syntax.specs.Types as y;
+ghost use Rattle.vale_syntax.specs.Types.{a_value};
+ghost use Rattle.vale_syntax.specs.Typed as t;
+ghost use Rattle.vale_syntax.specs.Typed.{seen, type, may_be_set};
+ghost use Rattle.vale_syntax.specs.TypeRules.{name_rules, set_rules, set_gives};
+ghost use Rattle.vale_syntax.specs.Typing.{named};
+ghost use Rattle.vale_core.specs.View.{view_expr, view_ty};
+ghost use Rattle.vale_type_rules.specs.Scope.{locals};
+ghost use Rattle.vale_type_rules.specs.Table.{items_of};
+
+use std::alloc::Global;
+use vale_base::{Fail, Spot};
+use vale_core::{Expr, Ty};
+use vale_syntax::{Fault, NameAt};
+use vale_type_rules::{
+    Scope, Table, a_value, fits, is_movable, local_of, local_seen, may_be_set, seen_of, type_in,
+};
+
+/// The name of a local.
+pub fn name(
+    alloc: Global,
+    gives: &Ty,
+    depth: u32,
+    scope: &Scope,
+    as_value: bool,
+    name: NameAt,
+) -> Result<Expr, Fail<Fault>>
+    ensures { Gives view_expr result (first (leaf name.at (name_rules name (locals scope.now)) (named (record { gives = view_ty gives.now; depth = depth; scope = locals scope.now }) as_value name (y.local_of name.name.0 (locals scope.now))))) }
+{
+    match local_of(scope, name.name) {
+        None => Err(Fail::Is(Fault {
+            code: 21,
+            at: name.at,
+        })),
+        Some(local) => {
+            let seen = local_seen(alloc, depth, local)?;
+            Ok(Expr::name(seen, name, as_value && is_movable(depth, local)))
+        }
+    }
+}
+
+/// `set p = e`.
+pub fn set(
+    alloc: Global,
+    table: &Table,
+    at: Spot,
+    place: Expr,
+    value: Expr,
+) -> Result<Expr, Fail<Fault>>
+    ensures { Gives view_expr result (first (leaf at (set_rules (items_of table.now) (may_be_set (view_expr place)) (seen (view_expr place)).place (type (view_expr value))) (t.expr (a_value (set_gives (seen (view_expr place)).place)) (t.set at (view_expr place) (view_expr value))))) }
+{
+    let seen = match &seen_of(&place).place {
+        None => return Err(Fail::Is(Fault { code: 23, at })),
+        Some(ty) => {
+            if !fits(table, type_in(&value), ty) {
+                return Err(Fail::Is(Fault { code: 20, at }));
+            }
+            if !may_be_set(&place) {
+                return Err(Fail::Is(Fault { code: 24, at }));
+            }
+            a_value(alloc, ty.copy(alloc)?)?
+        }
+    };
+    Ok(Expr::set(alloc, seen, at, place, value)?)
+}

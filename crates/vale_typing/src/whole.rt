@@ -1,0 +1,152 @@
+// Functions, items and the whole program.
+ghost use Rattle.std.specs.Prelude.{◌≡◌, List, [], IfOk, map};
+ghost use Rattle.vale_base.specs.Faults.{IfFault, IsValueUnlessMemory, IsFaultUnlessMemory};
+ghost use Rattle.vale_syntax.specs.DeclFaults.{declared};
+ghost use Rattle.vale_syntax.specs.Declarations.{head_name};
+ghost use Rattle.vale_syntax.specs.Judged.{first, leaf, Gives, IsFine, IsFirstFault};
+ghost use Rattle.vale_syntax.specs.TypeRules.{head_gives, function_rules};
+ghost use Rattle.vale_syntax.specs.Typed as t;
+ghost use Rattle.vale_syntax.specs.Typing.{with_params, in_function, in_functions, in_item, in_items, typed};
+ghost use Rattle.vale_syntax.specs.Types as y;
+ghost use Rattle.vale_syntax.specs.View.{view_param, view_head, view_function, view_item, view_tree};
+ghost use Rattle.vale_syntax.specs.declared.fault.Fault.{Fault};
+ghost use Rattle.vale_core.specs.View as c;
+ghost use Rattle.vale_types.specs.Plain.{HasNoInterface};
+ghost use Rattle.vale_type_rules.specs.Scope.{framed};
+ghost use Rattle.vale_type_rules.specs.Table.{names_of, items_of};
+ghost use Rattle.vale_typing.specs.Walk.{env_at};
+
+use crate::check::type_void_block;
+use crate::copies::{copy_fields, copy_head, copy_heads};
+use sqlite_items::Items;
+use std::alloc::Global;
+use vale_base::{Fail, Memory};
+use vale_core::{Block as TypedBlock, Core, Function as TypedFunction, Item as TypedItem};
+use vale_syntax::{Decls, Fault, Function, Head, Item, Param, Tree};
+use vale_type_rules::{Local, Scope, Table, block_returns, result_of, type_of};
+
+/// The locals that the parameters of a function are.
+fn params_in(alloc: Global, params: &[Param]) -> Result<Vec<Local>, Memory>
+    ensures { IfOk result (λ locals. (gives : y.Ty) → with_params (map view_param params.now) (env_at gives 0 []) ≡ env_at gives 0 (framed locals.items [])) }
+{
+    let mut locals = Vec::new(alloc);
+    for param in params {
+        let ty = type_of(alloc, &param.ty)?;
+        locals.push(Local {
+            name: param.name.name,
+            ty,
+            depth: 0,
+        })?;
+    }
+    Ok(locals)
+}
+
+/// A function over its body, which always returns or doesn't.
+fn function_over(
+    alloc: Global,
+    head: &Head,
+    returns: bool,
+    body: TypedBlock,
+) -> Result<TypedFunction, Fail<Fault>>
+    ensures { Gives c.view_function result (first (leaf (head_name (view_head head.now)).at (function_rules (head_gives (view_head head.now)) returns) (t.function_body (view_head head.now) (c.view_block body)))) }
+{
+    let gives = result_of(alloc, &head.result)?;
+    if !gives.is_void() && !returns {
+        return Err(Fail::Is(Fault {
+            code: 26,
+            at: head.name.at,
+        }));
+    }
+    let head = copy_head(alloc, head)?;
+    Ok(TypedFunction { head, body })
+}
+
+fn type_function(
+    alloc: Global,
+    table: &Table,
+    function: &Function,
+) -> Result<TypedFunction, Fail<Fault>>
+    ensures { Gives c.view_function result (first (in_function (names_of table.now) (items_of table.now) (view_function function.now))) }
+{
+    let gives = result_of(alloc, &function.head.result)?;
+    let locals = params_in(alloc, function.head.params.as_slice())?;
+    let outside = Scope::Outside;
+    let scope = Scope::Frame(&locals, &outside);
+    let body = type_void_block(alloc, table, &function.body, &gives, 0, &scope)?;
+    let returns = block_returns(&function.body);
+    function_over(alloc, &function.head, returns, body)
+}
+
+fn type_functions(
+    alloc: Global,
+    table: &Table,
+    functions: &[Function],
+) -> Result<Items<TypedFunction>, Fail<Fault>>
+    ensures { Gives (map c.view_function) result (first (in_functions (names_of table.now) (items_of table.now) (map view_function functions.now))) }
+{
+    let mut done = Items::new(alloc);
+    for function in functions {
+        done.push(type_function(alloc, table, function)?)?;
+    }
+    Ok(done)
+}
+
+fn type_item(alloc: Global, table: &Table, item: &Item) -> Result<TypedItem, Fail<Fault>>
+    ensures { Gives c.view_item result (first (in_item (names_of table.now) (items_of table.now) (view_item item.now))) }
+{
+    match item {
+        Item::Struct(name, fields) => {
+            Ok(TypedItem::Struct(*name, copy_fields(alloc, fields.as_slice())?))
+        }
+        Item::Interface(name, heads) => {
+            Ok(TypedItem::Interface(*name, copy_heads(alloc, heads.as_slice())?))
+        }
+        Item::Impl(at, interface, of, functions) => {
+            let functions = type_functions(alloc, table, functions.as_slice())?;
+            Ok(TypedItem::Impl(*at, *interface, *of, functions))
+        }
+        Item::Function(function) => {
+            Ok(TypedItem::Function(type_function(alloc, table, function)?))
+        }
+    }
+}
+
+fn type_items(alloc: Global, table: &Table, items: &[Item]) -> Result<Items<TypedItem>, Fail<Fault>>
+    ensures { Gives (map c.view_item) result (first (in_items (names_of table.now) (items_of table.now) (map view_item items.now))) }
+{
+    let mut done = Items::new(alloc);
+    for item in items {
+        done.push(type_item(alloc, table, item)?)?;
+    }
+    Ok(done)
+}
+
+fn type_tree(alloc: Global, tree: Tree) -> Result<Core, Fail<Fault>>
+    ensures { Gives c.view_core result (first (typed (view_tree tree))) }
+{
+    let Tree { names, items } = tree;
+    let table = Table::new(alloc, names, items)?;
+    let items = type_items(alloc, &table, table.items())?;
+    let (names, _items) = table.into_parts();
+    Ok(Core { names, items })
+}
+
+/// The typed tree of a program of which this was declared.
+///
+/// Where a node of the tree breaks a rule of types (docs/LANGUAGE.md, "Types"), it answers the code and the spot of the
+/// first such node in post-order, and there the lowest code, from 20 to 28. Else it gives the tree with what is known of
+/// each expression.
+#[tactic(auto, using(vale_syntax::proofs::JudgedLaws::value_is_fine, vale_syntax::proofs::JudgedLaws::fault_is_first, vale_syntax::proofs::JudgedLaws::what_is_fine_is_given, vale_syntax::proofs::JudgedLaws::first_fault_is_given))]
+pub fn type_all(alloc: Global, tree: Tree, _decls: &Decls) -> Result<Core, Fail<TypeFault>>
+    requires plain { HasNoInterface (view_tree tree) }
+    requires declared { IsFine (declared (view_tree tree)) _decls.now }
+    ensures typed { IfOk result (λ p. IsFine (typed (view_tree tree)) (c.view_core p)) }
+    ensures fault { IfFault result (λ f. IsFirstFault (typed (view_tree tree)) f) }
+    ensures all_typed { (p : t.Typed) → IsFine (typed (view_tree tree)) p → IsValueUnlessMemory result (λ q. c.view_core q ≡ p) }
+    ensures all_faults { (f : Fault) → IsFirstFault (typed (view_tree tree)) f → IsFaultUnlessMemory result (λ g. g ≡ f) }
+{
+    type_tree(alloc, tree)
+}
+
+/// Why a tree is refused: the code of a rule of types, and where it is broken.
+pub type TypeFault = Fault;
