@@ -1,5 +1,5 @@
 -- What is known of a run before it begins.
-use Rattle.std.proofs.Common.{◌≡◌, ◌<◌, ◌≤◌, ◌+◌, ℕ, List, [], ◌∷◌, length, get_or, true, refl, ap, ◌∙◌, arith}
+use Rattle.std.proofs.Common.{◌≡◌, ◌<◌, ◌≤◌, ◌+◌, ℕ, suc, List, [], ◌∷◌, length, get_or, true, refl, ap, ◌∙◌, arith}
 use Rattle.std.specs.Prelude.{unwrap_or, ◌&&◌}
 use Rattle.std.specs.List.{list_all}
 use Rattle.vale_base.specs.Limits.{ticks_limit, ticks_default}
@@ -56,4 +56,4 @@ pub all_bytes : (text : List ℕ) → ((k : ℕ) → get_or text k 0 < 256) → 
 all_bytes [] h = refl
 all_bytes (b ∷ bs) h =
     let first : is_byte b ≡ true = grind (arith, h 0) in
-    ap (λ x. x && list_all is_byte bs) first ∙ all_bytes bs (λ k. h (k + 1))
+    ap (λ x. x && list_all is_byte bs) first ∙ all_bytes bs (λ k. h (suc k))

@@ -1,9 +1,11 @@
 -- What is owed to a job that the words ask for.
-use Rattle.std.proofs.Common.{◌≡◌, ℕ, suc, ◌<◌, ◌≤◌, List, [], ◌∷◌, drop, length, get_or, None, Some, refl, sym, ap, subst, ◌∙◌, arith}
+use Rattle.std.proofs.Common.{◌≡◌, ℕ, suc, ◌<◌, ◌≤◌, ◌+◌, ◌-◌, List, [], ◌∷◌, drop, take, length, get_or, None, Some, refl, sym, ap, subst, ◌∙◌, arith}
 use Rattle.std.proofs.lemmas.List.{length-map, drop-map}
 use Rattle.std.proofs.lemmas.Option.{slice_get-map, slice_get-get_or}
 use Rattle.std.specs.Option.{option_map}
-use Rattle.std.specs.Prelude.{String, string_bytes, slice_get, ◌==◌}
+use Rattle.std.specs.Prelude.{String, string_bytes, slice_get, codes, if◌then◌else◌}
+use Rattle.std.specs.Str.{bytes_eq}
+use Rattle.std.proofs.lemmas.Grind.{common_steps}
 use Rattle.vale_ports.specs.Shelf.{ShelfState, HasFile}
 use Rattle.vale_run.specs.Owed.{Owes, OwesJob, RunsTo, ChecksTo, FormatsTo, other_option, unserved, not_served, served, bad_word}
 use Rattle.vale_run.specs.declared.answer.Answer.{Answer}
@@ -110,3 +112,20 @@ other_unserved words shelf job a asks no_run no_check no_fmt answer = not_served
   unserved_at (j.Check file) run check fmt = absurd (check file refl)
   unserved_at (j.Fmt file) run check fmt = absurd (fmt file refl)
   unserved_at _ run check fmt = refl
+
+-- ---- options
+
+-- one option or none is left
+pub no_option : {A : Type 0} (words : List (String A)) (index : ℕ) → length words < 2 → other_option index (texts words) ≡ None
+no_option [] index few = refl
+no_option (w ∷ []) index few = refl
+no_option (w ∷ v ∷ ws) index few = absurd (omega (arith, few))
+
+-- the first option is `--ticks`, or it is the one
+pub first_option : {A : Type 0} (words : List (String A)) (key : String A) (index : ℕ) → 2 ≤ length words → key ≡ get_or words 0 key
+    → other_option index (texts words) ≡ (if bytes_eq (string_bytes key) (codes "--ticks") then other_option (index + 2) (texts (take (length words - 2) (drop 2 words))) else Some index)
+first_option [] key index two is = absurd (omega (arith, two))
+first_option (w ∷ []) key index two is = absurd (omega (arith, two))
+first_option (w ∷ v ∷ ws) key index two is =
+    let all : take (length (w ∷ v ∷ ws) - 2) (drop 2 (w ∷ v ∷ ws)) ≡ ws = grind (arith, common_steps) in
+    rw (all, is) refl

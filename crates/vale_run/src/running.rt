@@ -15,7 +15,7 @@ use crate::answer::Answer;
 use std::alloc::Global;
 use vale_base::{Memory, Piece, Text, TrapInfo};
 use vale_core::Core;
-use vale_lower_code::lower;
+use vale_lower_labels::lower;
 use vale_machine::{End, Finished, Input, run};
 use vale_trap::report;
 use vale_verifier::Verified;
