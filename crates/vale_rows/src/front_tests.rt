@@ -132,7 +132,10 @@ const TEXTS: [(&str, Answer); 57] = [
         "func main() { x = 1; while x < 10 { set x = x * 2; } println(x); }",
         Runs("16\n"),
     ),
-    ("func main() { foreach i in 0..3 { print(i); } }", Runs("012")),
+    (
+        "func main() { foreach i in 0..3 { print(i); } }",
+        Runs("012"),
+    ),
     (
         "func main() { if true { print(1); } else if false { print(2); } else { print(3); } }",
         Runs("1"),

@@ -88,7 +88,10 @@ fn words_that_are_not_served_have_their_index(rt: HostRuntime) -> Result<(), Fai
         (&["run", "p", "--ticks", "0"], b"word 3\n"),
         (&["run", "p", "--workers", "2"], b"word 2\n"),
         (&["run", "p", "--first-generation", "1"], b"word 2\n"),
-        (&["run", "p", "--schedule", "0", "--ticks", "3"], b"word 2\n"),
+        (
+            &["run", "p", "--schedule", "0", "--ticks", "3"],
+            b"word 2\n",
+        ),
         (&["run", "p", "--ticks", "3", "--frames", "5"], b"word 4\n"),
         (&["fmt"], b"word 1\n"),
         (&["fmt", "p", "q"], b"word 2\n"),
