@@ -17,6 +17,8 @@ mod parser_tests;
 #[cfg(test)]
 mod ports_tests;
 #[cfg(test)]
+mod program_tests;
+#[cfg(test)]
 mod reading;
 #[cfg(test)]
 mod refusal_tests;

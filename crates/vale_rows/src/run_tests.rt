@@ -76,7 +76,7 @@ fn texts_have_their_canonical_text(rt: HostRuntime) -> Result<(), Fail> {
 
 #[test]
 fn words_that_are_not_served_have_their_index(rt: HostRuntime) -> Result<(), Fail> {
-    let rows: [(&[&str], &[u8]); 16] = [
+    let rows: [(&[&str], &[u8]); 20] = [
         (&[], b"word 0\n"),
         (&["walk", "p"], b"word 0\n"),
         (&["run"], b"word 1\n"),
@@ -85,7 +85,14 @@ fn words_that_are_not_served_have_their_index(rt: HostRuntime) -> Result<(), Fai
         (&["run", "p", "q"], b"word 2\n"),
         (&["run", "p", "--workers", "65"], b"word 3\n"),
         (&["run", "p", "--ticks", "5", "--ticks", "5"], b"word 4\n"),
-        (&["run", "p", "--ticks", "3"], b"word 2\n"),
+        (&["run", "p", "--ticks", "0"], b"word 3\n"),
+        (&["run", "p", "--workers", "2"], b"word 2\n"),
+        (&["run", "p", "--first-generation", "1"], b"word 2\n"),
+        (
+            &["run", "p", "--schedule", "0", "--ticks", "3"],
+            b"word 2\n",
+        ),
+        (&["run", "p", "--ticks", "3", "--frames", "5"], b"word 4\n"),
         (&["fmt"], b"word 1\n"),
         (&["fmt", "p", "q"], b"word 2\n"),
         (&["fmt", "p", "--ticks", "3"], b"word 2\n"),

@@ -1,50 +1,61 @@
 -- What is owed to a job that the words ask for.
-use Rattle.std.proofs.Common.{◌≡◌, ◌≢◌, ℕ, suc, ◌<◌, List, [], ◌∷◌, length, get_or, Some, false, true, refl, sym, ap, subst, ◌∙◌, arith}
-use Rattle.std.proofs.lemmas.List.{length-map}
+use Rattle.std.proofs.Common.{◌≡◌, ℕ, suc, ◌<◌, ◌≤◌, ◌+◌, ◌-◌, List, [], ◌∷◌, drop, take, length, get_or, None, Some, refl, sym, ap, subst, ◌∙◌, arith}
+use Rattle.std.proofs.lemmas.List.{length-map, drop-map}
 use Rattle.std.proofs.lemmas.Option.{slice_get-map, slice_get-get_or}
 use Rattle.std.specs.Option.{option_map}
-use Rattle.std.specs.Prelude.{String, string_bytes, slice_get, ◌==◌}
+use Rattle.std.specs.Prelude.{String, string_bytes, slice_get, codes, if◌then◌else◌}
+use Rattle.std.specs.Str.{bytes_eq}
+use Rattle.std.proofs.lemmas.Grind.{common_steps}
 use Rattle.vale_ports.specs.Shelf.{ShelfState, HasFile}
-use Rattle.vale_run.specs.Owed.{Owes, OwesJob, RunsTo, ChecksTo, FormatsTo, unserved, not_served, served, bad_word}
+use Rattle.vale_run.specs.Owed.{Owes, OwesJob, RunsTo, ChecksTo, FormatsTo, other_option, unserved, not_served, served, bad_word}
 use Rattle.vale_run.specs.declared.answer.Answer.{Answer}
 use Rattle.vale_words.specs.FirstFault.{Word}
-use Rattle.vale_words.specs.Words.{Asks, AsksBehind, IsOneName, texts}
+use Rattle.vale_words.specs.Words.{Asks, AsksBehind, IsNameWith, IsOneName, texts}
 use Rattle.vale_words.specs.declared.job.Job.{Job}
 use Rattle.vale_words.specs.declared.job.Job.TheVariants as j
 use Rattle.vale_words.specs.declared.job.Options.{Options}
 use Rattle.vale_words.specs.declared.words.Command.{Command}
 use Rattle.vale_words.specs.declared.words.Command.TheVariants as c
 
-run_file_is : (file : ℕ) (options : Options) (words : List Word) → Asks words (j.Run file options) → file ≡ 1
-run_file_is file options [] asks = absurd asks
-run_file_is file options (word ∷ more) (command, text, asks) = by_command command asks where
-  by_command : (command : Command) → AsksBehind command more (j.Run file options) → file ≡ 1
-  by_command c.Run behind = behind.0
-  by_command _ behind = absurd behind
-
-test_false : (n : ℕ) → n ≢ 2 → (n == 2) ≡ false
-test_false n other = grind (arith, other)
-
--- a run with options
-pub run_unserved : {A : Type 0} (words : List (String A)) (shelf : ShelfState) (job : Job) (file : ℕ) (options : Options) (a : Answer) → Asks (texts words) job → job ≡ j.Run file options → length words ≢ 2 → a ≡ bad_word 2 → Owes (texts words) shelf a
-run_unserved words shelf job file options a asks is other answer =
-    let many : (length (texts words) == 2) ≡ false = rw (length-map words string_bytes) (test_false (length words) other) in
-    not_served job 2 asks (rw (is, many) refl) answer
+-- a run with an option that isn't served
+pub run_unserved : {A : Type 0} (words : List (String A)) (shelf : ShelfState) (job : Job) (file : ℕ) (options : Options) (index : ℕ) (a : Answer) → Asks (texts words) job → job ≡ j.Run file options
+    → other_option 2 (texts (drop 2 words)) ≡ Some index → a ≡ bad_word index → Owes (texts words) shelf a
+run_unserved words shelf job file options index a asks is other answer =
+    let same : drop 2 (texts words) ≡ texts (drop 2 words) = drop-map string_bytes 2 words in
+    not_served job index asks (rw (is, same) other) answer
 
 -- the word of an index is the name that is found there
 name_found : {A : Type 0} (words : List (String A)) (file : ℕ) (word : String A) (name : List ℕ) → file < length words → word ≡ get_or words file word → name ≡ string_bytes word → slice_get (texts words) file ≡ Some name
 name_found words file word name within at named =
     slice_get-map string_bytes words file ∙ (ap (λ w. option_map string_bytes w) (slice_get-get_or words file word within) ∙ ap Some (ap string_bytes (sym at) ∙ sym named))
 
--- a run without
-pub run_served : {A : Type 0} (words : List (String A)) (shelf : ShelfState) (job : Job) (file : ℕ) (options : Options) (word : String A) (name : List ℕ) (a : Answer) → Asks (texts words) job → job ≡ j.Run file options → length words ≡ 2 → word ≡ get_or words file word → name ≡ string_bytes word → (text : List ℕ) × HasFile shelf.files name text × RunsTo text options a → Owes (texts words) shelf a
-run_served words shelf job file options word name a asks is two at named (text, has, answered) =
-    let few : (length (texts words) == 2) ≡ true = rw (length-map words string_bytes, two) refl in
+name_with : (words : List Word) (options : Options) → IsNameWith words options → 1 ≤ length words
+name_with [] options names = absurd names
+name_with (name ∷ more) options names = omega arith
+
+run_words : (file : ℕ) (options : Options) (words : List Word) → Asks words (j.Run file options) → (file ≡ 1) × (2 ≤ length words)
+run_words file options [] asks = absurd asks
+run_words file options (word ∷ more) (command, text, asks) = by_command command asks where
+  by_command : (command : Command) → AsksBehind command more (j.Run file options) → (file ≡ 1) × (2 ≤ suc (length more))
+  by_command c.Run behind = (behind.0, omega (arith, name_with more options behind.1))
+  by_command _ behind = absurd behind
+
+-- where `run` is asked for, the word that names the file is there
+pub run_within : {A : Type 0} (words : List (String A)) (job : Job) (file : ℕ) (options : Options) → Asks (texts words) job → job ≡ j.Run file options → (file ≡ 1) × (2 ≤ length words)
+run_within words job file options asks is =
     let asked = rw is at asks in
-    let first : file ≡ 1 = run_file_is file options (texts words) asked in
-    let within : file < length words = omega (arith, first, two) in
-    served job asks (rw (is, few) refl)
-    (subst (λ z. OwesJob z (texts words) shelf a) (sym is) (text, (name, name_found words file word name within at named, has), answered))
+    let (first, two) = run_words file options (texts words) asked in
+    (first, omega (arith, two, length-map words string_bytes))
+
+-- a run with no other option
+pub run_served : {A : Type 0} (words : List (String A)) (shelf : ShelfState) (job : Job) (file : ℕ) (options : Options) (word : String A) (name : List ℕ) (a : Answer) → Asks (texts words) job → job ≡ j.Run file options
+    → other_option 2 (texts (drop 2 words)) ≡ None → word ≡ get_or words file word → name ≡ string_bytes word → (text : List ℕ) × HasFile shelf.files name text × RunsTo text options a → Owes (texts words) shelf a
+run_served words shelf job file options word name a asks is none at named (text, has, answered) =
+    let same : drop 2 (texts words) ≡ texts (drop 2 words) = drop-map string_bytes 2 words in
+    let within = run_within words job file options asks is in
+    let inside : file < length words = omega (arith, within.0, within.1) in
+    served job asks (rw (is, same) none)
+    (subst (λ z. OwesJob z (texts words) shelf a) (sym is) (text, (name, name_found words file word name inside at named, has), answered))
 
 one_name : (words : List Word) → IsOneName words → length words ≡ 1
 one_name [] names = absurd names
@@ -101,3 +112,20 @@ other_unserved words shelf job a asks no_run no_check no_fmt answer = not_served
   unserved_at (j.Check file) run check fmt = absurd (check file refl)
   unserved_at (j.Fmt file) run check fmt = absurd (fmt file refl)
   unserved_at _ run check fmt = refl
+
+-- ---- options
+
+-- one option or none is left
+pub no_option : {A : Type 0} (words : List (String A)) (index : ℕ) → length words < 2 → other_option index (texts words) ≡ None
+no_option [] index few = refl
+no_option (w ∷ []) index few = refl
+no_option (w ∷ v ∷ ws) index few = absurd (omega (arith, few))
+
+-- the first option is `--ticks`, or it is the one
+pub first_option : {A : Type 0} (words : List (String A)) (key : String A) (index : ℕ) → 2 ≤ length words → key ≡ get_or words 0 key
+    → other_option index (texts words) ≡ (if bytes_eq (string_bytes key) (codes "--ticks") then other_option (index + 2) (texts (take (length words - 2) (drop 2 words))) else Some index)
+first_option [] key index two is = absurd (omega (arith, two))
+first_option (w ∷ []) key index two is = absurd (omega (arith, two))
+first_option (w ∷ v ∷ ws) key index two is =
+    let all : take (length (w ∷ v ∷ ws) - 2) (drop 2 (w ∷ v ∷ ws)) ≡ ws = grind (arith, common_steps) in
+    rw (all, is) refl

@@ -1,5 +1,5 @@
-pub mod CodeMeaning
+pub mod Asked
 pub mod FormattedAgain
 pub mod Jobs
 pub mod Owed
-pub mod ServedLaws
+pub mod Told

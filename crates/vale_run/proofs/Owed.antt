@@ -8,7 +8,7 @@ use Rattle.vale_ports.specs.Shelf.{Files, ReadsFile, HasFile}
 use Rattle.vale_front.specs.Front.{Unread, too_long, no_tokens, no_tree, Refused, unread, unsound, Accepts}
 use Rattle.vale_syntax.specs.Tree.{Tree}
 use Rattle.vale_syntax.specs.WellFormed.{Reads}
-use Rattle.vale_run.specs.Owed.{RunsTo, refused_run, not_run, runs, ChecksTo, refused_check, checks, FormatsTo, refused_format, formats}
+use Rattle.vale_run.specs.Owed.{RunsTo, refused_run, runs, ChecksTo, refused_check, checks, FormatsTo, refused_format, formats}
 use Rattle.vale_run.specs.declared.answer.Answer.{Answer}
 use Rattle.vale_words.specs.declared.job.Options.{Options}
 
@@ -27,8 +27,7 @@ Refused-whole text code at (unsound tree r u) = unsound tree (subst (λ t. Reads
 
 RunsTo-whole : (options : Options) (a : Answer) (text : List ℕ) → RunsTo (take 1048577 text) options a → RunsTo text options a
 RunsTo-whole options a text (refused_run code at r e) = refused_run code at (Refused-whole text code at r) e
-RunsTo-whole options a text (not_run parsed decls types r n e) = subst (λ t. RunsTo t options a) (whole text r.reads.within) (not_run parsed decls types r n e)
-RunsTo-whole options a text (runs parsed decls types program r s e) = subst (λ t. RunsTo t options a) (whole text r.reads.within) (runs parsed decls types program r s e)
+RunsTo-whole options a text (runs parsed decls program r e) = subst (λ t. RunsTo t options a) (whole text r.reads.within) (runs parsed decls program r e)
 
 ChecksTo-whole : (a : Answer) (text : List ℕ) → ChecksTo (take 1048577 text) a → ChecksTo text a
 ChecksTo-whole a text (refused_check code at r e) = refused_check code at (Refused-whole text code at r) e

@@ -1,21 +1,20 @@
 -- What is owed to the words of the command line: a status, and the bytes for `out` and `err`.
-use Rattle.std.specs.Prelude.{ℕ, ◌≡◌, ◌⊎◌, ◌/◌, ◌%◌, List, [], ◌++◌, Option, None, Some, codes, length, take, false, slice_get, ◌==◌, if◌then◌else◌}
+use Rattle.std.specs.Prelude.{ℕ, ◌≡◌, ◌⊎◌, ◌+◌, ◌/◌, ◌%◌, List, [], ◌∷◌, ◌++◌, Option, None, Some, codes, drop, take, false, slice_get, if◌then◌else◌}
 use Rattle.std.specs.Fmt.{decimal}
+use Rattle.std.specs.Str.{bytes_eq}
 use Rattle.vale_base.specs.Outcome.{Outcome, End, Done, Trap, Cut, Wrong, output}
+use Rattle.vale_base.specs.State.{no_input}
 use Rattle.vale_base.specs.declared.spot.Spot.{Spot}
 use Rattle.vale_ports.specs.Faults.{Rose}
 use Rattle.vale_ports.specs.Shelf.{ShelfState, HasFile}
-use Rattle.vale_model.specs.Sums.{meaning}
+use Rattle.vale_model.specs.Meaning.{meaning}
 use Rattle.vale_model.specs.Report.{spot_text, report_text}
 use Rattle.vale_syntax.specs.Canon.{canon}
-use Rattle.vale_syntax.specs.Cut.{start}
 use Rattle.vale_syntax.specs.Tree.{Tree}
 use Rattle.vale_syntax.specs.Typed.{Typed}
 use Rattle.vale_syntax.specs.WellFormed.{Reads}
 use Rattle.vale_syntax.specs.declared.decls.Decls.{Decls}
-use Rattle.vale_syntax.specs.declared.program.Program.{Program}
 use Rattle.vale_front.specs.Front.{Unread, Refused, Accepts}
-use Rattle.vale_run.specs.Served.{served_program}
 use Rattle.vale_run.specs.declared.answer.Answer.{Answer}
 use Rattle.vale_words.specs.FirstFault.{Word, IsFirstFault}
 use Rattle.vale_words.specs.Words.{Asks, Lawful}
@@ -58,13 +57,11 @@ answers_end Wrong ticks out a = ⊥
 abbrev pub EndsWith : Outcome → Answer → Type 0
 EndsWith o a = answers_end o.end o.ticks (output o) a
 
--- the answer to the run of a text; a program that doesn't run yet is refused as a whole
+-- the answer to the run of a text: it is refused, or does what it means
 pub data RunsTo (text : List ℕ) (options : Options) (a : Answer) : Type 0 where
   refused_run : (code : ℕ) (at : Spot) → Refused text code at → a ≡ refused code at → RunsTo text options a
-  not_run : (tree : Tree) (decls : Decls) (types : Typed) → Accepts text tree decls types → served_program tree ≡ None
-      → a ≡ refused 5 start → RunsTo text options a
-  runs : (tree : Tree) (decls : Decls) (types : Typed) (program : Program) → Accepts text tree decls types
-      → served_program tree ≡ Some program → EndsWith (meaning program options.ticks) a → RunsTo text options a
+  runs : (tree : Tree) (decls : Decls) (program : Typed) → Accepts text tree decls program
+      → EndsWith (meaning program no_input options.ticks) a → RunsTo text options a
 
 -- so many checks are kept and so many dropped
 abbrev pub counted : ℕ → ℕ → Answer
@@ -85,10 +82,16 @@ pub data FormatsTo (text : List ℕ) (a : Answer) : Type 0 where
 abbrev pub HasText : ShelfState → List Word → ℕ → List ℕ → Type 0
 HasText shelf words file text = (name : List ℕ) × (slice_get words file ≡ Some name) × HasFile shelf.files name text
 
--- The least index of a word whose command or option isn't served yet: of the commands `run`, `check` and `fmt` are, and no
--- option.
+-- the index of the first option that isn't `--ticks`, where the options begin at this index
+abbrev pub other_option : ℕ → List Word → Option ℕ
+other_option index [] = None
+other_option index (key ∷ []) = None
+other_option index (key ∷ value ∷ more) = if bytes_eq key (codes "--ticks") then other_option (index + 2) more else Some index
+
+-- The least index of a word whose command or option isn't served yet: of the commands `run`, `check` and `fmt` are, of the
+-- options `--ticks`.
 abbrev pub unserved : Job → List Word → Option ℕ
-unserved (Run file options) words = if length words == 2 then None else Some 2
+unserved (Run file options) words = other_option 2 (drop 2 words)
 unserved (Check file) words = None
 unserved (Fmt file) words = None
 unserved _ words = Some 0
@@ -130,10 +133,10 @@ JobReadFailed _ words old new = ⊥
 abbrev pub ReadFails : List Word → ShelfState → ShelfState → Type 0
 ReadFails words old new = (job : Job) × Asks words job × JobReadFailed job words old new
 
--- The job's run needs more than so many frames, and all of them were out: no program that runs today makes an object.
+-- The job's run needs more than so many frames, and all of them were out: no program that is served makes an object.
 abbrev pub LacksPages : List Word → ShelfState → ℕ → Type 0
 LacksPages words shelf frames = ⊥
 
--- The job may take input: no program that runs today does.
+-- The job may take input: no program that is served does.
 abbrev pub MayTakeInput : List Word → ShelfState → Type 0
 MayTakeInput words shelf = ⊥

@@ -1,20 +1,17 @@
 // What the words are owed: a status, and the bytes for `out` and `err`.
-ghost use Rattle.std.specs.Prelude.{◌≡◌, ◌≤◌, ℕ, List, IfOk, IsErrOf};
-ghost use Rattle.vale_base.specs.Outcome.{Cut};
-ghost use Rattle.vale_model.specs.Sums.{ends, meaning};
+ghost use Rattle.std.specs.Prelude.{◌≡◌, ◌≤◌, ◌<◌, ◌+◌, ◌^◌, ℕ, List, length, IfOk, IsErrOf};
+ghost use Rattle.vale_base.specs.Limits.{ticks_limit};
 ghost use Rattle.vale_ports.specs.Shelf.{HasFile, KeepsFiles, ReadsFile};
-ghost use Rattle.vale_run.specs.Owed.{refused, bad_word, counted, EndsWith, RunsTo, ChecksTo, FormatsTo, Owes, ReadFailed, ReadFails};
+ghost use Rattle.vale_run.specs.Owed.{refused, bad_word, counted, other_option, RunsTo, ChecksTo, FormatsTo, Owes, ReadFailed, ReadFails};
 ghost use Rattle.vale_words.specs.Words.{Asks, texts};
 
-use crate::code::{lower, run};
-use crate::served::served_program;
+use crate::running::run_program;
 use std::alloc::Global;
 use vale_base::{Fail, Memory, PROGRAM_LIMIT, Spot, Text};
-use vale_front::{Refusal, front, judge, read};
+use vale_front::{Refusal, front, read};
 use vale_ports::{Shelf, ShelfFault};
 use vale_printer::print;
-use vale_syntax::Program;
-use vale_trap::report;
+use vale_sound::accepted_programs_run;
 use vale_words::{Job, Options, read_words};
 
 /// A status, and the bytes that go with it.
@@ -43,12 +40,6 @@ impl From<Memory> for Stop {
     }
 }
 
-/// What a program is refused with that doesn't run yet.
-const NOT_SERVED: Refusal = Refusal {
-    code: 5,
-    at: Spot { line: 1, col: 1 },
-};
-
 fn refused(alloc: Global, refusal: Refusal) -> Result<Answer, Memory>
     ensures { IfOk result (λ a. a ≡ refused refusal.code refusal.at) }
 {
@@ -62,7 +53,7 @@ fn refused(alloc: Global, refusal: Refusal) -> Result<Answer, Memory>
     })
 }
 
-fn bad_word(alloc: Global, index: u32) -> Result<Answer, Memory>
+fn bad_word(alloc: Global, index: usize) -> Result<Answer, Memory>
     ensures { IfOk result (λ a. a ≡ bad_word index) }
 {
     let line = format!(in alloc; "word {index}\n")?;
@@ -73,60 +64,17 @@ fn bad_word(alloc: Global, index: u32) -> Result<Answer, Memory>
     })
 }
 
-// The run was cut after so many ticks, before it printed anything.
-fn cut(alloc: Global, ticks: u64) -> Result<Answer, Memory>
-    ensures { IfOk result (EndsWith (ends ticks Cut)) }
-{
-    let line = format!(in alloc; "cut after {ticks} ticks\n")?;
-    Ok(Answer {
-        status: 4,
-        out: Text::new(alloc),
-        err: Text::from_slice(alloc, line.as_bytes())?,
-    })
-}
-
-// Runs a program to its end: it spends one tick.
-fn run_program(alloc: Global, program: &Program, options: &Options) -> Result<Answer, Memory>
-    ensures { IfOk result (λ a. EndsWith (meaning program.now options.now.ticks) a) }
-{
-    if options.ticks == 0 {
-        return cut(alloc, 0);
-    }
-    let code = lower(alloc, program)?;
-    let ran = run(alloc, &code)?;
-    let out = Text::from_vec(ran.output);
-    match ran.trap {
-        None => Ok(Answer {
-            status: 0,
-            out,
-            err: Text::new(alloc),
-        }),
-        Some(info) => Ok(Answer {
-            status: 3,
-            out,
-            err: Text::from_vec(report(alloc, &info)?),
-        }),
-    }
-}
-
-/// The answer to the run of a text.
+/// The answer to the run of a text, with 1 to 2^62 ticks to spend.
 pub fn run_text(alloc: Global, text: &[u8], options: &Options) -> Result<Answer, Memory>
+    requires some { 0 < options.now.ticks }
+    requires few { options.now.ticks ≤ ticks_limit }
     ensures { IfOk result (λ a. RunsTo text.now options.now a) }
 {
-    let tree = match read(alloc, text) {
-        Ok(tree) => tree,
-        Err(Fail::Is(refusal)) => return refused(alloc, refusal),
-        Err(Fail::Memory) => return Err(Memory),
-    };
-    let program = served_program(alloc, &tree)?;
-    match judge(alloc, tree) {
-        Ok(_sound) => {}
-        Err(Fail::Is(refusal)) => return refused(alloc, refusal),
-        Err(Fail::Memory) => return Err(Memory),
-    }
-    match program {
-        Some(program) => run_program(alloc, &program, options),
-        None => refused(alloc, NOT_SERVED),
+    accepted_programs_run();
+    match front(alloc, text) {
+        Ok(sound) => run_program(alloc, &sound.core, options.ticks),
+        Err(Fail::Is(refusal)) => refused(alloc, refusal),
+        Err(Fail::Memory) => Err(Memory),
     }
 }
 
@@ -189,6 +137,8 @@ fn run_file<H: Shelf>(
     options: &Options,
     shelf: &mut H,
 ) -> Result<Answer, Stop>
+    requires some { 0 < options.now.ticks }
+    requires few { options.now.ticks ≤ ticks_limit }
     ensures owed { IfOk result (λ a. (text : List ℕ) × HasFile (H.state shelf.old).files name.now text × RunsTo text options.now a) }
     ensures read { IsErrOf result Stop.ReadFault → ReadFailed (H.state shelf.old) (H.state shelf.new) name.now }
     ensures files { KeepsFiles (H.state shelf.old).files (H.state shelf.new).files }
@@ -220,6 +170,21 @@ fn format_file<H: Shelf>(alloc: Global, name: &str, shelf: &mut H) -> Result<Ans
     Ok(format_text(alloc, &text)?)
 }
 
+// The index of the first option that isn't served, where the options begin at this index.
+fn other_option(words: &[String], index: usize) -> Option<usize>
+    requires { index + length words.now < 2 ^ 64 }
+    ensures { result ≡ other_option index (texts words.now) }
+{
+    let [key, _value, more @ ..] = words else {
+        return None;
+    };
+    if key.as_str() == "--ticks" {
+        other_option(more, index + 2)
+    } else {
+        Some(index)
+    }
+}
+
 // The answer to a job that was asked for.
 fn do_job<H: Shelf>(
     alloc: Global,
@@ -235,8 +200,8 @@ fn do_job<H: Shelf>(
 {
     match job {
         Job::Run { file, options } => {
-            if words.len() != 2 {
-                return Ok(bad_word(alloc, 2)?);
+            if let Some(index) = other_option(&words[2..], 2) {
+                return Ok(bad_word(alloc, index)?);
             }
             run_file(alloc, words[*file as usize].as_str(), options, shelf)
         }
@@ -255,7 +220,7 @@ pub fn answer_of<H: Shelf>(alloc: Global, words: &[String], shelf: &mut H) -> Re
 {
     match read_words(alloc, words) {
         Ok(job) => do_job(alloc, &job, words, shelf),
-        Err(Fail::Is(fault)) => Ok(bad_word(alloc, fault.index)?),
+        Err(Fail::Is(fault)) => Ok(bad_word(alloc, fault.index as usize)?),
         Err(Fail::Memory) => Err(Stop::Memory),
     }
 }

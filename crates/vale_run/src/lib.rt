@@ -2,9 +2,8 @@
 #![tactic(auto)]
 
 mod answer;
-mod code;
 mod deliver;
-mod served;
+mod running;
 mod top;
 
 pub use answer::Answer;

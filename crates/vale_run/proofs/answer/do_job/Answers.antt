@@ -1,17 +1,7 @@
 use Rattle.std.proofs.Common.{rules}
 use Rattle.std.proofs.lemmas.Result.{IfOk-weaker}
-use Rattle.vale_run.proofs.Jobs.{run_served, run_unserved, check_served, fmt_served, other_unserved}
+use Rattle.vale_run.proofs.Jobs.{check_served, fmt_served, other_unserved}
 use Rattle.vale_run.proofs.answer.do_job.Goals as goal
-
-pub returns-then-words-ne2-clause-owed : goal.returns-then-words-ne2-clause-owed
-returns-then-words-ne2-clause-owed g c =
-    run_unserved _ _ _ _ _ _ c.requires c.in-Run.is c.if-words-ne2.true c.in_ok-bad_word-in-Run.ensures
-
-pub returns-else-words-ne2-clause-owed : goal.returns-else-words-ne2-clause-owed
-returns-else-words-ne2-clause-owed g c =
-    IfOk-weaker c.run_file.result _ _
-    (λ a owed. run_served _ _ _ _ _ _ _ a c.requires c.in-Run.is c.if-words-ne2.false (c.index-words-file.is) (c.as_str.ensures.value) owed)
-    c.run_file.ensures.owed
 
 pub returns-in_ok-bad_word-in_default : goal.returns-in_ok-bad_word-in_default
 returns-in_ok-bad_word-in_default g c =
