@@ -19,4 +19,4 @@ mod whole;
 pub use machine::Machine;
 pub use start::Input;
 pub use turn::{End, Turn};
-pub use whole::{Finished, run};
+pub use whole::{Finished, run, run_certified};

@@ -3,7 +3,9 @@ ghost use Rattle.std.specs.Prelude.{◌≡◌, ◌+◌, ◌<◌, ◌≤◌, ◌+
 ghost use Rattle.vale_base.specs.Limits.{ticks_limit};
 ghost use Rattle.vale_base.specs.State.{no_input};
 ghost use Rattle.vale_base.specs.declared.piece.Piece.{Piece};
+ghost use Rattle.vale_cert.specs.Certificate.{Certified};
 ghost use Rattle.vale_cert.specs.Input.{takes_input};
+ghost use Rattle.vale_cert.specs.declared.facts.FuncFacts.{FuncFacts};
 ghost use Rattle.vale_code.specs.Frames.{On};
 ghost use Rattle.vale_code.specs.Parts.{Parts};
 ghost use Rattle.vale_code.specs.Run.{start};
@@ -58,6 +60,25 @@ fn begin(alloc: Global, code: &Code, ticks: u64) -> Result<Machine, Memory>
 }
 
 impl Machine {
+    // The machine before the first instruction of `main`, or the want of memory.
+    pub(crate) fn start_code(
+        alloc: Global,
+        code: &Code,
+        input: Input,
+        ticks: u64,
+    ) -> Result<Machine, Memory>
+        requires certified { (facts : List FuncFacts) × Certified code.now facts }
+        requires takes { takes_input code.now (given_of input) ≡ true }
+        requires none { input ≡ Input.None }
+        requires some { 0 < ticks }
+        requires few { ticks ≤ ticks_limit }
+        ensures begins { IfOk result (λ m. start code.now (given_of input) ticks ≡ On (config_of code.now [] m)) }
+        ensures under_way { IfOk result (λ m. IsUnderWay code.now [] m) }
+        ensures ticks { IfOk result (λ m. m.left + m.spent ≡ ticks) }
+    {
+        begin(alloc, code, ticks)
+    }
+
     /// The machine before the first instruction of `main`, or the want of memory. The input has the form that `main` takes;
     /// up to now it is none, since there is no heap for an array. The ticks are 1 to 2^62.
     pub fn start(
@@ -74,7 +95,7 @@ impl Machine {
         ensures under_way { IfOk result (λ m. IsUnderWay code.now.code [] m) }
         ensures ticks { IfOk result (λ m. m.left + m.spent ≡ ticks) }
     {
-        begin(alloc, &code.code, ticks)
+        Machine::start_code(alloc, &code.code, input, ticks)
     }
 
     /// The pieces since the last such call. It takes no memory.

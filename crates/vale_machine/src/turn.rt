@@ -140,20 +140,19 @@ impl Machine {
         }
     }
 
-    /// One step of the code's meaning: an instruction, with the entry or the leaving that it leads to. The code is the one
-    /// that the machine was started with, and the machine hasn't ended.
-    pub fn turn(&mut self, code: &Verified) -> Turn
-        requires { IsRunning code.now.code self.old }
-        ensures step { (taken : List Piece) → Turned code.now.code taken result (step code.now.code (config_of code.now.code taken self.old)) self.new }
+    // One step of the code's meaning, where the machine hasn't ended.
+    pub(crate) fn turn_code(&mut self, code: &Code) -> Turn
+        requires { IsRunning code.now self.old }
+        ensures step { (taken : List Piece) → Turned code.now taken result (step code.now (config_of code.now taken self.old)) self.new }
         // It wants memory only to make or copy a text, to print, to enter a function, and to tell a trap.
-        ensures memory { (taken : List Piece) → may_want_at (fetch code.now.code self.old.top.function self.old.top.place) ≡ false → WantsForTrap result (step code.now.code (config_of code.now.code taken self.old)) }
-        ensures under_way { (taken : List Piece) → IsUnderWay code.now.code taken self.old → IsStillUnderWay code.now.code taken result self.new }
+        ensures memory { (taken : List Piece) → may_want_at (fetch code.now self.old.top.function self.old.top.place) ≡ false → WantsForTrap result (step code.now (config_of code.now taken self.old)) }
+        ensures under_way { (taken : List Piece) → IsUnderWay code.now taken self.old → IsStillUnderWay code.now taken result self.new }
         ensures ticks { KeepsTicks self.old self.new }
     {
-        match self.step(&code.code) {
+        match self.step(code) {
             Step::Going => Turn::Going,
             Step::Done => Turn::Ended(End::Done { ticks: self.spent }),
-            Step::Trap(kind, at) => match trap_at(self.alloc, &code.code, self, kind, at) {
+            Step::Trap(kind, at) => match trap_at(self.alloc, code, self, kind, at) {
                 Ok(info) => Turn::Ended(End::Trap {
                     ticks: self.spent,
                     info,
@@ -164,5 +163,18 @@ impl Machine {
             Step::Memory => Turn::Ended(End::Memory),
             Step::Wrong => unreachable!(),
         }
+    }
+
+    /// One step of the code's meaning: an instruction, with the entry or the leaving that it leads to. The code is the one
+    /// that the machine was started with, and the machine hasn't ended.
+    pub fn turn(&mut self, code: &Verified) -> Turn
+        requires { IsRunning code.now.code self.old }
+        ensures step { (taken : List Piece) → Turned code.now.code taken result (step code.now.code (config_of code.now.code taken self.old)) self.new }
+        // It wants memory only to make or copy a text, to print, to enter a function, and to tell a trap.
+        ensures memory { (taken : List Piece) → may_want_at (fetch code.now.code self.old.top.function self.old.top.place) ≡ false → WantsForTrap result (step code.now.code (config_of code.now.code taken self.old)) }
+        ensures under_way { (taken : List Piece) → IsUnderWay code.now.code taken self.old → IsStillUnderWay code.now.code taken result self.new }
+        ensures ticks { KeepsTicks self.old self.new }
+    {
+        self.turn_code(&code.code)
     }
 }

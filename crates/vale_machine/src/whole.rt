@@ -1,7 +1,9 @@
 // A whole run.
-ghost use Rattle.std.specs.Prelude.{◌≡◌, ◌<◌, ◌≤◌, true};
+ghost use Rattle.std.specs.Prelude.{◌≡◌, ◌<◌, ◌≤◌, List, true};
 ghost use Rattle.vale_base.specs.Limits.{ticks_limit};
+ghost use Rattle.vale_cert.specs.Certificate.{Certified};
 ghost use Rattle.vale_cert.specs.Input.{takes_input};
+ghost use Rattle.vale_cert.specs.declared.facts.FuncFacts.{FuncFacts};
 ghost use Rattle.vale_code.specs.Run.{run_code};
 ghost use Rattle.vale_machine.specs.Finishes.{Finishes};
 ghost use Rattle.vale_machine.specs.Given.{given_of};
@@ -11,6 +13,7 @@ use crate::start::Input;
 use crate::turn::{End, Turn};
 use std::alloc::Global;
 use vale_base::Piece;
+use vale_code::Code;
 use vale_verifier::Verified;
 
 /// What a run printed, and how it ended.
@@ -28,7 +31,19 @@ pub fn run(alloc: Global, code: &Verified, input: Input, ticks: u64) -> Finished
     requires few { ticks ≤ ticks_limit }
     ensures { Finishes result ticks (run_code code.now.code (given_of input) ticks) }
 {
-    let mut machine = match Machine::start(alloc, code, input, ticks) {
+    run_certified(alloc, &code.code, input, ticks)
+}
+
+/// The same of a code that some facts certify, which need not be at hand: a machine goes by the code alone.
+pub fn run_certified(alloc: Global, code: &Code, input: Input, ticks: u64) -> Finished
+    requires certified { (facts : List FuncFacts) × Certified code.now facts }
+    requires takes { takes_input code.now (given_of input) ≡ true }
+    requires none { input ≡ Input.None }
+    requires some { 0 < ticks }
+    requires few { ticks ≤ ticks_limit }
+    ensures { Finishes result ticks (run_code code.now (given_of input) ticks) }
+{
+    let mut machine = match Machine::start_code(alloc, code, input, ticks) {
         Ok(machine) => machine,
         Err(_) => {
             return Finished {
@@ -38,7 +53,7 @@ pub fn run(alloc: Global, code: &Verified, input: Input, ticks: u64) -> Finished
         }
     };
     'turns: loop {
-        match machine.turn(code) {
+        match machine.turn_code(code) {
             Turn::Going => {}
             Turn::Ended(end) => {
                 return Finished {
