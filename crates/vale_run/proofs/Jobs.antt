@@ -1,6 +1,6 @@
 -- What is owed to a job that the words ask for.
 use Rattle.std.proofs.Common.{◌≡◌, ℕ, suc, ◌<◌, ◌≤◌, ◌+◌, ◌-◌, List, [], ◌∷◌, drop, take, length, get_or, None, Some, refl, sym, ap, subst, ◌∙◌, arith}
-use Rattle.std.proofs.lemmas.List.{length-map, drop-map}
+use Rattle.std.proofs.lemmas.List.{length-map, length-drop, drop-map, take_all}
 use Rattle.std.proofs.lemmas.Option.{slice_get-map, slice_get-get_or}
 use Rattle.std.specs.Option.{option_map}
 use Rattle.std.specs.Prelude.{String, string_bytes, slice_get, codes, if◌then◌else◌}
@@ -17,12 +17,17 @@ use Rattle.vale_words.specs.declared.job.Options.{Options}
 use Rattle.vale_words.specs.declared.words.Command.{Command}
 use Rattle.vale_words.specs.declared.words.Command.TheVariants as c
 
+-- the words behind the first two, as a slice has them
+rest_is : {A : Type 0} (words : List (String A)) → take (length words - 2) (drop 2 words) ≡ drop 2 words
+rest_is words = take_all (length words - 2) (drop 2 words) (omega (arith, length-drop 2 words))
+
 -- a run with an option that isn't served
 pub run_unserved : {A : Type 0} (words : List (String A)) (shelf : ShelfState) (job : Job) (file : ℕ) (options : Options) (index : ℕ) (a : Answer) → Asks (texts words) job → job ≡ j.Run file options
-    → other_option 2 (texts (drop 2 words)) ≡ Some index → a ≡ bad_word index → Owes (texts words) shelf a
+    → other_option 2 (texts (take (length words - 2) (drop 2 words))) ≡ Some index → a ≡ bad_word index → Owes (texts words) shelf a
 run_unserved words shelf job file options index a asks is other answer =
     let same : drop 2 (texts words) ≡ texts (drop 2 words) = drop-map string_bytes 2 words in
-    not_served job index asks (rw (is, same) other) answer
+    let behind = subst (λ rest. other_option 2 (texts rest) ≡ Some index) (rest_is words) other in
+    not_served job index asks (rw (is, same) behind) answer
 
 -- the word of an index is the name that is found there
 name_found : {A : Type 0} (words : List (String A)) (file : ℕ) (word : String A) (name : List ℕ) → file < length words → word ≡ get_or words file word → name ≡ string_bytes word → slice_get (texts words) file ≡ Some name
@@ -49,12 +54,13 @@ run_within words job file options asks is =
 
 -- a run with no other option
 pub run_served : {A : Type 0} (words : List (String A)) (shelf : ShelfState) (job : Job) (file : ℕ) (options : Options) (word : String A) (name : List ℕ) (a : Answer) → Asks (texts words) job → job ≡ j.Run file options
-    → other_option 2 (texts (drop 2 words)) ≡ None → word ≡ get_or words file word → name ≡ string_bytes word → (text : List ℕ) × HasFile shelf.files name text × RunsTo text options a → Owes (texts words) shelf a
+    → other_option 2 (texts (take (length words - 2) (drop 2 words))) ≡ None → word ≡ get_or words file word → name ≡ string_bytes word → (text : List ℕ) × HasFile shelf.files name text × RunsTo text options a → Owes (texts words) shelf a
 run_served words shelf job file options word name a asks is none at named (text, has, answered) =
     let same : drop 2 (texts words) ≡ texts (drop 2 words) = drop-map string_bytes 2 words in
     let within = run_within words job file options asks is in
     let inside : file < length words = omega (arith, within.0, within.1) in
-    served job asks (rw (is, same) none)
+    let behind = subst (λ rest. other_option 2 (texts rest) ≡ None) (rest_is words) none in
+    served job asks (rw (is, same) behind)
     (subst (λ z. OwesJob z (texts words) shelf a) (sym is) (text, (name, name_found words file word name inside at named, has), answered))
 
 one_name : (words : List Word) → IsOneName words → length words ≡ 1

@@ -23,7 +23,7 @@ Unread-whole text code at (no_tree h tokens cuts none why) = subst (λ t. Unread
 
 Refused-whole : (text : List ℕ) (code : ℕ) (at : Spot) → Refused (take 1048577 text) code at → Refused text code at
 Refused-whole text code at (unread u) = unread (Unread-whole text code at u)
-Refused-whole text code at (unsound tree r u) = unsound tree (subst (λ t. Reads t tree) (whole text r.within) r) u
+Refused-whole text code at (unsound parsed r u) = unsound parsed (subst (λ t. Reads t parsed) (whole text r.within) r) u
 
 RunsTo-whole : (options : Options) (a : Answer) (text : List ℕ) → RunsTo (take 1048577 text) options a → RunsTo text options a
 RunsTo-whole options a text (refused_run code at r e) = refused_run code at (Refused-whole text code at r) e
