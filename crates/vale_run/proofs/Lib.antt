@@ -2,4 +2,3 @@ pub mod Asked
 pub mod FormattedAgain
 pub mod Jobs
 pub mod Owed
-pub mod Told
