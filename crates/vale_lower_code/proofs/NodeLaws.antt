@@ -15,7 +15,8 @@ use Rattle.vale_model.specs.Parts.{has_name, first_function}
 use Rattle.vale_lower.specs.Instructions.{stuck, only_if, store, exchange, registers_from}
 use Rattle.vale_lower.specs.Lowered.{call_code, set_code, store_code}
 use Rattle.vale_lower.specs.Scopes.{Scope, Around, number_of_function, may_be_called}
-use Rattle.vale_lower.specs.Texts.{is_byte, is_lawful_text}
+use Rattle.vale_syntax.specs.Bytes.{is_byte}
+use Rattle.vale_lower.specs.Texts.{is_lawful_text}
 use Rattle.vale_lower_code.specs.Held.{called}
 use Rattle.vale_lower_code.specs.Places.{place_named, is_set}
 

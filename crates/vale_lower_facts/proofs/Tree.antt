@@ -22,7 +22,8 @@ use Rattle.vale_lower.specs.Covered.{type_is_covered, unary_is_covered, callee_i
 use Rattle.vale_lower.specs.Instructions.{only_if, load, store, exchange, link_code, count_code}
 use Rattle.vale_lower.specs.Lowered.{truth_number, set_code, store_code, expr_code, value_code, node_code, args_code, links_code, form_code, elses_code, block_code, stmts_code, stmt_code, unused_code}
 use Rattle.vale_lower.specs.Scopes.{Around, place_of, code_type, agree, number_of_text}
-use Rattle.vale_lower.specs.Texts.{is_lawful_text, is_byte, expr_quotes, node_quotes, exprs_quotes, links_quotes, form_quotes, elses_quotes, block_quotes, stmts_quotes, stmt_quotes}
+use Rattle.vale_syntax.specs.Bytes.{is_byte}
+use Rattle.vale_lower.specs.Texts.{is_lawful_text, expr_quotes, node_quotes, exprs_quotes, links_quotes, form_quotes, elses_quotes, block_quotes, stmts_quotes, stmt_quotes}
 use Rattle.vale_lower.proofs.Lookups.{found_text}
 use Rattle.vale_lower_facts.specs.Slots.{local, waits, holds, Stand, scope_at, with_slot, given, behind, type_at}
 use Rattle.vale_lower_facts.specs.Returned.{block_returns, stmts_return, stmt_returns, expr_returns, node_returns, form_returns, elses_return}

@@ -3,7 +3,7 @@ use Rattle.std.proofs.Common.{◌≡◌, ◌<◌, ◌≤◌, ◌+◌, ℕ, suc, 
 use Rattle.std.specs.Prelude.{unwrap_or, ◌&&◌}
 use Rattle.std.specs.List.{list_all}
 use Rattle.vale_base.specs.Limits.{ticks_limit, ticks_default}
-use Rattle.vale_lower.specs.Texts.{is_byte}
+use Rattle.vale_syntax.specs.Bytes.{is_byte}
 use Rattle.vale_words.specs.FirstFault.{Word}
 use Rattle.vale_words.specs.Words.{Asks, AsksBehind, ChoosesFrom, IsValue, nothing_chosen, with_setting, option_of}
 use Rattle.vale_words.specs.declared.job.Job.TheVariants as j

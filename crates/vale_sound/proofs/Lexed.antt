@@ -11,7 +11,8 @@ use Rattle.vale_syntax.specs.Cut.{Quoted, empty, plain, escape, Means, Cuts, non
 use Rattle.vale_syntax.specs.declared.token.Token.{Token}
 use Rattle.vale_syntax.specs.declared.token.TokenKind.{TokenKind}
 use Rattle.vale_syntax.specs.declared.token.TokenKind.TheVariants as k
-use Rattle.vale_lower.specs.Texts.{is_byte, is_lawful_text}
+use Rattle.vale_syntax.specs.Bytes.{is_byte}
+use Rattle.vale_lower.specs.Texts.{is_lawful_text}
 use Rattle.vale_sound.proofs.Literals.{IsLawful, AreLawful}
 
 abbrev AreBytes : List ℕ → Type 0

@@ -12,7 +12,7 @@ use Rattle.vale_syntax.specs.WellFormed.{WellFormed}
 use Rattle.vale_syntax.specs.declared.decls.Decls.{Decls}
 use Rattle.vale_model.specs.Parts.{functions_of}
 use Rattle.vale_lower.specs.Covered.{is_covered}
-use Rattle.vale_lower.specs.Texts.{is_byte}
+use Rattle.vale_syntax.specs.Bytes.{is_byte}
 use Rattle.vale_lower_facts.specs.Suits.{Suits}
 use Rattle.vale_sound.proofs.Fine.{of_plain}
 use Rattle.vale_sound.proofs.Functions.{items_meet, all_found}

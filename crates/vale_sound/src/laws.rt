@@ -8,7 +8,7 @@ ghost use Rattle.vale_syntax.specs.WellFormed.{WellFormed};
 ghost use Rattle.vale_syntax.specs.declared.decls.Decls.{Decls};
 ghost use Rattle.vale_front.specs.Front.{Serves, Accepts};
 ghost use Rattle.vale_lower.specs.Covered.{is_covered};
-ghost use Rattle.vale_lower.specs.Texts.{is_byte};
+ghost use Rattle.vale_syntax.specs.Bytes.{is_byte};
 ghost use Rattle.vale_lower_facts.specs.Suits.{Suits};
 ghost use Rattle.vale_sound.specs.Runs.{Runs};
 

@@ -5,6 +5,9 @@ use Rattle.vale_syntax.specs.declared.token.Word.TheVariants as w
 use Rattle.vale_syntax.specs.declared.token.Sign.{Sign}
 use Rattle.vale_syntax.specs.declared.token.Sign.TheVariants as s
 
+abbrev pub is_byte : ℕ → Bool
+is_byte b = nat_le b 255
+
 -- a space, a tab, a carriage return or a line feed
 abbrev pub is_blank : ℕ → Bool
 is_blank b = b == 32 || b == 9 || b == 13 || b == 10

@@ -1,6 +1,8 @@
 -- Which texts are programs (docs/LANGUAGE.md): those that are read as a tree whose declarations and types keep their rules.
-use Rattle.std.specs.Prelude.{ℕ, ◌≤◌, List, length}
+use Rattle.std.specs.Prelude.{ℕ, ◌≡◌, ◌≤◌, true, List, length}
+use Rattle.std.specs.List.{list_all}
 use Rattle.vale_base.specs.Limits.{program_limit}
+use Rattle.vale_syntax.specs.Bytes.{is_byte}
 use Rattle.vale_syntax.specs.Cut.{cut}
 use Rattle.vale_syntax.specs.DeclFaults.{declared}
 use Rattle.vale_syntax.specs.Grammar.{spells}
@@ -24,6 +26,6 @@ pub record WellFormed (text : List ℕ) (tree : Tree) (decls : Decls) (program :
   pub declares : IsFine (declared tree) decls
   pub types : IsFine (typed tree) program
 
--- some text is well formed and has this typed tree
+-- some text of bytes is well formed and has this typed tree
 abbrev pub IsSound : Typed → Type 0
-IsSound program = (text : List ℕ) × (tree : Tree) × (decls : Decls) × WellFormed text tree decls program
+IsSound program = (text : List ℕ) × (tree : Tree) × (decls : Decls) × (list_all is_byte text ≡ true) × WellFormed text tree decls program

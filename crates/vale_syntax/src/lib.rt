@@ -7,7 +7,6 @@ mod built_in;
 mod decls;
 mod fault;
 mod position;
-mod program;
 mod token;
 mod tree;
 
@@ -15,7 +14,6 @@ pub use built_in::BuiltIn;
 pub use decls::{Declared, Decls, Implemented};
 pub use fault::Fault;
 pub use position::Position;
-pub use program::{Added, Println, Program, Sum};
 pub use token::{Sign, Token, TokenKind, TokenList, Tokens, Word};
 pub use tree::{
     BinaryOp, Block, ElseIf, Expr, FieldDecl, Form, Function, Head, Item, Link, NameAt, Param,
