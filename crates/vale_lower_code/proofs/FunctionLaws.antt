@@ -5,7 +5,7 @@ use Rattle.std.specs.Prelude.{map}
 use Rattle.vale_syntax.specs.declared.tree.Param.{Param}
 use Rattle.vale_syntax.specs.View.{view_param}
 use Rattle.vale_model.specs.Parts.{param_names}
-use Rattle.vale_lower.specs.Scopes.{Scope, parameters}
+use Rattle.vale_lowering.specs.Scopes.{Scope, parameters}
 use Rattle.vale_lower_code.specs.declared.scope.Local.{Local}
 use Rattle.vale_lower_code.specs.Entries.{framed}
 use Rattle.vale_lower_code.proofs.ScopeLaws.{framed_more}

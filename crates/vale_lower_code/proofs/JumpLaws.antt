@@ -17,9 +17,9 @@ use Rattle.vale_core.specs.View.{view_ty, view_expr, view_form, view_stmt, view_
 use Rattle.vale_core.proofs.ViewLaws as v
 use Rattle.vale_code.specs.declared.instr.Instr.{Instr}
 use Rattle.vale_code.specs.declared.instr.Instr.TheVariants as i
-use Rattle.vale_lower.specs.Instructions.{then_at, count_code, link_code}
-use Rattle.vale_lower.specs.Lowered.{value_code, form_code, elses_code, block_code, stmt_code}
-use Rattle.vale_lower.specs.Scopes.{Scope, Around, entry}
+use Rattle.vale_lowering.specs.Instructions.{then_at, count_code, link_code}
+use Rattle.vale_lowering.specs.Lowered.{value_code, form_code, elses_code, block_code, stmt_code}
+use Rattle.vale_lowering.specs.Scopes.{Scope, Around, entry}
 use Rattle.vale_lower_code.specs.Links.{one_link_code}
 use Rattle.vale_lower_code.specs.Sides.{side_end, side_code, else_if_code, else_if_end, sides_code, sides_ends, jumps_set}
 use Rattle.vale_lower_code.proofs.PatchLaws.{set_side, side_end_is, set_and, set_or_from, set_loop}

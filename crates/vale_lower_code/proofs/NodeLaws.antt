@@ -12,11 +12,11 @@ use Rattle.vale_core.proofs.ViewLaws as v
 use Rattle.vale_code.specs.declared.instr.Instr.{Instr}
 use Rattle.vale_code.specs.declared.instr.Instr.TheVariants as i
 use Rattle.vale_model.specs.Parts.{has_name, first_function}
-use Rattle.vale_lower.specs.Instructions.{stuck, only_if, store, exchange, registers_from}
-use Rattle.vale_lower.specs.Lowered.{call_code, set_code, store_code}
-use Rattle.vale_lower.specs.Scopes.{Scope, Around, number_of_function, may_be_called}
+use Rattle.vale_lowering.specs.Instructions.{stuck, only_if, store, exchange, registers_from}
+use Rattle.vale_lowering.specs.Lowered.{call_code, set_code, store_code}
+use Rattle.vale_lowering.specs.Scopes.{Scope, Around, number_of_function, may_be_called}
 use Rattle.vale_syntax.specs.Bytes.{is_byte}
-use Rattle.vale_lower.specs.Texts.{is_lawful_text}
+use Rattle.vale_lowering.specs.Texts.{is_lawful_text}
 use Rattle.vale_lower_code.specs.Held.{called}
 use Rattle.vale_lower_code.specs.Places.{place_named, is_set}
 

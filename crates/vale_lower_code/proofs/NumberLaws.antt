@@ -6,7 +6,7 @@ use Rattle.std.proofs.lemmas.Slice.Eq.{bytes_eq-Decides}
 use Rattle.vale_syntax.specs.Typed.{Function}
 use Rattle.vale_syntax.specs.Types.{is_copy}
 use Rattle.vale_model.specs.Parts.{is_pure, has_name, first_function}
-use Rattle.vale_lower.specs.Scopes.{agree, number_of_text, number_of_function, may_be_called, result_type}
+use Rattle.vale_lowering.specs.Scopes.{agree, number_of_text, number_of_function, may_be_called, result_type}
 use Rattle.vale_lower_code.specs.declared.functions.Callable.{Callable}
 use Rattle.vale_lower_code.specs.Found.{or_else}
 use Rattle.vale_lower_code.specs.Numbered.{or_count, callable, callable_from}

@@ -4,7 +4,7 @@ use Rattle.std.specs.Prelude.{slice_set}
 use Rattle.std.proofs.Math.Seq.{set-append_seam}
 use Rattle.vale_code.specs.declared.instr.Instr.{Instr}
 use Rattle.vale_code.specs.declared.instr.Instr.TheVariants as i
-use Rattle.vale_lower.specs.Instructions.{if_code, and_code, loop_code}
+use Rattle.vale_lowering.specs.Instructions.{if_code, and_code, loop_code}
 use Rattle.vale_lower_code.specs.Sides.{side_end, side_code}
 
 pub set_past : (xs : List Instr) (n : ℕ) (x : Instr) → length xs ≤ n → slice_set xs n x ≡ xs

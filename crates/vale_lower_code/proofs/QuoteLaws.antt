@@ -12,7 +12,7 @@ use Rattle.vale_syntax.specs.Typed as t
 use Rattle.vale_syntax.specs.View.{listed}
 use Rattle.vale_core.specs.View.{view_ty, view_seen, view_expr, view_node, view_form, view_stmt, view_block, view_else_if, view_link, elses_of, else_end, stmts_of, last_end}
 use Rattle.vale_core.proofs.ViewLaws as v
-use Rattle.vale_lower.specs.Texts.{expr_quotes, node_quotes, links_quotes, form_quotes, elses_quotes, block_quotes, stmts_quotes, stmt_quotes}
+use Rattle.vale_lowering.specs.Texts.{expr_quotes, node_quotes, links_quotes, form_quotes, elses_quotes, block_quotes, stmts_quotes, stmt_quotes}
 use Rattle.vale_lower_code.specs.Quotes.{link_quotes, else_if_quotes}
 
 of_out_expr : (e : Expr) → view_expr e ≡ t.expr (view_seen (out-Expr e).seen) (view_node (out-Expr e).node)

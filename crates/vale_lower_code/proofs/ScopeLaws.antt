@@ -1,6 +1,6 @@
 -- What is in scope, with one more.
 use Rattle.std.proofs.Common.{◌≡◌, ℕ, zero, suc, List, [], ◌∷◌, ◌++◌, ◌+◌, refl, ap, arith}
-use Rattle.vale_lower.specs.Scopes.{Entry, waiting, place_of}
+use Rattle.vale_lowering.specs.Scopes.{Entry, waiting, place_of}
 use Rattle.vale_lower_code.specs.declared.scope.Local.{Local}
 use Rattle.vale_lower_code.specs.Entries.{entry_of, framed, awaited}
 

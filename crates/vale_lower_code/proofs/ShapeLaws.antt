@@ -6,7 +6,7 @@ use Rattle.vale_syntax.specs.declared.tree.BinaryOp.TheVariants as op
 use Rattle.vale_syntax.specs.Types.{Ty}
 use Rattle.vale_syntax.specs.Types as y
 use Rattle.vale_code.specs.declared.instr.Instr.TheVariants as i
-use Rattle.vale_lower.specs.Instructions.{operator, registers_from}
+use Rattle.vale_lowering.specs.Instructions.{operator, registers_from}
 use Rattle.vale_lower_code.specs.Found.{is_text}
 
 pub add_by_type : (x : Ty) (at : Spot) (h : ℕ) → operator op.Add x at h ≡ (if is_text x then i.Join h h (h + 1) at else i.Add h h (h + 1) at)

@@ -19,9 +19,9 @@ use Rattle.vale_core.specs.View.{view_ty, view_seen, view_expr, view_node, view_
 use Rattle.vale_core.proofs.ViewLaws as v
 use Rattle.vale_code.specs.declared.instr.Instr.{Instr}
 use Rattle.vale_code.specs.declared.instr.Instr.TheVariants as i
-use Rattle.vale_lower.specs.Instructions.{only_if, then_at, load, loop_code, count_code, link_code}
-use Rattle.vale_lower.specs.Lowered.{count, expr_code, value_code, node_code, args_code, links_code, form_code, elses_code, block_code, stmts_code, unused_code}
-use Rattle.vale_lower.specs.Scopes.{Scope, Around, waiting, place_of}
+use Rattle.vale_lowering.specs.Instructions.{only_if, then_at, load, loop_code, count_code, link_code}
+use Rattle.vale_lowering.specs.Lowered.{count, expr_code, value_code, node_code, args_code, links_code, form_code, elses_code, block_code, stmts_code, unused_code}
+use Rattle.vale_lowering.specs.Scopes.{Scope, Around, waiting, place_of}
 use Rattle.vale_lower_code.specs.Entries.{awaited}
 use Rattle.vale_lower_code.specs.Going.{is_lowered, next_code, next_register, next_scope, set_only_code}
 use Rattle.vale_lower_code.specs.Places.{is_set}

@@ -16,9 +16,9 @@ use Rattle.vale_code.specs.Parts.{Parts as Code}
 use Rattle.vale_code.specs.declared.func.Func.{Func}
 use Rattle.vale_code.specs.declared.func.Impl.{Impl}
 use Rattle.vale_code.specs.declared.kind.KindInfo.{KindInfo}
-use Rattle.vale_lower.specs.Lowered.{lowered, lowered_function, functions_in, texts_in}
-use Rattle.vale_lower.specs.Scopes.{number_of_function}
-use Rattle.vale_lower.specs.Texts.{function_quotes}
+use Rattle.vale_lowering.specs.Lowered.{lowered, lowered_function, functions_in, texts_in}
+use Rattle.vale_lowering.specs.Scopes.{number_of_function}
+use Rattle.vale_lowering.specs.Texts.{function_quotes}
 use Rattle.vale_lower_code.specs.declared.functions.Functions.{Functions}
 use Rattle.vale_lower_code.specs.Held.{functions_of}
 

@@ -1,6 +1,6 @@
 -- The entries of a scope as the code keeps it.
 use Rattle.std.specs.Prelude.{ℕ, zero, suc, ◌+◌, List, [], ◌∷◌}
-use Rattle.vale_lower.specs.Scopes.{Entry, entry, waiting}
+use Rattle.vale_lowering.specs.Scopes.{Entry, entry, waiting}
 use Rattle.vale_lower_code.specs.declared.scope.Local.{Local}
 use Rattle.vale_lower_code.specs.declared.scope.Scope.{Scope}
 use Rattle.vale_lower_code.specs.declared.scope.Scope.TheVariants.{Outside, Frame', Waiting'}

@@ -2,9 +2,9 @@
 use Rattle.std.specs.Prelude.{ℕ, ◌+◌, Bool, true, false, List, ◌∷◌, ◌++◌}
 use Rattle.vale_syntax.specs.Typed.{Node, set, Stmt, declare, destructure}
 use Rattle.vale_code.specs.declared.instr.Instr.{Instr}
-use Rattle.vale_lower.specs.Instructions.{stuck}
-use Rattle.vale_lower.specs.Scopes.{Scope, Around, entry}
-use Rattle.vale_lower.specs.Lowered.{value_code, stmt_code, store_code}
+use Rattle.vale_lowering.specs.Instructions.{stuck}
+use Rattle.vale_lowering.specs.Scopes.{Scope, Around, entry}
+use Rattle.vale_lowering.specs.Lowered.{value_code, stmt_code, store_code}
 
 -- whether the block goes on behind it
 abbrev pub is_lowered : Stmt → Bool

@@ -3,7 +3,7 @@ use Rattle.std.specs.Prelude.{ℕ, Bool, List, map, Option, Some, None, if◌the
 use Rattle.vale_syntax.specs.Typed.{Function}
 use Rattle.vale_core.specs.View.{view_function}
 use Rattle.vale_model.specs.Parts.{has_name, first_function}
-use Rattle.vale_lower.specs.Scopes.{number_of_function, may_be_called}
+use Rattle.vale_lowering.specs.Scopes.{number_of_function, may_be_called}
 use Rattle.vale_lower_code.specs.declared.texts.Texts.{Texts}
 use Rattle.vale_lower_code.specs.declared.functions.Functions.{Functions}
 

@@ -5,7 +5,7 @@ use Rattle.std.specs.HashMap.{get, get_by}
 use Rattle.vale_syntax.specs.Typed.{Function}
 use Rattle.vale_syntax.specs.Types.{is_copy}
 use Rattle.vale_model.specs.Parts.{is_pure, has_name}
-use Rattle.vale_lower.specs.Scopes.{number_of_text, result_type}
+use Rattle.vale_lowering.specs.Scopes.{number_of_text, result_type}
 use Rattle.vale_lower_code.specs.declared.texts.Places.{Places}
 use Rattle.vale_lower_code.specs.declared.functions.Callable.{Callable}
 use Rattle.vale_lower_code.specs.declared.functions.Callables.{Callables}

@@ -1,7 +1,7 @@
 -- What is set, and the register of the local.
 use Rattle.std.specs.Prelude.{ℕ, Bool, true, false, Option, None}
 use Rattle.vale_syntax.specs.Typed.{Expr, expr, name, set}
-use Rattle.vale_lower.specs.Scopes.{Scope, place_of}
+use Rattle.vale_lowering.specs.Scopes.{Scope, place_of}
 
 abbrev pub place_named : Expr → Scope → Option ℕ
 place_named (expr x (name n moved)) s = place_of n.name.0 s

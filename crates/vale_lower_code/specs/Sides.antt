@@ -3,8 +3,8 @@ use Rattle.std.specs.Prelude.{ℕ, ◌+◌, Bool, List, [], ◌∷◌, ◌++◌,
 use Rattle.vale_syntax.specs.Typed.{ElseIf, else_if}
 use Rattle.vale_code.specs.declared.instr.Instr.{Instr}
 use Rattle.vale_code.specs.declared.instr.Instr.TheVariants as i
-use Rattle.vale_lower.specs.Scopes.{Scope, Around}
-use Rattle.vale_lower.specs.Lowered.{value_code, block_code}
+use Rattle.vale_lowering.specs.Scopes.{Scope, Around}
+use Rattle.vale_lowering.specs.Lowered.{value_code, block_code}
 
 -- where the jump of a side stands
 abbrev pub side_end : ℕ → List Instr → (ℕ → List Instr) → ℕ

@@ -1,5 +1,5 @@
 -- What a body names, as the definitions have it.
-use Rattle.vale_lower.specs.Scopes as s
+use Rattle.vale_lowering.specs.Scopes as s
 use Rattle.vale_lower_code.specs.declared.around.Around.{Around}
 use Rattle.vale_lower_code.specs.Held.{texts_of, functions_of}
 

@@ -1,7 +1,7 @@
 // Instructions that grow at their end.
 ghost use Rattle.std.specs.Prelude.{◌≡◌, ◌+◌, ◌<◌, ◌∷◌, ◌++◌, length, slice_set, pos, IfOk, OnOk};
 ghost use Rattle.vale_code.specs.declared.instr.Instr.TheVariants as i;
-ghost use Rattle.vale_lower.specs.Instructions.{stuck};
+ghost use Rattle.vale_lowering.specs.Instructions.{stuck};
 ghost use Rattle.vale_lower_code.specs.Sides.{jumps_set};
 
 use std::alloc::Global;

@@ -4,8 +4,8 @@ ghost use Rattle.vale_syntax.specs.Declarations.{is_called, head_name};
 ghost use Rattle.vale_core.specs.View.{view_function};
 ghost use Rattle.vale_model.specs.Kinds.{head_of};
 ghost use Rattle.vale_model.specs.Parts.{name_of};
-ghost use Rattle.vale_lower.specs.Scopes.{number_of_function};
-ghost use Rattle.vale_lower.specs.Texts.{function_quotes};
+ghost use Rattle.vale_lowering.specs.Scopes.{number_of_function};
+ghost use Rattle.vale_lowering.specs.Texts.{function_quotes};
 
 use crate::emission::above;
 use crate::quotes::add_block;

@@ -2,10 +2,10 @@
 ghost use Rattle.std.specs.Prelude.{◌≡◌, ◌++◌, ◌∷◌, [], ◌&&◌, not, length, OnOk};
 ghost use Rattle.vale_core.specs.View.{view_expr, view_callee, view_ty};
 ghost use Rattle.vale_code.specs.declared.instr.Instr.TheVariants as i;
-ghost use Rattle.vale_lower.specs.Instructions.{only_if, load, operator};
-ghost use Rattle.vale_lower.specs.Lowered.{call_code, callee_code, set_code, store_code};
-ghost use Rattle.vale_lower.specs.Scopes.{number_of_text, place_of};
-ghost use Rattle.vale_lower.specs.Texts.{is_lawful_text};
+ghost use Rattle.vale_lowering.specs.Instructions.{only_if, load, operator};
+ghost use Rattle.vale_lowering.specs.Lowered.{call_code, callee_code, set_code, store_code};
+ghost use Rattle.vale_lowering.specs.Scopes.{number_of_text, place_of};
+ghost use Rattle.vale_lowering.specs.Texts.{is_lawful_text};
 ghost use Rattle.vale_lower_code.specs.Entries.{entries};
 ghost use Rattle.vale_lower_code.specs.Places.{place_named, is_set};
 ghost use Rattle.vale_lower_code.specs.Held.{texts_of};

@@ -1,7 +1,7 @@
 // The quotes of a body, in order.
 ghost use Rattle.std.specs.Prelude.{◌≡◌, ◌++◌, None, map, option_map, OnOk};
 ghost use Rattle.vale_core.specs.View.{view_expr, view_node, view_form, view_stmt, view_block, view_else_if, view_link, exprs_of, links_of, elses_of, else_end, stmts_of, last_end};
-ghost use Rattle.vale_lower.specs.Texts.{expr_quotes, node_quotes, exprs_quotes, links_quotes, form_quotes, elses_quotes, block_quotes, stmts_quotes, stmt_quotes};
+ghost use Rattle.vale_lowering.specs.Texts.{expr_quotes, node_quotes, exprs_quotes, links_quotes, form_quotes, elses_quotes, block_quotes, stmts_quotes, stmt_quotes};
 ghost use Rattle.vale_lower_code.specs.Quotes.{link_quotes, else_if_quotes};
 
 use sqlite_items::{Boxed, Items};

@@ -1,6 +1,6 @@
 // How many registers instructions name.
 ghost use Rattle.std.specs.Prelude.{◌≡◌, ◌+◌, max};
-ghost use Rattle.vale_lower.specs.Lowered.{room_of, room_for, registers_in};
+ghost use Rattle.vale_lowering.specs.Lowered.{room_of, room_for, registers_in};
 
 use vale_code::Instr;
 

@@ -1,6 +1,6 @@
 // The locals in scope and their registers.
 ghost use Rattle.std.specs.Prelude.{◌≡◌, List};
-ghost use Rattle.vale_lower.specs.Scopes.{Entry, place_of};
+ghost use Rattle.vale_lowering.specs.Scopes.{Entry, place_of};
 ghost use Rattle.vale_lower_code.specs.Entries.{framed, entries};
 ghost use Rattle.vale_lower_code.specs.Found.{or_else};
 

@@ -2,9 +2,9 @@
 ghost use Rattle.std.specs.Prelude.{◌≡◌, ◌+◌, ◌∷◌, ◌++◌, [], ◌&&◌, length, IfOk, OnOk};
 ghost use Rattle.vale_text.specs.Operations.{is_int};
 ghost use Rattle.vale_core.specs.View.{view_ty};
-ghost use Rattle.vale_lower.specs.Instructions.{only_if, load, store, exchange, operator, unary_code, registers_from, built_in_code};
-ghost use Rattle.vale_lower.specs.Lowered.{truth_number};
-ghost use Rattle.vale_lower.specs.Scopes.{agree};
+ghost use Rattle.vale_lowering.specs.Instructions.{only_if, load, store, exchange, operator, unary_code, registers_from, built_in_code};
+ghost use Rattle.vale_lowering.specs.Lowered.{truth_number};
+ghost use Rattle.vale_lowering.specs.Scopes.{agree};
 ghost use Rattle.vale_lower_code.specs.Found.{is_text};
 ghost use Rattle.vale_code.specs.declared.instr.Instr.TheVariants as i;
 

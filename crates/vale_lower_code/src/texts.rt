@@ -1,7 +1,7 @@
 // The texts of a code and their numbers.
 ghost use Rattle.std.specs.Prelude.{◌≡◌, ℕ, ◌∷◌, ◌++◌, map, length, ◌<◌, IfOk, OnOk, Some, None, bytes_eq, if◌then◌else◌};
 ghost use Rattle.std.specs.Borrow.{Bor};
-ghost use Rattle.vale_lower.specs.Scopes.{number_of_text};
+ghost use Rattle.vale_lowering.specs.Scopes.{number_of_text};
 ghost use Rattle.vale_lower_code.specs.Found.{or_else};
 ghost use Rattle.vale_lower_code.specs.Numbered.{text_place, AreNumbered};
 

@@ -1,7 +1,7 @@
 // The code of a body, in one walk over it.
 ghost use Rattle.std.specs.Prelude.{◌≡◌, ◌+◌, ◌++◌, ◌∷◌, [], None, length, map, option_map, if◌then◌else◌, IfOk, OnOk};
 ghost use Rattle.vale_core.specs.View.{view_expr, view_node, view_form, view_stmt, view_block, view_else_if, view_link, exprs_of, links_of, else_end, stmts_of, last_end, return_of};
-ghost use Rattle.vale_lower.specs.Lowered.{expr_code, value_code, node_code, args_code, links_code, form_code, elses_code, block_code, stmts_code, stmt_code, unused_code};
+ghost use Rattle.vale_lowering.specs.Lowered.{expr_code, value_code, node_code, args_code, links_code, form_code, elses_code, block_code, stmts_code, stmt_code, unused_code};
 ghost use Rattle.vale_lower_code.specs.Entries.{entries, framed};
 ghost use Rattle.vale_lower_code.specs.Going.{is_lowered, next_code, next_register, next_scope, set_only_code};
 ghost use Rattle.vale_lower_code.specs.Sides.{else_if_code, else_if_end, sides_code, sides_ends};

@@ -2,7 +2,7 @@
 ghost use Rattle.std.specs.Prelude.{◌≡◌, map, IfOk};
 ghost use Rattle.vale_core.specs.View.{view_core, view_function};
 ghost use Rattle.vale_model.specs.Parts.{Parts};
-ghost use Rattle.vale_lower.specs.Lowered.{lowered, lowered_function};
+ghost use Rattle.vale_lowering.specs.Lowered.{lowered, lowered_function};
 ghost use Rattle.vale_lower_code.specs.Held.{functions_of};
 
 use crate::function::lower_function;

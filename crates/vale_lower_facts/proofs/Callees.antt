@@ -22,10 +22,10 @@ use Rattle.vale_cert.specs.Known.{Known, fact_of}
 use Rattle.vale_cert.specs.Numbers.{numbers, takes_result, calls_function}
 use Rattle.vale_cert.specs.Rules.{Row, gets, passes_all, comes_back, all_fine, calls, call_by_form}
 use Rattle.vale_cert.specs.declared.facts.RegFact.TheVariants.{Held}
-use Rattle.vale_lower.specs.Covered.{type_is_covered, built_in_is_covered}
-use Rattle.vale_lower.specs.Instructions.{registers_from, built_in_code}
-use Rattle.vale_lower.specs.Lowered.{count, call_code, room_of}
-use Rattle.vale_lower.specs.Scopes.{code_type, agree, may_be_called, number_of_function, result_type}
+use Rattle.vale_lowering.specs.Covered.{type_is_covered, built_in_is_covered}
+use Rattle.vale_lowering.specs.Instructions.{registers_from, built_in_code}
+use Rattle.vale_lowering.specs.Lowered.{count, call_code, room_of}
+use Rattle.vale_lowering.specs.Scopes.{code_type, agree, may_be_called, number_of_function, result_type}
 use Rattle.vale_lower_facts.specs.Slots.{waits, holds, Stand, with_slot, given, type_at}
 use Rattle.vale_lower_facts.specs.Marks.{mark, marked, with_args}
 use Rattle.vale_lower_facts.specs.Suits.{IsBuiltIn, IsCalled}

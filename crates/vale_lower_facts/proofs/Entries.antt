@@ -15,7 +15,7 @@ use Rattle.vale_code.specs.declared.ty.Ty.{Ty as CodeTy}
 use Rattle.vale_cert.specs.Known.{fact_of, params_from}
 use Rattle.vale_cert.specs.declared.facts.RegFact.{RegFact}
 use Rattle.vale_cert.specs.declared.facts.RegFact.TheVariants.{Empty, Held}
-use Rattle.vale_lower.specs.Scopes.{place_of, parameters, code_type}
+use Rattle.vale_lowering.specs.Scopes.{place_of, parameters, code_type}
 use Rattle.vale_lower_facts.specs.Slots.{Slots, local, scope_of, Stand, slot_at, or_last, type_at}
 use Rattle.vale_lower_facts.specs.Marks.{param_slots}
 use Rattle.vale_lower_facts.proofs.Stands.{Site, Covers, type_here, type_there, is_plain}

@@ -11,7 +11,7 @@ use Rattle.vale_syntax.specs.Tree.{int_type, set, chain, number, quote, truth, n
 use Rattle.vale_cert.specs.Certificate.{first_fault}
 use Rattle.vale_cert.specs.declared.facts.FuncFacts.{FuncFacts}
 use Rattle.vale_cert.specs.declared.fault.Fault.{Fault}
-use Rattle.vale_lower.specs.Lowered.{lowered}
+use Rattle.vale_lowering.specs.Lowered.{lowered}
 use Rattle.vale_lower_facts.specs.Marks.{lowered_facts}
 
 abbrev at : ℕ → ℕ → Spot

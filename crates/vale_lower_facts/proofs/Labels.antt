@@ -9,7 +9,7 @@ use Rattle.vale_cert.specs.Known.{label_at, rise, rise_from}
 use Rattle.vale_cert.specs.Shape.{label_is_lawful, fact_is_lawful}
 use Rattle.vale_cert.specs.Types.{is_copy, is_type}
 use Rattle.vale_cert.specs.declared.facts.Label.{Label}
-use Rattle.vale_lower.specs.Lowered.{registers_in}
+use Rattle.vale_lowering.specs.Lowered.{registers_in}
 use Rattle.vale_lower_facts.specs.Slots.{Stand, Last, type_at, fact_for, facts_from, label_for}
 use Rattle.vale_lower_facts.specs.Marks.{Marks, labels_from}
 use Rattle.vale_lower_facts.proofs.Stands.{Site, Plain, length_facts}

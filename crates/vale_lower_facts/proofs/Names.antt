@@ -13,9 +13,9 @@ use Rattle.vale_model.specs.Kinds.{head_of}
 use Rattle.vale_model.specs.Parts.{first_function, has_name, is_pure}
 use Rattle.vale_code.specs.declared.func.Func.{Func}
 use Rattle.vale_cert.specs.Types.{is_copy}
-use Rattle.vale_lower.specs.Covered.{type_is_covered}
-use Rattle.vale_lower.specs.Scopes.{Around, place_of, code_type, result_type, number_of_function}
-use Rattle.vale_lower.proofs.Lookups.{in_front}
+use Rattle.vale_lowering.specs.Covered.{type_is_covered}
+use Rattle.vale_lowering.specs.Scopes.{Around, place_of, code_type, result_type, number_of_function}
+use Rattle.vale_lowering.proofs.Lookups.{in_front}
 use Rattle.vale_lower_facts.specs.Slots.{local, waits, holds, Stand, scope_at, with_slot, behind, type_at}
 use Rattle.vale_lower_facts.specs.Marks.{with_args}
 use Rattle.vale_lower_facts.proofs.Stands.{Site, Below, below_up, below_slot, below_behind, type_here, type_there, Says, says_same, says_then, says_slot, says_behind}

@@ -16,10 +16,10 @@ use Rattle.vale_code.specs.declared.instr.Instr.TheVariants as i
 use Rattle.vale_code.specs.declared.ty.Ty.{Ty as CodeTy}
 use Rattle.vale_code.specs.declared.ty.Ty.TheVariants as t
 use Rattle.vale_cert.specs.Rules.{is_ordered}
-use Rattle.vale_lower.specs.Covered.{unary_is_covered}
-use Rattle.vale_lower.specs.Instructions.{only_if, link_code, unary_code}
-use Rattle.vale_lower.specs.Lowered.{value_code}
-use Rattle.vale_lower.specs.Scopes.{Around, code_type}
+use Rattle.vale_lowering.specs.Covered.{unary_is_covered}
+use Rattle.vale_lowering.specs.Instructions.{only_if, link_code, unary_code}
+use Rattle.vale_lowering.specs.Lowered.{value_code}
+use Rattle.vale_lowering.specs.Scopes.{Around, code_type}
 use Rattle.vale_lower_facts.specs.Slots.{holds, Stand, scope_at, with_slot, given, behind, type_at}
 use Rattle.vale_lower_facts.specs.Returned.{expr_returns}
 use Rattle.vale_lower_facts.specs.Marks.{Marks, mark, only_marks, marked, link_due, link_marks, value_due, value_marks}

@@ -31,11 +31,11 @@ use Rattle.vale_cert.specs.Shape.{counted_after, funcs_fault, func_is_lawful, he
 use Rattle.vale_cert.specs.Types.{is_copy, is_type, is_result, is_void, reaches_isolate, ◌⇒◌}
 use Rattle.vale_cert.specs.Walk.{or_else, walk, function_fault, functions_fault}
 use Rattle.vale_cert.specs.declared.facts.FuncFacts.{FuncFacts}
-use Rattle.vale_lower.specs.Covered.{type_is_covered, function_is_covered, item_is_covered, block_is_covered, is_covered}
-use Rattle.vale_lower.specs.Lowered.{registers_in, end_code, form_of, around_of, names_in, block_code, lowered_function, functions_in, texts_in, lowered_parts, lowered}
-use Rattle.vale_lower.specs.Scopes.{Around, code_type, head_result, result_type, parameters, number_of_function}
-use Rattle.vale_lower.specs.Texts.{function_quotes, block_quotes}
-use Rattle.vale_lower.proofs.Lookups.{found_function, found_text, in_front}
+use Rattle.vale_lowering.specs.Covered.{type_is_covered, function_is_covered, item_is_covered, block_is_covered, is_covered}
+use Rattle.vale_lowering.specs.Lowered.{registers_in, end_code, form_of, around_of, names_in, block_code, lowered_function, functions_in, texts_in, lowered_parts, lowered}
+use Rattle.vale_lowering.specs.Scopes.{Around, code_type, head_result, result_type, parameters, number_of_function}
+use Rattle.vale_lowering.specs.Texts.{function_quotes, block_quotes}
+use Rattle.vale_lowering.proofs.Lookups.{found_function, found_text, in_front}
 use Rattle.vale_lower_facts.specs.Slots.{Stand, behind, type_at, or_last}
 use Rattle.vale_lower_facts.specs.Returned.{block_returns}
 use Rattle.vale_lower_facts.specs.Marks.{Marks, mark, block_due, block_marks, param_slots, entry_stand, value_type, last_of, function_marks, function_facts, facts_of_parts, lowered_facts}

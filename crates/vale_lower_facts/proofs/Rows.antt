@@ -18,9 +18,9 @@ use Rattle.vale_cert.specs.Walk.{goes_on, target_of}
 use Rattle.vale_cert.specs.declared.facts.RegFact.{RegFact}
 use Rattle.vale_cert.specs.declared.facts.RegFact.TheVariants.{Held}
 use Rattle.vale_cert.specs.declared.rules.Kept.{Kept}
-use Rattle.vale_lower.specs.Instructions.{registers_from}
-use Rattle.vale_lower.specs.Lowered.{room_for}
-use Rattle.vale_lower.specs.Scopes.{code_type}
+use Rattle.vale_lowering.specs.Instructions.{registers_from}
+use Rattle.vale_lowering.specs.Lowered.{room_for}
+use Rattle.vale_lowering.specs.Scopes.{code_type}
 use Rattle.vale_lower_facts.specs.Slots.{Slot, slot_register, slot_type, holds, Stand, with_slot, type_at}
 use Rattle.vale_lower_facts.specs.Marks.{mark}
 use Rattle.vale_lower_facts.proofs.Stands.{Site, Covers, Says, covers_less, covers_write, covers_kept, covers_again, plain_free, plain_less, plain_slot}

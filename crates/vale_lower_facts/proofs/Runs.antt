@@ -14,7 +14,7 @@ use Rattle.vale_cert.specs.Walk.{Rules, broken, fault_of, or_else, row_of, after
 use Rattle.vale_cert.specs.declared.facts.Label.{Label}
 use Rattle.vale_cert.specs.declared.facts.RegFact.TheVariants.{Held}
 use Rattle.vale_cert.specs.declared.fault.Fault.{Fault}
-use Rattle.vale_lower.specs.Lowered.{room_for}
+use Rattle.vale_lowering.specs.Lowered.{room_for}
 use Rattle.vale_lower_facts.specs.Slots.{Stand, type_at, label_for}
 use Rattle.vale_lower_facts.specs.Marks.{Marks, mark}
 use Rattle.vale_lower_facts.proofs.Stands.{Site, Covers, Says, covers_less, Plain, plain_less, covers_plain, enters_label, known_of, covers_stated, covers_kept}

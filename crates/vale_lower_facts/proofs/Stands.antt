@@ -14,7 +14,7 @@ use Rattle.vale_cert.specs.Known.{Known, fact_of, is_free, agrees, agree, may_en
 use Rattle.vale_cert.specs.declared.facts.Label.{Label}
 use Rattle.vale_cert.specs.declared.facts.RegFact.{RegFact}
 use Rattle.vale_cert.specs.declared.facts.RegFact.TheVariants.{Empty, Held}
-use Rattle.vale_lower.specs.Scopes.{code_type}
+use Rattle.vale_lowering.specs.Scopes.{code_type}
 use Rattle.vale_lower_facts.specs.Slots.{Slot, holds, slot_register, slot_type, Stand, with_slot, given, behind, slot_at, Last, or_last, type_at, fact_for, facts_from, label_for}
 
 -- ---- facts

@@ -18,13 +18,13 @@ use Rattle.vale_code.specs.declared.instr.Instr.{Instr}
 use Rattle.vale_code.specs.declared.instr.Instr.TheVariants as i
 use Rattle.vale_code.specs.declared.ty.Ty.TheVariants as t
 use Rattle.vale_cert.specs.Rules.{is_short}
-use Rattle.vale_lower.specs.Covered.{type_is_covered, unary_is_covered, callee_is_covered, is_local, expr_is_covered, node_is_covered, exprs_are_covered, links_are_covered, form_is_covered, elses_are_covered, block_is_covered, stmts_are_covered, stmt_is_covered}
-use Rattle.vale_lower.specs.Instructions.{only_if, load, store, exchange, link_code, count_code}
-use Rattle.vale_lower.specs.Lowered.{truth_number, set_code, store_code, expr_code, value_code, node_code, args_code, links_code, form_code, elses_code, block_code, stmts_code, stmt_code, unused_code}
-use Rattle.vale_lower.specs.Scopes.{Around, place_of, code_type, agree, number_of_text}
+use Rattle.vale_lowering.specs.Covered.{type_is_covered, unary_is_covered, callee_is_covered, is_local, expr_is_covered, node_is_covered, exprs_are_covered, links_are_covered, form_is_covered, elses_are_covered, block_is_covered, stmts_are_covered, stmt_is_covered}
+use Rattle.vale_lowering.specs.Instructions.{only_if, load, store, exchange, link_code, count_code}
+use Rattle.vale_lowering.specs.Lowered.{truth_number, set_code, store_code, expr_code, value_code, node_code, args_code, links_code, form_code, elses_code, block_code, stmts_code, stmt_code, unused_code}
+use Rattle.vale_lowering.specs.Scopes.{Around, place_of, code_type, agree, number_of_text}
 use Rattle.vale_syntax.specs.Bytes.{is_byte}
-use Rattle.vale_lower.specs.Texts.{is_lawful_text, expr_quotes, node_quotes, exprs_quotes, links_quotes, form_quotes, elses_quotes, block_quotes, stmts_quotes, stmt_quotes}
-use Rattle.vale_lower.proofs.Lookups.{found_text}
+use Rattle.vale_lowering.specs.Texts.{is_lawful_text, expr_quotes, node_quotes, exprs_quotes, links_quotes, form_quotes, elses_quotes, block_quotes, stmts_quotes, stmt_quotes}
+use Rattle.vale_lowering.proofs.Lookups.{found_text}
 use Rattle.vale_lower_facts.specs.Slots.{local, waits, holds, Stand, scope_at, with_slot, given, behind, type_at}
 use Rattle.vale_lower_facts.specs.Returned.{block_returns, stmts_return, stmt_returns, expr_returns, node_returns, form_returns, elses_return}
 use Rattle.vale_lower_facts.specs.Marks.{Marks, mark, marked, only_marks, with_args, counted, count_marks, link_due, links_due, form_due, expr_due, node_due, value_due, unused_due, args_due, stmt_due, stmts_due, block_due, expr_marks, value_marks, node_marks, args_marks, links_marks, form_marks, elses_marks, block_marks, stmts_marks, stmt_marks, unused_marks}

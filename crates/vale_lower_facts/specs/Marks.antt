@@ -16,9 +16,9 @@ use Rattle.vale_code.specs.declared.instr.Instr.{Instr}
 use Rattle.vale_code.specs.declared.ty.Ty.{Ty as CodeTy}
 use Rattle.vale_cert.specs.declared.facts.FuncFacts.{FuncFacts}
 use Rattle.vale_cert.specs.declared.facts.Label.{Label}
-use Rattle.vale_lower.specs.Instructions.{unary_code}
-use Rattle.vale_lower.specs.Scopes.{code_type, agree, Around, result_type}
-use Rattle.vale_lower.specs.Lowered.{count, callee_code, set_code, store_code, around_of, names_in, lowered_function, functions_in, texts_in}
+use Rattle.vale_lowering.specs.Instructions.{unary_code}
+use Rattle.vale_lowering.specs.Scopes.{code_type, agree, Around, result_type}
+use Rattle.vale_lowering.specs.Lowered.{count, callee_code, set_code, store_code, around_of, names_in, lowered_function, functions_in, texts_in}
 use Rattle.vale_lower_facts.specs.Returned.{block_returns, stmt_returns, expr_returns}
 use Rattle.vale_lower_facts.specs.Slots.{Slots, local, waits, holds, Stand, scope_at, with_slot, given, behind, Last, label_for}
 

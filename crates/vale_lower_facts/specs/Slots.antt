@@ -5,7 +5,7 @@ use Rattle.vale_code.specs.declared.ty.Ty.{Ty as CodeTy}
 use Rattle.vale_cert.specs.declared.facts.Label.{Label}
 use Rattle.vale_cert.specs.declared.facts.RegFact.{RegFact}
 use Rattle.vale_cert.specs.declared.facts.RegFact.TheVariants.{Empty, Held}
-use Rattle.vale_lower.specs.Scopes.{Scope, entry, waiting, code_type}
+use Rattle.vale_lowering.specs.Scopes.{Scope, entry, waiting, code_type}
 
 -- a register that holds a value of a type: a local by its name; a value that waits, as the lowering's scope lists it; or a value at
 -- hand, which that scope doesn't list

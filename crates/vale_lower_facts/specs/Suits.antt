@@ -12,9 +12,9 @@ use Rattle.vale_syntax.specs.TypeRules.{takes_operands, link_gives, takes_argume
 use Rattle.vale_syntax.specs.Typing.{Env, with_local, after, entry}
 use Rattle.vale_model.specs.Kinds.{head_of, body_of}
 use Rattle.vale_model.specs.Parts.{Parts, parts_of, first_function, has_name, has_text}
-use Rattle.vale_lower.specs.Lowered.{functions_in}
-use Rattle.vale_lower.specs.Scopes.{result_type}
-use Rattle.vale_lower.specs.Texts.{is_lawful_text}
+use Rattle.vale_lowering.specs.Lowered.{functions_in}
+use Rattle.vale_lowering.specs.Scopes.{result_type}
+use Rattle.vale_lowering.specs.Texts.{is_lawful_text}
 use Rattle.vale_lower_facts.specs.Returned.{block_returns}
 
 -- a name is that of a local of this type

@@ -8,13 +8,13 @@ ghost use Rattle.vale_syntax.specs.Typed.{Typed};
 ghost use Rattle.vale_model.specs.Meaning.{meaning};
 ghost use Rattle.vale_code.specs.Run.{run_code};
 ghost use Rattle.vale_cert.specs.Certificate.{Certified};
-ghost use Rattle.vale_lower.specs.Covered.{is_covered};
-ghost use Rattle.vale_lower.specs.Lowered.{lowered};
+ghost use Rattle.vale_lowering.specs.Covered.{is_covered};
+ghost use Rattle.vale_lowering.specs.Lowered.{lowered};
 ghost use Rattle.vale_lower_facts.specs.Marks.{lowered_facts};
 ghost use Rattle.vale_lower_facts.specs.Suits.{Suits};
 
 use vale_cert::certified_code_never_goes_wrong;
-use vale_lower::lowered_code_does_what_is_meant;
+use vale_lowering::lowered_code_does_what_is_meant;
 
 /// The code of a program whose types fit is certified with its facts, where the program is one of those that are lowered.
 pub fn lowered_code_is_certified()

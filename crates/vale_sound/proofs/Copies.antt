@@ -14,7 +14,7 @@ use Rattle.vale_syntax.specs.Types.{Ty, void, int, bool, str, is_void, is_copy, 
 use Rattle.vale_syntax.specs.Typed as t
 use Rattle.vale_syntax.specs.TypeRules.{link_gives, takes_arguments, may_push, is_array_ref, arity, built_in_gives, Called, nothing, language, struct, program, built_ins, built_in_among, called_else, called, callee, called_rules, called_gives, head_gives, is_pure_head, set_gives}
 use Rattle.vale_syntax.specs.Typing.{Env, with_local, with_params, entry, named}
-use Rattle.vale_lower.specs.Covered.{type_is_covered, built_in_is_covered, callee_is_covered, is_local, expr_is_covered, exprs_are_covered}
+use Rattle.vale_lowering.specs.Covered.{type_is_covered, built_in_is_covered, callee_is_covered, is_local, expr_is_covered, exprs_are_covered}
 use Rattle.vale_front.specs.Missing as m
 use Rattle.vale_sound.proofs.Fine.{rule_kept, one_rule, asked}
 use Rattle.vale_sound.proofs.Fits.{impossible, covered_type, seen_place}

@@ -12,8 +12,8 @@ use Rattle.vale_syntax.specs.TypeRules.{head_gives, function_rules}
 use Rattle.vale_syntax.specs.Returns.{block_returns}
 use Rattle.vale_syntax.specs.Typing.{entry, void_block, in_function, in_functions, in_item, in_items}
 use Rattle.vale_model.specs.Parts.{first_function, functions_of, has_name, is_pure}
-use Rattle.vale_lower.specs.Covered.{type_is_covered, block_is_covered, function_is_covered, item_is_covered}
-use Rattle.vale_lower.specs.Scopes.{head_result}
+use Rattle.vale_lowering.specs.Covered.{type_is_covered, block_is_covered, function_is_covered, item_is_covered}
+use Rattle.vale_lowering.specs.Scopes.{head_result}
 use Rattle.vale_lower_facts.specs.Suits.{function_suits, all_suit}
 use Rattle.vale_sound.proofs.Fine.{one_rule, asked, of_node, of_plain, of_fine, of_both}
 use Rattle.vale_sound.proofs.Fits.{impossible, same_gives}

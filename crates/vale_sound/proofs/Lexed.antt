@@ -12,7 +12,7 @@ use Rattle.vale_syntax.specs.declared.token.Token.{Token}
 use Rattle.vale_syntax.specs.declared.token.TokenKind.{TokenKind}
 use Rattle.vale_syntax.specs.declared.token.TokenKind.TheVariants as k
 use Rattle.vale_syntax.specs.Bytes.{is_byte}
-use Rattle.vale_lower.specs.Texts.{is_lawful_text}
+use Rattle.vale_lowering.specs.Texts.{is_lawful_text}
 use Rattle.vale_sound.proofs.Literals.{IsLawful, AreLawful}
 
 abbrev AreBytes : List ℕ → Type 0

@@ -14,7 +14,7 @@ use Rattle.vale_syntax.specs.declared.token.Word.{Word}
 use Rattle.vale_syntax.specs.declared.tree.NameAt.{NameAt}
 use Rattle.vale_syntax.specs.Grammar.{Part, one, word, nothing, when, optional, each, with_commas, deeper, ◌▸◌, ◌⊳◌, whole, postfix, primary, operand, alone, goes_on, HasLinks, named, member, sign, IsType, IsExpr, AreArgs, AreMoreArgs, AreLinks, IsStep, AreSteps, IsForm, IsElseIf, AreElses, IsBlock, AreStmts, IsStmt, IsParam, IsHead, IsFunction, IsField, IsItem, spells}
 use Rattle.vale_syntax.specs.Tree.{TypeExpr, int_type, bool_type, str_type, named_type, array_type, ref_type, imm_ref_type, iso_type, Expr, set, chain, unary, steps, number, quote, truth, name, call, paren, array, iso, form, Exprs, no_exprs, more_exprs, Link, link, Links, no_links, more_links, Step, field, method, index, Steps, no_steps, more_steps, Form, branch, pure, parallel_range, parallel_each, ElseIf, else_if, Elses, no_else, otherwise, more_elses, Block, block, Stmt, declare, destructure, return_nothing, return_value, while, foreach, form_stmt, express, Stmts, no_stmts, last, more_stmts, Param, param, Head, head, Function, function, FieldDecl, field_decl, Item, struct_item, interface_item, impl_item, function_item, tree}
-use Rattle.vale_lower.specs.Texts.{is_lawful_text}
+use Rattle.vale_lowering.specs.Texts.{is_lawful_text}
 
 -- ---- lawful literals
 

@@ -24,8 +24,8 @@ use Rattle.vale_syntax.specs.TypeRules as rules
 use Rattle.vale_syntax.specs.Returns.{block_returns}
 use Rattle.vale_model.specs.Kinds.{head_of}
 use Rattle.vale_model.specs.Parts.{first_function, functions_of, is_pure}
-use Rattle.vale_lower.specs.Covered.{type_is_covered, block_is_covered, function_is_covered, item_is_covered}
-use Rattle.vale_lower.specs.Scopes.{head_result, result_type}
+use Rattle.vale_lowering.specs.Covered.{type_is_covered, block_is_covered, function_is_covered, item_is_covered}
+use Rattle.vale_lowering.specs.Scopes.{head_result, result_type}
 use Rattle.vale_sound.proofs.Fine.{rule_kept, one_rule, asked, of_node, of_plain, of_fine, of_both}
 use Rattle.vale_sound.proofs.Fits.{impossible, not_true}
 

@@ -19,8 +19,8 @@ use Rattle.vale_syntax.specs.Takes.{is_value_under}
 use Rattle.vale_syntax.specs.Typing.{Env, with_local, after, deeper, named, form_spot, expr, exprs, operand, links, in_form, in_else_if, elses, in_block, void_block, stmts, stmt, new_name, new_names}
 use Rattle.vale_model.specs.Kinds.{head_of}
 use Rattle.vale_model.specs.Parts.{first_function, has_name}
-use Rattle.vale_lower.specs.Covered.{type_is_covered, unary_is_covered, callee_is_covered, is_local, expr_is_covered, exprs_are_covered, links_are_covered, form_is_covered, elses_are_covered, block_is_covered, stmts_are_covered, stmt_is_covered}
-use Rattle.vale_lower.specs.Scopes.{head_result}
+use Rattle.vale_lowering.specs.Covered.{type_is_covered, unary_is_covered, callee_is_covered, is_local, expr_is_covered, exprs_are_covered, links_are_covered, form_is_covered, elses_are_covered, block_is_covered, stmts_are_covered, stmt_is_covered}
+use Rattle.vale_lowering.specs.Scopes.{head_result}
 use Rattle.vale_lower_facts.specs.Suits.{unary_suits, callee_suits, set_suits, expr_suits, exprs_suit, links_suit, form_suits, elses_suit, block_suits, stmts_suit, stmt_suits}
 use Rattle.vale_sound.proofs.Fine.{rule_kept, one_rule, asked, of_leaf, of_node, of_plain, of_fine, of_both, of_scoped}
 use Rattle.vale_sound.proofs.Fits.{impossible, not_true, same_is, void_is, covered_fits, covered_type, args_fit, gives_value, seen_type, seen_place, same_gives, same_takes}

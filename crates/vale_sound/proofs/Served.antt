@@ -14,8 +14,8 @@ use Rattle.vale_syntax.specs.Returns.{block_returns}
 use Rattle.vale_syntax.specs.Takes.{is_value_under}
 use Rattle.vale_syntax.specs.Typing.{Env, with_local, after, entry, named, form_spot, new_name, expr, exprs, operand, links, in_form, in_else_if, elses, in_block, void_block, stmts, stmt, in_function, in_item, in_items}
 use Rattle.vale_syntax.specs.declared.decls.Decls.{Decls}
-use Rattle.vale_lower.specs.Covered.{type_is_covered, unary_is_covered, callee_is_covered, is_local, expr_is_covered, exprs_are_covered, links_are_covered, form_is_covered, elses_are_covered, block_is_covered, stmts_are_covered, stmt_is_covered, function_is_covered, item_is_covered, is_covered}
-use Rattle.vale_lower.specs.Scopes.{head_result}
+use Rattle.vale_lowering.specs.Covered.{type_is_covered, unary_is_covered, callee_is_covered, is_local, expr_is_covered, exprs_are_covered, links_are_covered, form_is_covered, elses_are_covered, block_is_covered, stmts_are_covered, stmt_is_covered, function_is_covered, item_is_covered, is_covered}
+use Rattle.vale_lowering.specs.Scopes.{head_result}
 use Rattle.vale_front.specs.Front.{Serves}
 use Rattle.vale_front.specs.Missing as m
 use Rattle.vale_sound.proofs.Fine.{rule_kept, one_rule, of_leaf, of_node, of_plain, of_fine, of_both, of_scoped}

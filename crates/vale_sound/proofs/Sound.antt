@@ -11,7 +11,7 @@ use Rattle.vale_syntax.specs.Typing.{in_items}
 use Rattle.vale_syntax.specs.WellFormed.{WellFormed}
 use Rattle.vale_syntax.specs.declared.decls.Decls.{Decls}
 use Rattle.vale_model.specs.Parts.{functions_of}
-use Rattle.vale_lower.specs.Covered.{is_covered}
+use Rattle.vale_lowering.specs.Covered.{is_covered}
 use Rattle.vale_syntax.specs.Bytes.{is_byte}
 use Rattle.vale_lower_facts.specs.Suits.{Suits}
 use Rattle.vale_sound.proofs.Fine.{of_plain}

@@ -10,7 +10,7 @@ use Rattle.vale_code.specs.Need.{need as code_need}
 use Rattle.vale_code.specs.Run.{run_code}
 use Rattle.vale_cert.specs.Certificate.{Certified}
 use Rattle.vale_cert.specs.Input.{takes_input}
-use Rattle.vale_lower.specs.Lowered.{lowered}
+use Rattle.vale_lowering.specs.Lowered.{lowered}
 use Rattle.vale_lower_facts.specs.Marks.{lowered_facts}
 
 pub record Runs (program : Typed) : Type 0 where

@@ -7,12 +7,12 @@ ghost use Rattle.vale_syntax.specs.Typed.{Typed};
 ghost use Rattle.vale_syntax.specs.WellFormed.{WellFormed};
 ghost use Rattle.vale_syntax.specs.declared.decls.Decls.{Decls};
 ghost use Rattle.vale_front.specs.Front.{Serves, Accepts};
-ghost use Rattle.vale_lower.specs.Covered.{is_covered};
+ghost use Rattle.vale_lowering.specs.Covered.{is_covered};
 ghost use Rattle.vale_syntax.specs.Bytes.{is_byte};
 ghost use Rattle.vale_lower_facts.specs.Suits.{Suits};
 ghost use Rattle.vale_sound.specs.Runs.{Runs};
 
-use vale_lower::lowered_code_does_what_is_meant;
+use vale_lowering::lowered_code_does_what_is_meant;
 use vale_lower_facts::{lowered_code_is_certified, suitable_code_does_what_is_meant};
 
 /// The types of a well-formed program fit, where its text is one of bytes and it is one of those that are lowered.

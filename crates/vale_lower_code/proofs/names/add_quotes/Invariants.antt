@@ -1,7 +1,7 @@
 use Rattle.std.proofs.Common.{◌≡◌, ◌++◌, drop}
 use Rattle.std.specs.Prelude.{flat_map}
 use Rattle.vale_core.specs.View.{view_function}
-use Rattle.vale_lower.specs.Texts.{function_quotes}
+use Rattle.vale_lowering.specs.Texts.{function_quotes}
 use Rattle.vale_lower_code.proofs.names.add_quotes.Given as goal
 
 abbrev pub invariant-loop-function : goal.invariant-loop-function

@@ -3,7 +3,7 @@ use Rattle.std.specs.Prelude.{codes}
 use Rattle.vale_syntax.specs.Declarations.{is_called, head_name}
 use Rattle.vale_core.specs.View.{view_function}
 use Rattle.vale_model.specs.Kinds.{head_of}
-use Rattle.vale_lower.specs.Scopes.{number_of_function}
+use Rattle.vale_lowering.specs.Scopes.{number_of_function}
 use Rattle.vale_lower_code.proofs.names.number_of_main.Given as goal
 
 abbrev pub invariant-loop-function : goal.invariant-loop-function

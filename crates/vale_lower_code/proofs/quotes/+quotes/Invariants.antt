@@ -1,6 +1,6 @@
 use Rattle.std.proofs.Common.{◌≡◌, ◌++◌, map, drop, None}
 use Rattle.vale_core.specs.View.{view_expr, view_stmt, view_else_if, view_link, exprs_of, links_of, elses_of, stmts_of}
-use Rattle.vale_lower.specs.Texts.{exprs_quotes, links_quotes, elses_quotes, stmts_quotes}
+use Rattle.vale_lowering.specs.Texts.{exprs_quotes, links_quotes, elses_quotes, stmts_quotes}
 use Rattle.vale_lower_code.proofs.quotes.+quotes.Given as goal
 
 -- the texts so far, and behind them the quotes of what is left

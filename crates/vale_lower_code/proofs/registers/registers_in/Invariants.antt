@@ -1,6 +1,6 @@
 use Rattle.std.proofs.Common.{◌≡◌, drop}
 use Rattle.std.specs.Prelude.{max}
-use Rattle.vale_lower.specs.Lowered.{registers_in}
+use Rattle.vale_lowering.specs.Lowered.{registers_in}
 use Rattle.vale_lower_code.proofs.registers.registers_in.Given as goal
 
 abbrev pub invariant-loop-instr : goal.invariant-loop-instr

@@ -1,6 +1,6 @@
 use Rattle.std.proofs.Common.{◌≡◌, drop}
 use Rattle.std.specs.Prelude.{max}
-use Rattle.vale_lower.specs.Lowered.{room_of}
+use Rattle.vale_lowering.specs.Lowered.{room_of}
 use Rattle.vale_lower_code.proofs.registers.room_of.Given as goal
 
 abbrev pub invariant-loop-register : goal.invariant-loop-register

@@ -1,5 +1,5 @@
 use Rattle.std.proofs.Common.{◌≡◌, ◌+◌}
-use Rattle.vale_lower.specs.Instructions.{registers_from}
+use Rattle.vale_lowering.specs.Instructions.{registers_from}
 use Rattle.vale_lower_code.proofs.shapes.registers_from.Given as goal
 
 abbrev pub invariant-loop-at : goal.invariant-loop-at

@@ -1,6 +1,6 @@
 use Rattle.std.proofs.Common.{◌≡◌, ℕ, List, ◌+◌, drop}
 use Rattle.std.specs.Borrow.{Bor}
-use Rattle.vale_lower.specs.Scopes.{number_of_text}
+use Rattle.vale_lowering.specs.Scopes.{number_of_text}
 use Rattle.vale_lower_code.specs.Numbered.{text_place, or_count}
 use Rattle.vale_lower_code.proofs.texts.first_places.Given as goal
 

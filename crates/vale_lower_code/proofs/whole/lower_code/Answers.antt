@@ -1,7 +1,7 @@
 use Rattle.std.proofs.Common.{◌≡◌, ◌∙◌}
 use Rattle.std.proofs.lemmas.Result.{IfOk-weaker}
 use Rattle.vale_core.specs.View.{view_core}
-use Rattle.vale_lower.specs.Lowered.{lowered}
+use Rattle.vale_lowering.specs.Lowered.{lowered}
 use Rattle.vale_lower_code.proofs.WholeLaws.{whole}
 use Rattle.vale_lower_code.proofs.whole.lower_code.Goals as goal
 

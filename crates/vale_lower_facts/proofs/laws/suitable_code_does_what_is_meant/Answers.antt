@@ -1,4 +1,4 @@
-use Rattle.vale_lower.specs.Lowered.{lowered}
+use Rattle.vale_lowering.specs.Lowered.{lowered}
 use Rattle.vale_base.specs.State.{no_input}
 use Rattle.vale_lower_facts.specs.Marks.{lowered_facts}
 use Rattle.vale_lower_facts.proofs.Program.{takes_no_input}

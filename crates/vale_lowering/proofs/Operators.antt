@@ -21,13 +21,13 @@ use Rattle.vale_code.specs.Parts.{Parts}
 use Rattle.vale_code.specs.Registers.{Registers, read, put}
 use Rattle.vale_code.specs.declared.instr.Instr.{Instr}
 use Rattle.vale_code.specs.declared.instr.Instr.TheVariants as i
-use Rattle.vale_lower.specs.Instructions.{if_code, and_code, operator, link_code, unary_code}
-use Rattle.vale_lower.specs.Scopes.{Scope}
-use Rattle.vale_lower.proofs.Registers.{IsPlain, Base, with_at, Falls, falls_up, Agrees, agrees_down, top_read, next_read, one_above, two_above, pick_same, pick_other, read_put}
-use Rattle.vale_lower.proofs.Reaches.{Where, active, conf, calls_in, Reaches, StepFits, HasAt, Val, In, has_front, has_back, does, moves, wrongs, comes_reaches, then_reaches, ends_at, stays, is_stuck, values, answers, surely, chooses}
-use Rattle.vale_lower.proofs.Shapes.{if_runs}
-use Rattle.vale_lower.proofs.Operations as fit
-use Rattle.vale_lower.proofs.Ranges.{add_keeps, sub_keeps, mul_keeps, div_keeps, rem_keeps}
+use Rattle.vale_lowering.specs.Instructions.{if_code, and_code, operator, link_code, unary_code}
+use Rattle.vale_lowering.specs.Scopes.{Scope}
+use Rattle.vale_lowering.proofs.Registers.{IsPlain, Base, with_at, Falls, falls_up, Agrees, agrees_down, top_read, next_read, one_above, two_above, pick_same, pick_other, read_put}
+use Rattle.vale_lowering.proofs.Reaches.{Where, active, conf, calls_in, Reaches, StepFits, HasAt, Val, In, has_front, has_back, does, moves, wrongs, comes_reaches, then_reaches, ends_at, stays, is_stuck, values, answers, surely, chooses}
+use Rattle.vale_lowering.proofs.Shapes.{if_runs}
+use Rattle.vale_lowering.proofs.Operations as fit
+use Rattle.vale_lowering.proofs.Ranges.{add_keeps, sub_keeps, mul_keeps, div_keeps, rem_keeps}
 
 pub reads_two : (regs : Registers) (w : State) (a b : ℕ) (v u : Value) (go : Value → Value → Next) → read regs a ≡ Some v → read regs b ≡ Some u → with_value (read regs a) w (λ v. with_value (read regs b) w (λ u. go v u)) ≡ go v u
 reads_two regs w a b v u go e d =

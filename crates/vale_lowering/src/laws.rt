@@ -8,7 +8,7 @@ ghost use Rattle.vale_model.specs.Meaning.{meaning};
 ghost use Rattle.vale_model.specs.Need.{need};
 ghost use Rattle.vale_code.specs.Need.{need as code_need};
 ghost use Rattle.vale_code.specs.Run.{run_code};
-ghost use Rattle.vale_lower.specs.Lowered.{lowered};
+ghost use Rattle.vale_lowering.specs.Lowered.{lowered};
 
 /// Lowered code that doesn't go wrong does what its program means: the same pieces at the same ticks, the same end with
 /// the same frames, and as many ticks. It needs as many frames.

@@ -20,15 +20,15 @@ use Rattle.vale_code.specs.Parts.{Parts as Code}
 use Rattle.vale_code.specs.Registers.{Registers, read, registers_for}
 use Rattle.vale_code.specs.declared.instr.Instr.{Instr}
 use Rattle.vale_code.specs.declared.instr.Instr.TheVariants as i
-use Rattle.vale_lower.specs.Scopes.{Scope, parameters, result_type}
-use Rattle.vale_lower.specs.Lowered.{value_code, block_code, end_code, names_in, lowered_body}
-use Rattle.vale_lower.proofs.Registers.{ArePlain, with_at, look_above, Falls, falls_up, fresh_above, agrees_more}
-use Rattle.vale_lower.proofs.Reaches.{Where, conf, calls_in, IsIn, Fits, Post, Reaches, Reached, HasAt, In, Put, has_front, has_back, wrongs, then_reaches, weaker, leaves_void}
-use Rattle.vale_lower.proofs.Shapes.{loop_tests, loop_body, loop_test}
-use Rattle.vale_lower.proofs.Drops.{leave_plain, put_in, in_keeps}
-use Rattle.vale_lower.proofs.Calls.{ComesBack, program_code, functions, texts, around, code_of_function, entered, TurnsRun, CallsRun, Follows, func_at, plain_form}
-use Rattle.vale_lower.proofs.Tree.{block_runs, value_runs}
-use Rattle.vale_lower.proofs.Entry.{has_all, arguments_stand, empty_behind, enters, are_bound, falls_parameters}
+use Rattle.vale_lowering.specs.Scopes.{Scope, parameters, result_type}
+use Rattle.vale_lowering.specs.Lowered.{value_code, block_code, end_code, names_in, lowered_body}
+use Rattle.vale_lowering.proofs.Registers.{ArePlain, with_at, look_above, Falls, falls_up, fresh_above, agrees_more}
+use Rattle.vale_lowering.proofs.Reaches.{Where, conf, calls_in, IsIn, Fits, Post, Reaches, Reached, HasAt, In, Put, has_front, has_back, wrongs, then_reaches, weaker, leaves_void}
+use Rattle.vale_lowering.proofs.Shapes.{loop_tests, loop_body, loop_test}
+use Rattle.vale_lowering.proofs.Drops.{leave_plain, put_in, in_keeps}
+use Rattle.vale_lowering.proofs.Calls.{ComesBack, program_code, functions, texts, around, code_of_function, entered, TurnsRun, CallsRun, Follows, func_at, plain_form}
+use Rattle.vale_lowering.proofs.Tree.{block_runs, value_runs}
+use Rattle.vale_lowering.proofs.Entry.{has_all, arguments_stand, empty_behind, enters, are_bound, falls_parameters}
 
 reached_more : {A : Type 0} (code : Code) (k : Where) (n m p : ℕ) (post : Post A) (c : Config) (r : Result A) → n ≤ m → Reached code k n p post c r → Reached code k m p post c r
 reached_more code k n m p post c (goes v l w) le a = (a.0, a.1, a.2, omega (arith, le, a.3))

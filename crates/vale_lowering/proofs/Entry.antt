@@ -9,9 +9,9 @@ use Rattle.vale_code.specs.Parts.{Parts}
 use Rattle.vale_code.specs.Registers.{Registers, read, registers_for}
 use Rattle.vale_code.specs.declared.func.Func.{Func}
 use Rattle.vale_code.specs.declared.instr.Instr.{Instr}
-use Rattle.vale_lower.specs.Scopes.{Scope, entry, parameters}
-use Rattle.vale_lower.proofs.Registers.{Held, ArePlain, pick, pick_same, pick_other, look, Falls, falls_up, Named, Stand}
-use Rattle.vale_lower.proofs.Reaches.{HasAt}
+use Rattle.vale_lowering.specs.Scopes.{Scope, entry, parameters}
+use Rattle.vale_lowering.proofs.Registers.{Held, ArePlain, pick, pick_same, pick_other, look, Falls, falls_up, Named, Stand}
+use Rattle.vale_lowering.proofs.Reaches.{HasAt}
 
 -- ---- code
 

@@ -15,12 +15,12 @@ use Rattle.vale_code.specs.Parts.{Parts}
 use Rattle.vale_code.specs.Registers.{Registers, read}
 use Rattle.vale_code.specs.declared.instr.Instr.{Instr}
 use Rattle.vale_code.specs.declared.instr.Instr.TheVariants as i
-use Rattle.vale_lower.specs.Instructions.{stuck, built_in_code}
-use Rattle.vale_lower.specs.Scopes.{Scope}
-use Rattle.vale_lower.proofs.Registers.{IsPlain, ArePlain, Base, Falls, Agrees, agrees_down, with_all, with_all_below, Stand}
-use Rattle.vale_lower.proofs.Reaches.{Where, active, conf, calls_in, Reaches, StepFits, HasAt, In, does, wrongs, is_stuck, answers, surely, surely_nothing}
-use Rattle.vale_lower.proofs.Operations as fit
-use Rattle.vale_lower.proofs.Operators.{reads_two, reads_one}
+use Rattle.vale_lowering.specs.Instructions.{stuck, built_in_code}
+use Rattle.vale_lowering.specs.Scopes.{Scope}
+use Rattle.vale_lowering.proofs.Registers.{IsPlain, ArePlain, Base, Falls, Agrees, agrees_down, with_all, with_all_below, Stand}
+use Rattle.vale_lowering.proofs.Reaches.{Where, active, conf, calls_in, Reaches, StepFits, HasAt, In, does, wrongs, is_stuck, answers, surely, surely_nothing}
+use Rattle.vale_lowering.proofs.Operations as fit
+use Rattle.vale_lowering.proofs.Operators.{reads_two, reads_one}
 
 module _ (code : Parts) (k : Where) (n : ℕ) (again : Again) (p h : ℕ) (s : Scope) (base : Base) (l : Locals) (regs : Registers) (w : State) (at : Spot) (fa : Falls h s) (few : w.left ≤ n) where
   -- what a call of the function owes

@@ -1,5 +1,5 @@
-use Rattle.vale_lower.proofs.Main.{code_means, code_needs}
-use Rattle.vale_lower.proofs.laws.lowered_code_does_what_is_meant.Goals as goal
+use Rattle.vale_lowering.proofs.Main.{code_means, code_needs}
+use Rattle.vale_lowering.proofs.laws.lowered_code_does_what_is_meant.Goals as goal
 
 pub returns-clause-means : goal.returns-clause-means
 returns-clause-means c = code_means

@@ -29,12 +29,12 @@ use Rattle.vale_code.specs.Registers.{Registers, Read, give_all, registers_for, 
 use Rattle.vale_code.specs.declared.func.Func.{Func}
 use Rattle.vale_code.specs.declared.instr.Instr.{Instr}
 use Rattle.vale_code.specs.declared.instr.Instr.TheVariants as i
-use Rattle.vale_lower.specs.Instructions.{only_if, registers_from, loop_code}
-use Rattle.vale_lower.specs.Scopes.{Scope, agree, Around, number_of_function, may_be_called, result_type}
-use Rattle.vale_lower.specs.Lowered.{value_code, block_code, call_code, form_of, names_in, functions_in, texts_in, lowered_function, lowered_parts}
-use Rattle.vale_lower.proofs.Registers.{ArePlain, Base, with_at, Falls, Agrees, agrees_put, agrees_down, with_all, with_all_below, Stand}
-use Rattle.vale_lower.proofs.Reaches.{Where, active, conf, calls_in, IsIn, Comes, Stops, GoesWrong, Fits, Post, Reaches, Reached, NextReaches, HasAt, In, does, by_next, is_stuck, only_if_runs}
-use Rattle.vale_lower.proofs.Lookups.{found_function, passes, found_text, in_front, goes_to, goes_nowhere, agree_same, all_given}
+use Rattle.vale_lowering.specs.Instructions.{only_if, registers_from, loop_code}
+use Rattle.vale_lowering.specs.Scopes.{Scope, agree, Around, number_of_function, may_be_called, result_type}
+use Rattle.vale_lowering.specs.Lowered.{value_code, block_code, call_code, form_of, names_in, functions_in, texts_in, lowered_function, lowered_parts}
+use Rattle.vale_lowering.proofs.Registers.{ArePlain, Base, with_at, Falls, Agrees, agrees_put, agrees_down, with_all, with_all_below, Stand}
+use Rattle.vale_lowering.proofs.Reaches.{Where, active, conf, calls_in, IsIn, Comes, Stops, GoesWrong, Fits, Post, Reaches, Reached, NextReaches, HasAt, In, does, by_next, is_stuck, only_if_runs}
+use Rattle.vale_lowering.proofs.Lookups.{found_function, passes, found_text, in_front, goes_to, goes_nowhere, agree_same, all_given}
 
 -- what comes back of a call to the frame that goes on after it, which gives a value or none
 abbrev pub CameBack : Code → ℕ → Locals → Bool → Option ℕ → Frame → List Frame → Config → Result (Option Value) → Type 0

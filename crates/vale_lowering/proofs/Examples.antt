@@ -15,7 +15,7 @@ use Rattle.vale_syntax.specs.Typed.{Typed}
 use Rattle.vale_syntax.specs.Typing.{typed}
 use Rattle.vale_syntax.specs.Tree.{int_type, set, chain, number, quote, truth, name, call, paren, no_exprs, more_exprs, link, no_links, more_links, branch, no_else, block, declare, return_value, while, foreach, form_stmt, express, no_stmts, more_stmts, param, head, function, function_item, Tree, tree}
 use Rattle.vale_code.specs.Run.{run_code}
-use Rattle.vale_lower.specs.Lowered.{lowered}
+use Rattle.vale_lowering.specs.Lowered.{lowered}
 
 abbrev at : ℕ → ℕ → Spot
 at line column = record { line = line; col = column }

@@ -30,12 +30,12 @@ use Rattle.vale_code.specs.Run.{Ending, then_go, exec, if_plain, with_input, fir
 use Rattle.vale_code.specs.Run as run
 use Rattle.vale_code.specs.declared.func.Func.{Func}
 use Rattle.vale_code.specs.declared.ty.Ty.{Ty as CodeTy}
-use Rattle.vale_lower.specs.Scopes.{code_type, number_of_function, result_type}
-use Rattle.vale_lower.specs.Lowered.{form_of, names_in, lowered}
-use Rattle.vale_lower.proofs.Reaches.{Where, conf, Reaches}
-use Rattle.vale_lower.proofs.Lookups.{found_function, passes}
-use Rattle.vale_lower.proofs.Calls.{program_code, functions, code_of_function, func_at, text_of_function}
-use Rattle.vale_lower.proofs.Program.{Never, body_runs, all_follow}
+use Rattle.vale_lowering.specs.Scopes.{code_type, number_of_function, result_type}
+use Rattle.vale_lowering.specs.Lowered.{form_of, names_in, lowered}
+use Rattle.vale_lowering.proofs.Reaches.{Where, conf, Reaches}
+use Rattle.vale_lowering.proofs.Lookups.{found_function, passes}
+use Rattle.vale_lowering.proofs.Calls.{program_code, functions, code_of_function, func_at, text_of_function}
+use Rattle.vale_lowering.proofs.Program.{Never, body_runs, all_follow}
 
 -- how what a step leads to ends
 abbrev EndsAs : Code → Next → End → State → Type 0

@@ -17,20 +17,20 @@ use Rattle.vale_code.specs.Parts.{Parts as Code}
 use Rattle.vale_code.specs.Registers.{Registers, put}
 use Rattle.vale_code.specs.declared.instr.Instr.{Instr}
 use Rattle.vale_code.specs.declared.instr.Instr.TheVariants as i
-use Rattle.vale_lower.specs.Instructions.{only_if, load, loop_code, count_code, link_code, unary_code}
-use Rattle.vale_lower.specs.Scopes.{Scope, entry, waiting, place_of, agree, Around, number_of_text}
-use Rattle.vale_lower.specs.Texts.{is_lawful_text}
-use Rattle.vale_lower.specs.Lowered.{count, callee_code, set_code, store_code, unused_code, expr_code, value_code, node_code, args_code, links_code, form_code, elses_code, block_code, stmts_code, stmt_code}
-use Rattle.vale_lower.proofs.Ranges.{IsLawful, lawful}
-use Rattle.vale_lower.proofs.Registers.{Base, with_at, with_all, Falls, falls_up, Agrees, agrees_dest, agrees_push, agrees_wait, agrees_done, all_stand, Fresh, fresh_above, top_read, one_above, meets, changes, innermost_plain}
-use Rattle.vale_lower.proofs.Reaches.{Where, active, conf, calls_in, IsIn, Post, Reaches, Fits, HasAt, Val, In, Put, Keeps, All, has_front, has_back, moves, wrongs, comes_reaches, then_reaches, ends_at, weaker, stays, is_stuck, only_if_runs, values, literal, free_on, jumps, leaves, leaves_void}
-use Rattle.vale_lower.proofs.Shapes.{if_runs, loop_tests, loop_test, copy_does, loads, stores, exchanges}
-use Rattle.vale_lower.proofs.Operators.{links, unaries}
-use Rattle.vale_lower.proofs.Counts.{count_runs}
-use Rattle.vale_lower.proofs.BuiltIns.{built_ins}
-use Rattle.vale_lower.proofs.Lookups.{text_or_none, agree_same}
-use Rattle.vale_lower.proofs.Drops.{drop_plain, drop_fitting, leave_plain, in_fits, in_keeps, put_names, put_keeps, put_pop, put_in, in_put}
-use Rattle.vale_lower.proofs.Calls.{program_code, texts, around, Follows, call_runs}
+use Rattle.vale_lowering.specs.Instructions.{only_if, load, loop_code, count_code, link_code, unary_code}
+use Rattle.vale_lowering.specs.Scopes.{Scope, entry, waiting, place_of, agree, Around, number_of_text}
+use Rattle.vale_lowering.specs.Texts.{is_lawful_text}
+use Rattle.vale_lowering.specs.Lowered.{count, callee_code, set_code, store_code, unused_code, expr_code, value_code, node_code, args_code, links_code, form_code, elses_code, block_code, stmts_code, stmt_code}
+use Rattle.vale_lowering.proofs.Ranges.{IsLawful, lawful}
+use Rattle.vale_lowering.proofs.Registers.{Base, with_at, with_all, Falls, falls_up, Agrees, agrees_dest, agrees_push, agrees_wait, agrees_done, all_stand, Fresh, fresh_above, top_read, one_above, meets, changes, innermost_plain}
+use Rattle.vale_lowering.proofs.Reaches.{Where, active, conf, calls_in, IsIn, Post, Reaches, Fits, HasAt, Val, In, Put, Keeps, All, has_front, has_back, moves, wrongs, comes_reaches, then_reaches, ends_at, weaker, stays, is_stuck, only_if_runs, values, literal, free_on, jumps, leaves, leaves_void}
+use Rattle.vale_lowering.proofs.Shapes.{if_runs, loop_tests, loop_test, copy_does, loads, stores, exchanges}
+use Rattle.vale_lowering.proofs.Operators.{links, unaries}
+use Rattle.vale_lowering.proofs.Counts.{count_runs}
+use Rattle.vale_lowering.proofs.BuiltIns.{built_ins}
+use Rattle.vale_lowering.proofs.Lookups.{text_or_none, agree_same}
+use Rattle.vale_lowering.proofs.Drops.{drop_plain, drop_fitting, leave_plain, in_fits, in_keeps, put_names, put_keeps, put_pop, put_in, in_put}
+use Rattle.vale_lowering.proofs.Calls.{program_code, texts, around, Follows, call_runs}
 
 and_first : (a b : Bool) → (a && b) ≡ true → a ≡ true
 and_first true b e = refl

@@ -12,9 +12,9 @@ use Rattle.vale_code.specs.Parts.{Parts as Code}
 use Rattle.vale_code.specs.declared.func.Func.{Func}
 use Rattle.vale_code.specs.declared.instr.Instr.{Instr}
 use Rattle.vale_code.specs.declared.instr.Instr.TheVariants as i
-use Rattle.vale_lower.specs.Instructions.{stuck, only_if, then_at, load, store, exchange, if_code, loop_code, count_code, link_code, unary_code, registers_from, built_in_code}
-use Rattle.vale_lower.specs.Scopes.{Scope, entry, waiting, place_of, parameters, code_type, agree, Around, number_of_text, number_of_function, may_be_called, result_type}
-use Rattle.vale_lower.specs.Texts.{function_quotes, is_lawful_text}
+use Rattle.vale_lowering.specs.Instructions.{stuck, only_if, then_at, load, store, exchange, if_code, loop_code, count_code, link_code, unary_code, registers_from, built_in_code}
+use Rattle.vale_lowering.specs.Scopes.{Scope, entry, waiting, place_of, parameters, code_type, agree, Around, number_of_text, number_of_function, may_be_called, result_type}
+use Rattle.vale_lowering.specs.Texts.{function_quotes, is_lawful_text}
 
 abbrev pub count : Exprs → ℕ
 count no_exprs = 0

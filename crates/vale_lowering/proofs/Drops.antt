@@ -6,9 +6,9 @@ use Rattle.vale_base.specs.declared.spot.Spot.{Spot}
 use Rattle.vale_code.specs.Registers.{Registers}
 use Rattle.vale_model.specs.Runs.{Locals, goes, returned, then_do, outer}
 use Rattle.vale_model.specs.Destruction.{Again, drop, drop_locals, leave}
-use Rattle.vale_lower.specs.Scopes.{Scope, entry}
-use Rattle.vale_lower.proofs.Registers.{Held, HasPlain, Base, Named, Agrees, agrees_pop, agrees_down, agrees_once, with_at, one_above}
-use Rattle.vale_lower.proofs.Reaches.{Fits, In, Put}
+use Rattle.vale_lowering.specs.Scopes.{Scope, entry}
+use Rattle.vale_lowering.proofs.Registers.{Held, HasPlain, Base, Named, Agrees, agrees_pop, agrees_down, agrees_once, with_at, one_above}
+use Rattle.vale_lowering.proofs.Reaches.{Fits, In, Put}
 
 module _ (again : Again) (at : Spot) (calls : Calls) where
   pub drop_plain : (v : Held) (l : Locals) (w : State) → HasPlain v → drop again at v calls l w ≡ goes None l w

@@ -8,9 +8,9 @@ use Rattle.vale_text.specs.Operations.{is_int}
 use Rattle.vale_text.specs.Steps as o
 use Rattle.vale_model.specs.Expressions.{plus}
 use Rattle.vale_code.specs.Instructions.{text_length}
-use Rattle.vale_lower.proofs.Ranges.{IsLawful, GivesInt, GivesText, KeepsInts, sub_keeps, number_gives, byte_gives, join_gives, slice_gives, length_is_int, text_of_is_lawful}
-use Rattle.vale_lower.proofs.Registers.{IsPlain}
-use Rattle.vale_lower.proofs.Reaches.{StepFits}
+use Rattle.vale_lowering.proofs.Ranges.{IsLawful, GivesInt, GivesText, KeepsInts, sub_keeps, number_gives, byte_gives, join_gives, slice_gives, length_is_int, text_of_is_lawful}
+use Rattle.vale_lowering.proofs.Registers.{IsPlain}
+use Rattle.vale_lowering.proofs.Reaches.{StepFits}
 
 same : (w : State) → w.left ≤ w.left
 same w = omega arith

@@ -13,7 +13,7 @@ use Rattle.vale_base.specs.declared.trap.TrapKind.TheVariants.{Overflow, Divisio
 use Rattle.vale_text.specs.Operations.{is_int, is_zero, int_or, byte_of, number_of, written_in}
 use Rattle.vale_text.specs.Operations as o
 use Rattle.vale_syntax.specs.Bytes.{is_byte}
-use Rattle.vale_lower.specs.Texts.{is_lawful_text}
+use Rattle.vale_lowering.specs.Texts.{is_lawful_text}
 
 pub record IsLawful (t : List ℕ) : Type 0 where
   pub short : length t ≤ text_limit

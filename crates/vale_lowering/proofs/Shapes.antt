@@ -10,10 +10,10 @@ use Rattle.vale_code.specs.Parts.{Parts}
 use Rattle.vale_code.specs.Registers.{Registers, read, put}
 use Rattle.vale_code.specs.declared.instr.Instr.{Instr}
 use Rattle.vale_code.specs.declared.instr.Instr.TheVariants as i
-use Rattle.vale_lower.specs.Instructions.{load, store, exchange, if_code, loop_code}
-use Rattle.vale_lower.specs.Scopes.{Scope}
-use Rattle.vale_lower.proofs.Registers.{Held, IsPlain, Base, with_at, Falls, Agrees, agrees_put, agrees_down, agrees_set, top_read, one_above, Meets, Changes, pick_same, pick_other, read_put}
-use Rattle.vale_lower.proofs.Reaches.{Where, active, conf, calls_in, Comes, Reaches, Post, HasAt, Val, In, Keeps, has_front, has_back, comes_on, does, moves, comes_reaches, then_reaches, ends_at, stays, is_stuck, literal, free_back, jumps, jumps_on, chooses, ticks}
+use Rattle.vale_lowering.specs.Instructions.{load, store, exchange, if_code, loop_code}
+use Rattle.vale_lowering.specs.Scopes.{Scope}
+use Rattle.vale_lowering.proofs.Registers.{Held, IsPlain, Base, with_at, Falls, Agrees, agrees_put, agrees_down, agrees_set, top_read, one_above, Meets, Changes, pick_same, pick_other, read_put}
+use Rattle.vale_lowering.proofs.Reaches.{Where, active, conf, calls_in, Comes, Reaches, Post, HasAt, Val, In, Keeps, has_front, has_back, comes_on, does, moves, comes_reaches, then_reaches, ends_at, stays, is_stuck, literal, free_back, jumps, jumps_on, chooses, ticks}
 
 module _ (code : Parts) (k : Where) (n : ℕ) where
   -- ---- ways

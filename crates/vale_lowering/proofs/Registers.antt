@@ -5,8 +5,8 @@ use Rattle.vale_base.specs.World.{Value, Int, Truth, Text, Own, Ref, Iso}
 use Rattle.vale_text.specs.Operations.{is_int}
 use Rattle.vale_model.specs.Runs.{Local, Locals, has_name, held_by, with_held, outer, innermost}
 use Rattle.vale_code.specs.Registers.{Registers, read, put}
-use Rattle.vale_lower.specs.Scopes.{Entry, Scope, entry, waiting, place_of}
-use Rattle.vale_lower.proofs.Ranges.{IsLawful}
+use Rattle.vale_lowering.specs.Scopes.{Entry, Scope, entry, waiting, place_of}
+use Rattle.vale_lowering.proofs.Ranges.{IsLawful}
 
 abbrev pub Held : Type 0
 Held = Option Value

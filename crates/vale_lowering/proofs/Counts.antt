@@ -17,12 +17,12 @@ use Rattle.vale_code.specs.Parts.{Parts}
 use Rattle.vale_code.specs.Registers.{Registers, read, put}
 use Rattle.vale_code.specs.declared.instr.Instr.{Instr}
 use Rattle.vale_code.specs.declared.instr.Instr.TheVariants as i
-use Rattle.vale_lower.specs.Instructions.{count_code}
-use Rattle.vale_lower.specs.Scopes.{Scope}
-use Rattle.vale_lower.proofs.Registers.{Held, IsPlain, Base, with_at, Falls, falls_up, fresh_above, Agrees, agrees_put, agrees_down, agrees_dest, top_read, next_read, one_above, two_above, pick, pick_same, pick_swap, pick_twice, read_put}
-use Rattle.vale_lower.proofs.Reaches.{Where, active, conf, calls_in, Comes, Reaches, HasAt, Val, In, Keeps, has_front, has_back, comes_on, does, moves, wrongs, comes_reaches, then_reaches, stays, free_on, free_back, jumps, chooses, ticks}
-use Rattle.vale_lower.proofs.Shapes.{loop_body, loop_test, loop_end, copy_does}
-use Rattle.vale_lower.proofs.Operators.{reads_two}
+use Rattle.vale_lowering.specs.Instructions.{count_code}
+use Rattle.vale_lowering.specs.Scopes.{Scope}
+use Rattle.vale_lowering.proofs.Registers.{Held, IsPlain, Base, with_at, Falls, falls_up, fresh_above, Agrees, agrees_put, agrees_down, agrees_dest, top_read, next_read, one_above, two_above, pick, pick_same, pick_swap, pick_twice, read_put}
+use Rattle.vale_lowering.proofs.Reaches.{Where, active, conf, calls_in, Comes, Reaches, HasAt, Val, In, Keeps, has_front, has_back, comes_on, does, moves, wrongs, comes_reaches, then_reaches, stays, free_on, free_back, jumps, chooses, ticks}
+use Rattle.vale_lowering.proofs.Shapes.{loop_body, loop_test, loop_end, copy_does}
+use Rattle.vale_lowering.proofs.Operators.{reads_two}
 
 -- ---- the numbers of the turns
 

@@ -9,9 +9,9 @@ use Rattle.vale_syntax.specs.Typed.{Function}
 use Rattle.vale_model.specs.Parts.{first_function}
 use Rattle.vale_code.specs.Kinds.{result_to}
 use Rattle.vale_code.specs.Registers.{Registers, Read, read, kept, and_then, after_keeping, given_value, after_giving, give_all}
-use Rattle.vale_lower.specs.Instructions.{registers_from}
-use Rattle.vale_lower.specs.Scopes.{number_of_text, number_of_function, code_type, agree}
-use Rattle.vale_lower.proofs.Registers.{IsPlain, ArePlain, Stand}
+use Rattle.vale_lowering.specs.Instructions.{registers_from}
+use Rattle.vale_lowering.specs.Scopes.{number_of_text, number_of_function, code_type, agree}
+use Rattle.vale_lowering.proofs.Registers.{IsPlain, ArePlain, Stand}
 
 -- ---- functions
 

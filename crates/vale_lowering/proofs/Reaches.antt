@@ -20,9 +20,9 @@ use Rattle.vale_code.specs.Run.{then_go, exec, last_state}
 use Rattle.vale_code.specs.declared.func.Func.{Func}
 use Rattle.vale_code.specs.declared.instr.Instr.{Instr}
 use Rattle.vale_code.specs.declared.instr.Instr.TheVariants as i
-use Rattle.vale_lower.specs.Instructions.{stuck, only_if}
-use Rattle.vale_lower.specs.Scopes.{Scope}
-use Rattle.vale_lower.proofs.Registers.{IsPlain, ArePlain, Base, with_at, with_all, Falls, Agrees, agrees_put}
+use Rattle.vale_lowering.specs.Instructions.{stuck, only_if}
+use Rattle.vale_lowering.specs.Scopes.{Scope}
+use Rattle.vale_lowering.proofs.Registers.{IsPlain, ArePlain, Base, with_at, with_all, Falls, Agrees, agrees_put}
 
 -- what stays the same while a function runs: its call and number, where its value goes, the frames below, and whether it gives one
 pub record Where : Type 0 where
