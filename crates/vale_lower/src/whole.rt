@@ -1,0 +1,24 @@
+// The code of a program with its facts.
+ghost use Rattle.std.specs.Prelude.{◌≡◌, IfOk};
+ghost use Rattle.vale_core.specs.View.{view_core};
+ghost use Rattle.vale_lowering.specs.Lowered.{lowered};
+ghost use Rattle.vale_lower_facts.specs.Marks.{lowered_facts};
+
+use std::alloc::Global;
+use vale_base::Memory;
+use vale_cert::Facts;
+use vale_code::Code;
+use vale_core::Sound;
+use vale_lower_code::lower_code;
+use vale_lower_labels::lower_facts;
+
+/// The code of a sound program and the facts that certify it. A part that isn't lowered yet has code by which no step
+/// follows. A number that would be 2^32 or more is want of memory.
+pub fn lower(alloc: Global, sound: &Sound) -> Result<(Code, Facts), Memory>
+    ensures code { IfOk result (λ both. both.0 ≡ lowered (view_core sound.now.core)) }
+    ensures facts { IfOk result (λ both. both.1 ≡ lowered_facts (view_core sound.now.core)) }
+{
+    let code = lower_code(alloc, &sound.core)?;
+    let facts = lower_facts(alloc, &sound.core, &code)?;
+    Ok((code, facts))
+}

@@ -1,0 +1,14 @@
+//! The facts that certify lowered code, from the typed tree.
+#![tactic(auto)]
+
+mod frame;
+mod function;
+mod known;
+mod labels;
+mod returned;
+mod slots;
+mod steps;
+mod walk;
+mod whole;
+
+pub use whole::lower_facts;

@@ -1,0 +1,624 @@
+// The labels of a body, in one walk over it.
+ghost use Rattle.std.specs.Prelude.{◌≡◌, ◌||◌, true, false, map, option_map, OnOk, IfOk};
+ghost use Rattle.vale_lowering.specs.Scopes.{agree};
+ghost use Rattle.vale_core.specs.View.{view_ty, view_expr, view_node, view_form, view_stmt, view_block, view_else_if, view_link, exprs_of, links_of, else_end, stmts_of, last_end};
+ghost use Rattle.vale_lower_facts.specs.Marks.{expr_marks, value_marks, node_marks, args_marks, links_marks, form_marks, elses_marks, block_marks, stmts_marks, stmt_marks, unused_marks, expr_due, value_due, node_due, args_due, links_due, link_due, form_due, block_due, stmts_due, stmt_due, unused_due};
+ghost use Rattle.vale_lower_labels.specs.Progress.{progress, with_marks};
+ghost use Rattle.vale_lower_labels.specs.Standing.{stand, framed, slots_of, plain};
+ghost use Rattle.vale_lower_labels.specs.Sides.{side_marks, sides_marks, sides_due};
+ghost use Rattle.vale_lower_labels.specs.Going.{one_link_marks, link_op, next_marks, next_due, next_slots, next_register, goes_on, store_marks, turns_marks, return_marks};
+ghost use Rattle.vale_lower_facts.specs.Returned.{stmt_returns};
+
+use crate::frame::Frame;
+use crate::labels::{Labels, above};
+use crate::returned::{expr_returns, stmt_returns};
+use crate::slots::{Local, Slots};
+use crate::steps::{
+    begin_count, begin_loop, end_count, end_loop, end_side, is_set, put_held, put_return, put_set,
+    put_unary,
+};
+use sqlite_items::{Boxed, Items};
+use std::alloc::Global;
+use vale_base::{Memory, Name};
+use vale_core::{Block, ElseIf, Expr, Form, Link, Node, Stmt, Ty};
+use vale_syntax::BinaryOp;
+
+// Whether a value is given exactly where one is wanted.
+fn agree(one: bool, other: bool) -> bool
+    ensures { result ≡ agree one other }
+{
+    if one { other } else { !other }
+}
+
+#[cycle(walk)]
+#[tactic(auto, using(crate::proofs::WalkLaws::exprs))]
+fn walk_expr(
+    alloc: Global,
+    expr: &Expr,
+    h: u32,
+    slots: &Slots,
+    over: bool,
+    returns: bool,
+    labels: &mut Labels,
+) -> Result<(), Memory>
+    ensures marks { OnOk result (progress labels.new ≡ with_marks (expr_marks (plain returns) (view_expr expr.now) h (stand slots.now over) labels.old.due) (progress labels.old)) }
+    ensures due { OnOk result (labels.new.due ≡ expr_due (view_expr expr.now)) }
+{
+    let gives = expr.seen.value.is_copy();
+    walk_node(alloc, &expr.node, gives, h, slots, over, returns, labels)
+}
+
+// An expression whose value is used.
+#[cycle(walk)]
+#[tactic(auto, using(crate::proofs::WalkLaws::exprs))]
+fn walk_value(
+    alloc: Global,
+    expr: &Expr,
+    h: u32,
+    slots: &Slots,
+    over: bool,
+    returns: bool,
+    labels: &mut Labels,
+) -> Result<(), Memory>
+    ensures marks { OnOk result (progress labels.new ≡ with_marks (value_marks (plain returns) (view_expr expr.now) h (stand slots.now over) labels.old.due) (progress labels.old)) }
+    ensures due { OnOk result (labels.new.due ≡ value_due (view_expr expr.now)) }
+{
+    if !expr.seen.value.is_copy() {
+        return labels.put(alloc, slots, over);
+    }
+    walk_node(alloc, &expr.node, true, h, slots, over, returns, labels)
+}
+
+// An expression whose value isn't used.
+#[cycle(walk)]
+#[tactic(auto, using(crate::proofs::WalkLaws::unused))]
+fn walk_unused(
+    alloc: Global,
+    expr: &Expr,
+    h: u32,
+    slots: &Slots,
+    over: bool,
+    returns: bool,
+    labels: &mut Labels,
+) -> Result<(), Memory>
+    ensures marks { OnOk result (progress labels.new ≡ with_marks (unused_marks (plain returns) (view_expr expr.now) h (stand slots.now over) labels.old.due) (progress labels.old)) }
+    ensures due { OnOk result (labels.new.due ≡ unused_due (view_expr expr.now)) }
+{
+    if !is_set(expr) {
+        return walk_expr(alloc, expr, h, slots, over, returns, labels);
+    }
+    walk_store(alloc, &expr.node, h, slots, over, returns, labels)
+}
+
+// A `set` whose value isn't used.
+#[cycle(walk)]
+#[tactic(auto, using(crate::proofs::WalkLaws::nodes))]
+fn walk_store(
+    alloc: Global,
+    node: &Node,
+    h: u32,
+    slots: &Slots,
+    over: bool,
+    returns: bool,
+    labels: &mut Labels,
+) -> Result<(), Memory>
+    ensures marks { OnOk result (progress labels.new ≡ with_marks (store_marks (plain returns) (view_node node.now) h (stand slots.now over) labels.old.due) (progress labels.old)) }
+    ensures due { OnOk result (labels.new.due ≡ false) }
+{
+    match node {
+        Node::Set(_, _, value) => {
+            let value = value.get();
+            walk_value(alloc, value, h, slots, over, returns, labels)?;
+            put_held(alloc, h, &value.seen.value, slots, over, labels)
+        }
+        Node::Chain(..)
+        | Node::Unary(..)
+        | Node::Steps(..)
+        | Node::Number(..)
+        | Node::Quote(..)
+        | Node::Truth(..)
+        | Node::Name(..)
+        | Node::Call(..)
+        | Node::Paren(..)
+        | Node::Array(..)
+        | Node::Iso(..)
+        | Node::Form(..) => labels.put(alloc, slots, over),
+    }
+}
+
+#[cycle(walk)]
+#[tactic(auto, using(crate::proofs::WalkLaws::nodes))]
+fn walk_node(
+    alloc: Global,
+    node: &Node,
+    gives: bool,
+    h: u32,
+    slots: &Slots,
+    over: bool,
+    returns: bool,
+    labels: &mut Labels,
+) -> Result<(), Memory>
+    ensures marks { OnOk result (progress labels.new ≡ with_marks (node_marks (plain returns) gives (view_node node.now) h (stand slots.now over) labels.old.due) (progress labels.old)) }
+    ensures due { OnOk result (labels.new.due ≡ node_due gives (view_node node.now)) }
+{
+    match node {
+        Node::Paren(_, inner) => {
+            let inner = inner.get();
+            if !agree(gives, inner.seen.value.is_copy()) {
+                return labels.put(alloc, slots, over);
+            }
+            walk_expr(alloc, inner, h, slots, over, returns, labels)
+        }
+        Node::Chain(first_operand, links) => {
+            if !gives {
+                return labels.put(alloc, slots, over);
+            }
+            let operand = first_operand.get();
+            walk_value(alloc, operand, h, slots, over, returns, labels)?;
+            walk_links(
+                alloc,
+                links,
+                &operand.seen.value,
+                h,
+                slots,
+                over,
+                returns,
+                labels,
+            )
+        }
+        Node::Unary(_, op, operand) => {
+            if !gives {
+                return labels.put(alloc, slots, over);
+            }
+            let operand = operand.get();
+            walk_value(alloc, operand, h, slots, over, returns, labels)?;
+            put_unary(alloc, *op, h, &operand.seen.value, slots, over, labels)
+        }
+        Node::Set(_, place, value) => {
+            if !gives {
+                return labels.put(alloc, slots, over);
+            }
+            let value = value.get();
+            walk_value(alloc, value, h, slots, over, returns, labels)?;
+            put_set(
+                alloc,
+                place.get(),
+                h,
+                &value.seen.value,
+                slots,
+                over,
+                labels,
+            )
+        }
+        Node::Call(_, _, args) => {
+            let args = args.as_slice();
+            walk_args(alloc, args, h, slots, over, returns, labels)?;
+            let inner = Slots::Waits(h, args, &*slots);
+            labels.put(alloc, &inner, over)
+        }
+        Node::Form(form) => walk_form(alloc, form.get(), gives, h, slots, over, returns, labels),
+        Node::Number(..)
+        | Node::Quote(..)
+        | Node::Truth(..)
+        | Node::Name(..)
+        | Node::Steps(..)
+        | Node::Array(..)
+        | Node::Iso(..) => labels.put(alloc, slots, over),
+    }
+}
+
+// The values go to registers from one on; each waits for those behind it.
+#[cycle(walk)]
+#[tactic(auto, using(crate::proofs::WalkLaws::lists))]
+fn walk_args(
+    alloc: Global,
+    args: &[Expr],
+    h: u32,
+    slots: &Slots,
+    over: bool,
+    returns: bool,
+    labels: &mut Labels,
+) -> Result<(), Memory>
+    ensures marks { OnOk result (progress labels.new ≡ with_marks (args_marks (plain returns) (exprs_of (map view_expr args.now)) h (stand slots.now over) labels.old.due) (progress labels.old)) }
+    ensures due { OnOk result (labels.new.due ≡ args_due (exprs_of (map view_expr args.now)) labels.old.due) }
+{
+    let mut next = h;
+    for (at, arg) in args.iter().enumerate() {
+        let inner = Slots::Waits(h, &args[..at], &*slots);
+        walk_value(alloc, arg, next, &inner, over, returns, labels)?;
+        next = above(next)?;
+    }
+    Ok(())
+}
+
+// What stands in the register, a value of this type, with the operator and the operand behind it.
+#[cycle(walk)]
+#[tactic(auto, using(crate::proofs::WalkLaws::links))]
+fn walk_link(
+    alloc: Global,
+    link: &Link,
+    ty: &Ty,
+    h: u32,
+    slots: &Slots,
+    over: bool,
+    returns: bool,
+    labels: &mut Labels,
+) -> Result<(), Memory>
+    ensures marks { OnOk result (progress labels.new ≡ with_marks (one_link_marks (plain returns) (view_ty ty.now) (view_link link.now) h (stand slots.now over) labels.old.due) (progress labels.old)) }
+    ensures due { OnOk result (labels.new.due ≡ link_due (link_op (view_link link.now))) }
+{
+    match link.op {
+        BinaryOp::Or => {
+            put_held(alloc, h, ty, slots, over, labels)?;
+            labels.put_plain()?;
+            labels.set_due(true);
+            walk_value(alloc, &link.operand, h, slots, over, returns, labels)?;
+            labels.set_due(true);
+            Ok(())
+        }
+        BinaryOp::And => {
+            put_held(alloc, h, ty, slots, over, labels)?;
+            walk_value(alloc, &link.operand, h, slots, over, returns, labels)?;
+            labels.set_due(true);
+            Ok(())
+        }
+        _ => {
+            let next = above(h)?;
+            let inner = Slots::Holds(h, ty, &*slots);
+            walk_value(alloc, &link.operand, next, &inner, over, returns, labels)?;
+            put_held(alloc, next, &link.operand.seen.value, &inner, over, labels)
+        }
+    }
+}
+
+#[cycle(walk)]
+#[tactic(auto, using(crate::proofs::WalkLaws::lists))]
+fn walk_links(
+    alloc: Global,
+    links: &Items<Link>,
+    ty: &Ty,
+    h: u32,
+    slots: &Slots,
+    over: bool,
+    returns: bool,
+    labels: &mut Labels,
+) -> Result<(), Memory>
+    ensures marks { OnOk result (progress labels.new ≡ with_marks (links_marks (plain returns) (view_ty ty.now) (links_of (map view_link links.now)) h (stand slots.now over) labels.old.due) (progress labels.old)) }
+    ensures due { OnOk result (labels.new.due ≡ links_due (links_of (map view_link links.now)) labels.old.due) }
+{
+    let mut held = ty;
+    let slice = links.as_slice();
+    for link in slice {
+        walk_link(alloc, link, held, h, slots, over, returns, labels)?;
+        held = &link.seen.value;
+    }
+    Ok(())
+}
+
+#[cycle(walk)]
+#[tactic(auto, using(crate::proofs::WalkLaws::forms))]
+fn walk_form(
+    alloc: Global,
+    form: &Form,
+    gives: bool,
+    h: u32,
+    slots: &Slots,
+    over: bool,
+    returns: bool,
+    labels: &mut Labels,
+) -> Result<(), Memory>
+    ensures marks { OnOk result (progress labels.new ≡ with_marks (form_marks (plain returns) gives (view_form form.now) h (stand slots.now over) labels.old.due) (progress labels.old)) }
+    ensures due { OnOk result (labels.new.due ≡ form_due (view_form form.now)) }
+{
+    match form {
+        Form::If(_, condition, block, else_ifs, otherwise) => {
+            let next = above(h)?;
+            walk_value(alloc, condition, h, slots, over, returns, labels)?;
+            put_held(alloc, h, &condition.seen.value, slots, over, labels)?;
+            walk_block(alloc, block, gives, next, slots, over, returns, labels)?;
+            end_side(alloc, block, gives, h, slots, over, labels)?;
+            walk_else_ifs(alloc, else_ifs, gives, h, slots, over, returns, labels)?;
+            walk_else(alloc, otherwise, gives, h, slots, over, returns, labels)?;
+            labels.set_due(true);
+            Ok(())
+        }
+        Form::Pure(..) | Form::ParallelRange(..) | Form::ParallelEach(..) => {
+            labels.put(alloc, slots, over)
+        }
+    }
+}
+
+#[cycle(walk)]
+#[tactic(auto, using(crate::proofs::WalkLaws::sides))]
+fn walk_else_if(
+    alloc: Global,
+    else_if: &ElseIf,
+    gives: bool,
+    h: u32,
+    slots: &Slots,
+    over: bool,
+    returns: bool,
+    labels: &mut Labels,
+) -> Result<(), Memory>
+    ensures marks { OnOk result (progress labels.new ≡ with_marks (side_marks (plain returns) gives (view_else_if else_if.now) h (stand slots.now over) labels.old.due) (progress labels.old)) }
+    ensures due { OnOk result (labels.new.due ≡ true) }
+{
+    let next = above(h)?;
+    walk_value(alloc, &else_if.condition, h, slots, over, returns, labels)?;
+    put_held(alloc, h, &else_if.condition.seen.value, slots, over, labels)?;
+    walk_block(
+        alloc,
+        &else_if.block,
+        gives,
+        next,
+        slots,
+        over,
+        returns,
+        labels,
+    )?;
+    end_side(alloc, &else_if.block, gives, h, slots, over, labels)
+}
+
+#[cycle(walk)]
+#[tactic(auto, using(crate::proofs::WalkLaws::lists))]
+fn walk_else_ifs(
+    alloc: Global,
+    else_ifs: &Items<ElseIf>,
+    gives: bool,
+    h: u32,
+    slots: &Slots,
+    over: bool,
+    returns: bool,
+    labels: &mut Labels,
+) -> Result<(), Memory>
+    ensures marks { OnOk result (progress labels.new ≡ with_marks (sides_marks (plain returns) gives (map view_else_if else_ifs.now) h (stand slots.now over) labels.old.due) (progress labels.old)) }
+    ensures due { OnOk result (labels.new.due ≡ sides_due (map view_else_if else_ifs.now) labels.old.due) }
+{
+    let slice = else_ifs.as_slice();
+    for else_if in slice {
+        walk_else_if(alloc, else_if, gives, h, slots, over, returns, labels)?;
+    }
+    Ok(())
+}
+
+#[cycle(walk)]
+#[tactic(auto, using(crate::proofs::WalkLaws::lasts))]
+fn walk_else(
+    alloc: Global,
+    otherwise: &Option<Block>,
+    gives: bool,
+    h: u32,
+    slots: &Slots,
+    over: bool,
+    returns: bool,
+    labels: &mut Labels,
+) -> Result<(), Memory>
+    ensures { OnOk result (progress labels.new ≡ with_marks (elses_marks (plain returns) gives (else_end (option_map view_block otherwise.now)) h (stand slots.now over) labels.old.due) (progress labels.old)) }
+{
+    match otherwise {
+        Some(block) => {
+            let next = above(h)?;
+            walk_block(alloc, block, gives, next, slots, over, returns, labels)
+        }
+        None => {
+            if gives {
+                return labels.put(alloc, slots, over);
+            }
+            Ok(())
+        }
+    }
+}
+
+/// The labels of a block, whose value is wanted or isn't, in a function that returns a value or none.
+#[cycle(walk)]
+#[tactic(auto, using(crate::proofs::WalkLaws::blocks))]
+pub fn walk_block(
+    alloc: Global,
+    block: &Block,
+    gives: bool,
+    h: u32,
+    slots: &Slots,
+    over: bool,
+    returns: bool,
+    labels: &mut Labels,
+) -> Result<(), Memory>
+    ensures marks { OnOk result (progress labels.new ≡ with_marks (block_marks (plain returns) gives (view_block block.now) h (stand slots.now over) labels.old.due) (progress labels.old)) }
+    ensures due { OnOk result (labels.new.due ≡ block_due returns gives (view_block block.now) labels.old.due) }
+{
+    let mut frame = Frame::new(alloc, h, over);
+    let stmts = block.stmts.as_slice();
+    for stmt in stmts {
+        let goes_on = walk_next(alloc, stmt, &mut frame, slots, returns, labels)?;
+        if !goes_on {
+            return Ok(());
+        }
+    }
+    let inner = Slots::Frame(&frame.locals, &*slots);
+    walk_last(
+        alloc,
+        &block.last,
+        gives,
+        frame.next,
+        &inner,
+        frame.over,
+        returns,
+        labels,
+    )
+}
+
+#[cycle(walk)]
+#[tactic(auto, using(crate::proofs::WalkLaws::lasts))]
+fn walk_last(
+    alloc: Global,
+    last: &Option<Boxed<Expr>>,
+    gives: bool,
+    h: u32,
+    slots: &Slots,
+    over: bool,
+    returns: bool,
+    labels: &mut Labels,
+) -> Result<(), Memory>
+    ensures marks { OnOk result (progress labels.new ≡ with_marks (stmts_marks (plain returns) gives (last_end (option_map view_expr last.now)) h (stand slots.now over) labels.old.due) (progress labels.old)) }
+    ensures due { OnOk result (labels.new.due ≡ stmts_due returns gives (last_end (option_map view_expr last.now)) labels.old.due) }
+{
+    match last {
+        Some(value) => {
+            let value = value.get();
+            if gives {
+                walk_value(alloc, value, h, slots, over, returns, labels)?;
+                let over = expr_returns(value) || over;
+                return put_held(alloc, h, &value.seen.value, slots, over, labels);
+            }
+            if value.seen.value.is_copy() {
+                return labels.put(alloc, slots, over);
+            }
+            walk_expr(alloc, value, h, slots, over, returns, labels)
+        }
+        None => {
+            if gives {
+                return labels.put(alloc, slots, over);
+            }
+            Ok(())
+        }
+    }
+}
+
+// The next statement of a block. Whether the block goes on behind it.
+#[cycle(walk)]
+#[tactic(auto, using(crate::proofs::WalkLaws::nexts))]
+fn walk_next(
+    alloc: Global,
+    stmt: &Stmt,
+    frame: &mut Frame,
+    slots: &Slots,
+    returns: bool,
+    labels: &mut Labels,
+) -> Result<bool, Memory>
+    ensures goes_on { IfOk result (λ b. b ≡ goes_on (view_stmt stmt.now)) }
+    ensures marks { OnOk result (progress labels.new ≡ with_marks (next_marks (plain returns) (view_stmt stmt.now) frame.old.next (record { slots = framed frame.old.locals.items (slots_of slots.now); over = frame.old.over }) labels.old.due) (progress labels.old)) }
+    ensures due { OnOk result (labels.new.due ≡ next_due returns (view_stmt stmt.now)) }
+    ensures locals { OnOk result (framed frame.new.locals.items (slots_of slots.now) ≡ next_slots (view_stmt stmt.now) frame.old.next (framed frame.old.locals.items (slots_of slots.now))) }
+    ensures next { OnOk result (frame.new.next ≡ next_register (view_stmt stmt.now) frame.old.next) }
+    ensures over { OnOk result (frame.new.over ≡ (stmt_returns (view_stmt stmt.now) || frame.old.over)) }
+{
+    match stmt {
+        Stmt::Declare(name, ty, value) => {
+            let inner = Slots::Frame(&frame.locals, &*slots);
+            walk_value(
+                alloc, value, frame.next, &inner, frame.over, returns, labels,
+            )?;
+            frame.declare(name.name, ty.copy(alloc)?)?;
+            Ok(true)
+        }
+        Stmt::Destructure(..) => {
+            let inner = Slots::Frame(&frame.locals, &*slots);
+            labels.put(alloc, &inner, frame.over)?;
+            Ok(false)
+        }
+        Stmt::Return(..) | Stmt::While(..) | Stmt::Foreach(..) | Stmt::Form(_) | Stmt::Express(_) =>
+            {
+                let inner = Slots::Frame(&frame.locals, &*slots);
+                walk_stmt(alloc, stmt, frame.next, &inner, frame.over, returns, labels)?;
+                frame.over = stmt_returns(stmt) || frame.over;
+                Ok(true)
+            }
+    }
+}
+
+#[cycle(walk)]
+#[tactic(auto, using(crate::proofs::WalkLaws::stmts))]
+fn walk_stmt(
+    alloc: Global,
+    stmt: &Stmt,
+    h: u32,
+    slots: &Slots,
+    over: bool,
+    returns: bool,
+    labels: &mut Labels,
+) -> Result<(), Memory>
+    ensures marks { OnOk result (progress labels.new ≡ with_marks (stmt_marks (plain returns) (view_stmt stmt.now) h (stand slots.now over) labels.old.due) (progress labels.old)) }
+    ensures due { OnOk result (labels.new.due ≡ stmt_due returns (view_stmt stmt.now)) }
+{
+    match stmt {
+        Stmt::Declare(..) | Stmt::Destructure(..) => labels.put(alloc, slots, over),
+        Stmt::Return(_, None) => {
+            labels.put(alloc, slots, over)?;
+            labels.set_due(!returns);
+            Ok(())
+        }
+        Stmt::Return(_, Some(value)) => {
+            walk_return(alloc, value.get(), h, slots, over, returns, labels)
+        }
+        Stmt::While(_, condition, block) => {
+            let next = above(h)?;
+            begin_loop(alloc, slots, over, labels)?;
+            walk_block(alloc, block, false, next, slots, over, returns, labels)?;
+            labels.set_due(true);
+            walk_value(alloc, condition, h, slots, over, returns, labels)?;
+            end_loop(alloc, h, &condition.seen.value, slots, over, labels)
+        }
+        Stmt::Foreach(_, name, from, to, block) => {
+            let bound = above(h)?;
+            let turn = above(bound)?;
+            walk_value(alloc, from, h, slots, over, returns, labels)?;
+            let counter = Slots::Holds(h, &from.seen.value, &*slots);
+            walk_value(alloc, to, bound, &counter, over, returns, labels)?;
+            let counted = Slots::Holds(bound, &to.seen.value, &counter);
+            walk_turns(
+                alloc, block, name.name, turn, &counted, over, returns, labels,
+            )
+        }
+        Stmt::Form(form) => walk_form(alloc, form, false, h, slots, over, returns, labels),
+        Stmt::Express(value) => walk_unused(alloc, value, h, slots, over, returns, labels),
+    }
+}
+
+// A `return` of a value; one where none is given stands as a single instruction.
+#[cycle(walk)]
+#[tactic(auto, using(crate::proofs::WalkLaws::lasts))]
+fn walk_return(
+    alloc: Global,
+    value: &Expr,
+    h: u32,
+    slots: &Slots,
+    over: bool,
+    returns: bool,
+    labels: &mut Labels,
+) -> Result<(), Memory>
+    ensures marks { OnOk result (progress labels.new ≡ with_marks (return_marks (plain returns) (view_expr value.now) h (stand slots.now over) labels.old.due) (progress labels.old)) }
+    ensures due { OnOk result (labels.new.due ≡ returns) }
+{
+    if !returns {
+        return labels.put(alloc, slots, over);
+    }
+    walk_value(alloc, value, h, slots, over, returns, labels)?;
+    put_return(alloc, h, &value.seen.value, slots, over, labels)
+}
+
+// A loop over numbers behind its bounds, where each turn has its number in a register.
+#[cycle(walk)]
+#[tactic(auto, using(crate::proofs::WalkLaws::turns))]
+fn walk_turns(
+    alloc: Global,
+    block: &Block,
+    name: Name,
+    turn: u32,
+    slots: &Slots,
+    over: bool,
+    returns: bool,
+    labels: &mut Labels,
+) -> Result<(), Memory>
+    ensures marks { OnOk result (progress labels.new ≡ with_marks (turns_marks (plain returns) (view_block block.now) name.0 turn (stand slots.now over) labels.old.due) (progress labels.old)) }
+    ensures due { OnOk result (labels.new.due ≡ true) }
+{
+    let next = above(turn)?;
+    begin_count(alloc, slots, over, labels)?;
+    let local = [Local {
+        name,
+        register: turn,
+        ty: Ty::Int,
+    }];
+    let inner = Slots::Frame(&local, &*slots);
+    walk_block(alloc, block, false, next, &inner, over, returns, labels)?;
+    end_count(alloc, block, slots, over, labels)
+}
