@@ -1,2 +1,1 @@
-pub mod Valued
 pub mod Walk

@@ -1,0 +1,5 @@
+pub mod FrameLaws
+pub mod LoopLaws
+pub mod NameLaws
+pub mod PartLaws
+pub mod Rules

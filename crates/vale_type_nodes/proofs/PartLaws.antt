@@ -1,0 +1,47 @@
+-- What is known of a block, of an `if` and of an operator, by their parts.
+use Rattle.std.proofs.Common.{◌≡◌, ℕ, List, [], ◌∷◌, refl, ap, ◌∙◌, rules}
+use Rattle.std.specs.Prelude.{Option, None, Some, Ok, map, option_map, true}
+use Rattle.vale_core.specs.declared.tree.ElseIf as typed
+use Rattle.vale_core.specs.declared.tree.Form as typed_form
+use Rattle.vale_core.specs.View.{view_expr, view_block, view_else_if, elses_of, else_end}
+use Rattle.vale_syntax.specs.declared.tree.Block.{Block, out-Block}
+use Rattle.vale_syntax.specs.declared.tree.ElseIf.{ElseIf, out-ElseIf}
+use Rattle.vale_syntax.specs.declared.tree.Link.{Link, out-Link}
+use Rattle.vale_syntax.specs.declared.tree.Expr as source
+use Rattle.vale_syntax.specs.Judged.{broken, first, both, plain, node}
+use Rattle.vale_syntax.specs.Tree as e
+use Rattle.vale_syntax.specs.Tree.{Item}
+use Rattle.vale_syntax.specs.Types.{Seen, a_value}
+use Rattle.vale_syntax.specs.TypeRules.{void_rules, link_rules, link_gives}
+use Rattle.vale_syntax.specs.Typed as t
+use Rattle.vale_syntax.specs.Typed.{type, stmts_type, block_type, condition_types, has_else}
+use Rattle.vale_syntax.specs.Typing.{Env, block_spot, expr, operand, stmts, in_else_if, in_block, void_block}
+use Rattle.vale_syntax.specs.View as v
+use Rattle.vale_syntax.specs.View.{listed}
+use Rattle.vale_syntax.proofs.JudgedLaws.{◌>>=◌, meets, first_node, first_plain}
+use Rattle.vale_type_rules.proofs.ReturnLaws.{of_out_block, of_out_else_if}
+
+-- the type of a block is that of its end
+pub type_of_end : (ss : List t.Stmt) (end : t.Stmts) → stmts_type (listed t.more_stmts ss end) ≡ stmts_type end
+type_of_end [] end = refl
+type_of_end (s ∷ ss) end = type_of_end ss end
+
+pub of_typed_else_if : (x : typed.ElseIf) → view_else_if x ≡ t.else_if (typed.out-ElseIf x).at (view_expr (typed.out-ElseIf x).condition) (view_block (typed.out-ElseIf x).block)
+of_typed_else_if x = search (rules, typed_form.the_lemmas)
+
+-- what is after `else` has no condition
+pub no_conditions : (o : Option t.Block) → condition_types (else_end o) ≡ []
+no_conditions None = refl
+no_conditions (Some b) = refl
+
+-- whether there is an `else` is said at the end
+pub else_at_end : (es : List t.ElseIf) (o : Option t.Block) → has_else (elses_of es o) ≡ has_else (else_end o)
+else_at_end [] o = refl
+else_at_end (x ∷ es) o = else_at_end es o
+
+pub ruleset conditions = (of_typed_else_if, no_conditions)
+
+pub ruleset blocks = (of_typed_else_if)
+
+pub of_block_spot : (b : Block) → block_spot (v.view_block b) ≡ (out-Block b).at
+of_block_spot b = ap block_spot (of_out_block b)
