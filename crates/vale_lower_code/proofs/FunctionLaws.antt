@@ -6,9 +6,9 @@ use Rattle.vale_syntax.specs.declared.tree.Param.{Param}
 use Rattle.vale_syntax.specs.View.{view_param}
 use Rattle.vale_model.specs.Parts.{param_names}
 use Rattle.vale_lowering.specs.Scopes.{Scope, parameters}
-use Rattle.vale_lower_code.specs.declared.scope.Local.{Local}
-use Rattle.vale_lower_code.specs.Entries.{framed}
-use Rattle.vale_lower_code.proofs.ScopeLaws.{framed_more}
+use Rattle.vale_lower_expr.specs.declared.scope.Local.{Local}
+use Rattle.vale_lower_expr.specs.Entries.{framed}
+use Rattle.vale_lower_expr.proofs.ScopeLaws.{framed_more}
 
 pub names_length : (ps : List Param) → length (param_names (map view_param ps)) ≡ length ps
 names_length [] = refl

@@ -20,8 +20,9 @@ use Rattle.vale_code.specs.declared.instr.Instr.TheVariants as i
 use Rattle.vale_lowering.specs.Instructions.{then_at, count_code, link_code}
 use Rattle.vale_lowering.specs.Lowered.{value_code, form_code, elses_code, block_code, stmt_code}
 use Rattle.vale_lowering.specs.Scopes.{Scope, Around, entry}
+use Rattle.vale_lower_expr.specs.Jumps.{jumps_set}
 use Rattle.vale_lower_code.specs.Links.{one_link_code}
-use Rattle.vale_lower_code.specs.Sides.{side_end, side_code, else_if_code, else_if_end, sides_code, sides_ends, jumps_set}
+use Rattle.vale_lower_code.specs.Sides.{side_end, side_code, else_if_code, else_if_end, sides_code, sides_ends}
 use Rattle.vale_lower_code.proofs.PatchLaws.{set_side, side_end_is, set_and, set_or_from, set_loop}
 use Rattle.vale_lower_code.proofs.WalkLaws.{link_by_parts, else_if_by_parts, else_if_ends_by_parts, set_if, set_count, in_turn}
 

@@ -1,11 +1,5 @@
-pub mod NodeLaws
-pub mod NumberLaws
 pub mod PatchLaws
-pub mod ScopeLaws
-pub mod ShapeLaws
-pub mod QuoteLaws
 pub mod WalkLaws
 pub mod FunctionLaws
-pub mod RoomLaws
 pub mod JumpLaws
 pub mod WholeLaws

@@ -1,16 +1,11 @@
 -- A jump is set after what it passes was emitted.
-use Rattle.std.proofs.Common.{◌≡◌, ℕ, zero, suc, ◌+◌, ◌≤◌, List, [], ◌∷◌, ◌++◌, length, refl, sym, ap, ◌∙◌, arith, append_assoc, length-append}
+use Rattle.std.proofs.Common.{◌≡◌, ℕ, ◌+◌, List, [], ◌∷◌, ◌++◌, length, refl, sym, ap, ◌∙◌, arith, append_assoc, length-append}
 use Rattle.std.specs.Prelude.{slice_set}
 use Rattle.std.proofs.Math.Seq.{set-append_seam}
 use Rattle.vale_code.specs.declared.instr.Instr.{Instr}
 use Rattle.vale_code.specs.declared.instr.Instr.TheVariants as i
 use Rattle.vale_lowering.specs.Instructions.{if_code, and_code, loop_code}
 use Rattle.vale_lower_code.specs.Sides.{side_end, side_code}
-
-pub set_past : (xs : List Instr) (n : ℕ) (x : Instr) → length xs ≤ n → slice_set xs n x ≡ xs
-set_past [] n x h = refl
-set_past (y ∷ ys) zero x h = absurd (omega arith)
-set_past (y ∷ ys) (suc n) x h = ap (λ (zs : List Instr). y ∷ zs) (set_past ys n x (omega arith))
 
 -- a test, what is held, and a block behind it; then the jump of the side is held too
 pub set_side : (base test : List Instr) (a : ℕ → List Instr) (c1 c2 c3 : List Instr) (x y : Instr) (n1 h end : ℕ)

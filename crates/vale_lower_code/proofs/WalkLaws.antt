@@ -1,5 +1,5 @@
 -- The code of a part, by that of its own parts.
-use Rattle.std.proofs.Common.{◌≡◌, ℕ, zero, suc, ◌+◌, ◌<◌, ◌≤◌, get_or, drop, List, [], ◌∷◌, ◌++◌, length, refl, ap, sym, ◌∙◌, append_assoc, append-nil, length-append, arith, rules}
+use Rattle.std.proofs.Common.{◌≡◌, ℕ, zero, suc, ◌+◌, ◌<◌, ◌≤◌, get_or, drop, List, [], ◌∷◌, ◌++◌, length, refl, ap, sym, ◌∙◌, append_assoc, append-nil, length-append, arith}
 use Rattle.std.specs.Prelude.{Bool, true, false, not, ◌&&◌, map, option_map, slice_set, pos, if◌then◌else◌}
 use Rattle.std.proofs.Math.Seq.{set-append_seam}
 use Rattle.std.proofs.lemmas.List.{drop_more, drop_all}
@@ -14,33 +14,22 @@ use Rattle.vale_core.specs.declared.tree.Block.{Block, out-Block}
 use Rattle.vale_core.specs.declared.tree.ElseIf.{ElseIf, out-ElseIf}
 use Rattle.vale_core.specs.declared.tree.Link.{Link, out-Link}
 use Rattle.vale_core.specs.declared.tree.Stmt.{Stmt}
-use Rattle.vale_core.specs.declared.tree.Form.{the_lemmas}
-use Rattle.vale_core.specs.View.{view_ty, view_seen, view_expr, view_node, view_stmt, view_block, view_else_if, view_link, exprs_of, stmts_of}
+use Rattle.vale_core.specs.View.{view_ty, view_expr, view_node, view_stmt, view_block, view_else_if, view_link, exprs_of, stmts_of}
 use Rattle.vale_core.proofs.ViewLaws as v
 use Rattle.vale_code.specs.declared.instr.Instr.{Instr}
 use Rattle.vale_code.specs.declared.instr.Instr.TheVariants as i
 use Rattle.vale_lowering.specs.Instructions.{only_if, then_at, load, loop_code, count_code, link_code}
 use Rattle.vale_lowering.specs.Lowered.{count, expr_code, value_code, node_code, args_code, links_code, form_code, elses_code, block_code, stmts_code, unused_code}
 use Rattle.vale_lowering.specs.Scopes.{Scope, Around, waiting, place_of}
-use Rattle.vale_lower_code.specs.Entries.{awaited}
+use Rattle.vale_lower_expr.specs.Entries.{awaited}
+use Rattle.vale_lower_expr.specs.Jumps.{jumps_set}
+use Rattle.vale_lower_expr.specs.Places.{is_set}
+use Rattle.vale_lower_expr.proofs.PartLaws.{of_out_expr, of_out_link, of_out_else_if, of_out_block}
+use Rattle.vale_lower_expr.proofs.ScopeLaws.{framed_more, awaited_more}
 use Rattle.vale_lower_code.specs.Going.{is_lowered, next_code, next_register, next_scope, set_only_code}
-use Rattle.vale_lower_code.specs.Places.{is_set}
 use Rattle.vale_lower_code.specs.Links.{one_link_code}
-use Rattle.vale_lower_code.specs.Sides.{side_end, side_code, else_if_code, else_if_end, sides_code, sides_ends, jumps_set}
+use Rattle.vale_lower_code.specs.Sides.{side_end, side_code, else_if_code, else_if_end, sides_code, sides_ends}
 use Rattle.vale_lower_code.proofs.PatchLaws.{set_loop}
-use Rattle.vale_lower_code.proofs.ScopeLaws.{framed_more, awaited_more}
-
-of_out_expr : (e : Expr) → view_expr e ≡ t.expr (view_seen (out-Expr e).seen) (view_node (out-Expr e).node)
-of_out_expr e = search (rules, the_lemmas)
-
-of_out_link : (l : Link) → view_link l ≡ t.link (view_seen (out-Link l).seen) (out-Link l).at (out-Link l).op (view_expr (out-Link l).operand)
-of_out_link l = search (rules, the_lemmas)
-
-of_out_else_if : (e : ElseIf) → view_else_if e ≡ t.else_if (out-ElseIf e).at (view_expr (out-ElseIf e).condition) (view_block (out-ElseIf e).block)
-of_out_else_if e = search (rules, the_lemmas)
-
-of_out_block : (b : Block) → view_block b ≡ t.block (out-Block b).at (out-Block b).end (view_ty (out-Block b).ty) (stmts_of (map view_stmt (out-Block b).stmts) (option_map view_expr (out-Block b).last))
-of_out_block b = search (rules, the_lemmas)
 
 -- ---- expressions
 

@@ -19,8 +19,8 @@ use Rattle.vale_code.specs.declared.kind.KindInfo.{KindInfo}
 use Rattle.vale_lowering.specs.Lowered.{lowered, lowered_function, functions_in, texts_in}
 use Rattle.vale_lowering.specs.Scopes.{number_of_function}
 use Rattle.vale_lowering.specs.Texts.{function_quotes}
-use Rattle.vale_lower_code.specs.declared.functions.Functions.{Functions}
-use Rattle.vale_lower_code.specs.Held.{functions_of}
+use Rattle.vale_lower_expr.specs.declared.functions.Functions.{Functions}
+use Rattle.vale_lower_expr.specs.Held.{functions_of}
 
 abbrev viewed : List (Bor Function) → List t.Function
 viewed each = map (λ g. view_function g.now) each

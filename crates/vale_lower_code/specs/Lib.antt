@@ -1,10 +1,3 @@
-pub mod Entries
-pub mod Found
-pub mod Quotes
-pub mod Numbered
-pub mod Sides
-pub mod Surroundings
-pub mod Places
 pub mod Going
 pub mod Links
-pub mod Held
+pub mod Sides

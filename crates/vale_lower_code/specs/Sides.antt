@@ -1,5 +1,5 @@
 -- The sides of an `if`: each is a test, a block, and a jump to the end of all.
-use Rattle.std.specs.Prelude.{ℕ, ◌+◌, Bool, List, [], ◌∷◌, ◌++◌, length, slice_set}
+use Rattle.std.specs.Prelude.{ℕ, ◌+◌, Bool, List, [], ◌∷◌, ◌++◌, length}
 use Rattle.vale_syntax.specs.Typed.{ElseIf, else_if}
 use Rattle.vale_code.specs.declared.instr.Instr.{Instr}
 use Rattle.vale_code.specs.declared.instr.Instr.TheVariants as i
@@ -32,8 +32,3 @@ abbrev pub sides_ends : Around → Bool → List ElseIf → ℕ → ℕ → Scop
 sides_ends around gives [] place h s = []
 sides_ends around gives (e ∷ es) place h s =
     else_if_end around gives e place h s ∷ sides_ends around gives es (else_if_end around gives e place h s + 1) h s
-
--- a jump to the end at each of these places
-abbrev pub jumps_set : List ℕ → ℕ → List Instr → List Instr
-jumps_set [] end code = code
-jumps_set (place ∷ places) end code = jumps_set places end (slice_set code place (i.Jump end))

@@ -8,23 +8,18 @@ ghost use Rattle.vale_core.specs.View.{view_block, view_function};
 ghost use Rattle.vale_model.specs.Parts.{Parts, param_names};
 ghost use Rattle.vale_lowering.specs.Lowered.{body_code, lowered_function, registers_in};
 ghost use Rattle.vale_lowering.specs.Scopes.{parameters, code_type};
-ghost use Rattle.vale_lower_code.specs.Entries.{framed};
-ghost use Rattle.vale_lower_code.specs.Held.{texts_of, functions_of};
-ghost use Rattle.vale_lower_code.specs.Surroundings.{view_around};
+ghost use Rattle.vale_lower_expr.specs.Entries.{framed};
+ghost use Rattle.vale_lower_expr.specs.Held.{texts_of, functions_of};
+ghost use Rattle.vale_lower_expr.specs.Surroundings.{view_around};
 
-use crate::around::Around;
-use crate::emission::{Emission, above};
-use crate::frame::Frame;
-use crate::functions::{Functions, gives_value};
-use crate::names::text_of;
-use crate::registers::registers_in;
-use crate::scope::Scope;
-use crate::texts::Texts;
 use crate::walk::emit_block;
 use std::alloc::Global;
 use vale_base::{Memory, Text};
 use vale_code::{Func, Instr, Sequence, Ty};
 use vale_core::{Block, Function};
+use vale_lower_expr::{
+    Around, Emission, Frame, Functions, Scope, Texts, above, gives_value, registers_in, text_of,
+};
 use vale_syntax::{Param, TypeExpr};
 
 fn code_type(ty: &TypeExpr) -> Ty

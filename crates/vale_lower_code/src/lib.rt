@@ -1,18 +1,7 @@
-//! The code that turns the typed tree of a program into instructions.
+//! The code that turns the typed tree of a program into instructions, in one walk over each body.
 #![tactic(auto)]
 
-mod around;
-mod emission;
-mod frame;
 mod function;
-mod functions;
-mod names;
-mod nodes;
-mod quotes;
-mod registers;
-mod scope;
-mod shapes;
-mod texts;
 mod walk;
 mod whole;
 

@@ -2,23 +2,21 @@
 ghost use Rattle.std.specs.Prelude.{◌≡◌, ◌+◌, ◌++◌, ◌∷◌, [], None, length, map, option_map, if◌then◌else◌, IfOk, OnOk};
 ghost use Rattle.vale_core.specs.View.{view_expr, view_node, view_form, view_stmt, view_block, view_else_if, view_link, exprs_of, links_of, else_end, stmts_of, last_end, return_of};
 ghost use Rattle.vale_lowering.specs.Lowered.{expr_code, value_code, node_code, args_code, links_code, form_code, elses_code, block_code, stmts_code, stmt_code, unused_code};
-ghost use Rattle.vale_lower_code.specs.Entries.{entries, framed};
+ghost use Rattle.vale_lower_expr.specs.Entries.{entries, framed};
+ghost use Rattle.vale_lower_expr.specs.Surroundings.{view_around};
 ghost use Rattle.vale_lower_code.specs.Going.{is_lowered, next_code, next_register, next_scope, set_only_code};
-ghost use Rattle.vale_lower_code.specs.Sides.{else_if_code, else_if_end, sides_code, sides_ends};
-ghost use Rattle.vale_lower_code.specs.Surroundings.{view_around};
 ghost use Rattle.vale_lower_code.specs.Links.{one_link_code};
+ghost use Rattle.vale_lower_code.specs.Sides.{else_if_code, else_if_end, sides_code, sides_ends};
 
-use crate::around::Around;
-use crate::emission::{Emission, above};
-use crate::frame::Frame;
-use crate::nodes::{is_set, put_callee, put_local, put_operator, put_quote, put_set, put_set_only};
-use crate::scope::{Local, Scope};
-use crate::shapes::{agree, put_number, put_truth, put_unary};
 use sqlite_items::{Boxed, Items};
 use std::alloc::Global;
 use vale_base::Memory;
 use vale_code::Instr;
 use vale_core::{Block, ElseIf, Expr, Form, Link, Node, Stmt};
+use vale_lower_expr::{
+    Around, Emission, Frame, Local, Scope, above, agree, is_set, put_callee, put_local, put_number,
+    put_operator, put_quote, put_set, put_set_only, put_truth, put_unary,
+};
 use vale_syntax::BinaryOp;
 
 #[cycle(emit)]

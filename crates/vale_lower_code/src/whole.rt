@@ -3,16 +3,14 @@ ghost use Rattle.std.specs.Prelude.{◌≡◌, map, IfOk};
 ghost use Rattle.vale_core.specs.View.{view_core, view_function};
 ghost use Rattle.vale_model.specs.Parts.{Parts};
 ghost use Rattle.vale_lowering.specs.Lowered.{lowered, lowered_function};
-ghost use Rattle.vale_lower_code.specs.Held.{functions_of};
+ghost use Rattle.vale_lower_expr.specs.Held.{functions_of};
 
 use crate::function::lower_function;
-use crate::functions::Functions;
-use crate::names::{all_texts, number_of_main};
-use crate::texts::Texts;
 use std::alloc::Global;
 use vale_base::{Memory, Text};
 use vale_code::{Code, Func, Sequence};
 use vale_core::Core;
+use vale_lower_expr::{Functions, Texts, all_texts, number_of_main};
 
 // The code of all functions.
 fn lower_functions(

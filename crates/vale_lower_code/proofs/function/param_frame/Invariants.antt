@@ -2,7 +2,7 @@ use Rattle.std.proofs.Common.{◌≡◌, [], map, drop}
 use Rattle.vale_syntax.specs.View.{view_param}
 use Rattle.vale_model.specs.Parts.{param_names}
 use Rattle.vale_lowering.specs.Scopes.{parameters}
-use Rattle.vale_lower_code.specs.Entries.{framed}
+use Rattle.vale_lower_expr.specs.Entries.{framed}
 use Rattle.vale_lower_code.proofs.function.param_frame.Given as goal
 
 -- the parameters so far, and those that are left

@@ -3,8 +3,8 @@ use Rattle.std.proofs.lemmas.Result.{on_ok_weaker}
 use Rattle.vale_core.specs.declared.tree.Block.{out-Block}
 use Rattle.vale_core.specs.View.{view_expr, last_end}
 use Rattle.vale_code.specs.declared.instr.Instr.{Instr}
-use Rattle.vale_lower_code.specs.Entries.{entries, framed}
-use Rattle.vale_lower_code.specs.Surroundings.{view_around}
+use Rattle.vale_lower_expr.specs.Entries.{entries, framed}
+use Rattle.vale_lower_expr.specs.Surroundings.{view_around}
 use Rattle.vale_lower_code.proofs.JumpLaws.{by_or, by_and, by_else_if, else_if_ends, by_if, by_while, by_foreach}
 use Rattle.vale_lower_code.proofs.WalkLaws.{block_by_parts, args_next, sides_next, ends_next, stmts_next, stmts_stop, stmts_done}
 use Rattle.vale_lower_code.proofs.walk.+emit.Goals as goal

@@ -3,9 +3,9 @@ use Rattle.std.specs.Prelude.{option_map}
 use Rattle.vale_core.specs.declared.tree.Block.{out-Block}
 use Rattle.vale_core.specs.View.{view_expr, view_stmt, view_else_if, view_link, exprs_of, links_of, stmts_of}
 use Rattle.vale_lowering.specs.Lowered.{args_code, links_code, stmts_code}
-use Rattle.vale_lower_code.specs.Entries.{entries, framed, awaited}
+use Rattle.vale_lower_expr.specs.Entries.{entries, framed, awaited}
 use Rattle.vale_lower_code.specs.Sides.{sides_code, sides_ends}
-use Rattle.vale_lower_code.specs.Surroundings.{view_around}
+use Rattle.vale_lower_expr.specs.Surroundings.{view_around}
 use Rattle.vale_lower_code.proofs.walk.+emit.Given as goal
 
 -- the code so far, and behind it that of what is left

@@ -1,7 +1,7 @@
 use Rattle.std.proofs.Common.{ap, ◌∙◌, List, ℕ}
 use Rattle.vale_core.specs.View.{view_function}
 use Rattle.vale_lowering.specs.Lowered.{lowered_function}
-use Rattle.vale_lower_code.specs.Held.{functions_of}
+use Rattle.vale_lower_expr.specs.Held.{functions_of}
 use Rattle.vale_lower_code.proofs.WholeLaws.{funcs_next, funcs_all}
 use Rattle.vale_lower_code.proofs.whole.lower_functions.Goals as goal
 

@@ -2,7 +2,7 @@ use Rattle.std.proofs.Common.{◌≡◌, map, take}
 use Rattle.vale_core.specs.View.{view_function}
 use Rattle.vale_model.specs.Parts.{Parts}
 use Rattle.vale_lowering.specs.Lowered.{lowered_function}
-use Rattle.vale_lower_code.specs.Held.{functions_of}
+use Rattle.vale_lower_expr.specs.Held.{functions_of}
 use Rattle.vale_lower_code.proofs.whole.lower_functions.Given as goal
 
 abbrev pub invariant-loop-function : goal.invariant-loop-function
