@@ -1,4 +1,4 @@
--- The first fault of a block, of an `else if` and of an operator with its operand, by their parts.
+-- What is known of a block, of an `if` and of an operator, by their parts.
 use Rattle.std.proofs.Common.{◌≡◌, ℕ, List, [], ◌∷◌, refl, ap, ◌∙◌, rules}
 use Rattle.std.specs.Prelude.{Option, None, Some, Ok, map, option_map, true}
 use Rattle.vale_core.specs.declared.tree.ElseIf as typed
@@ -21,8 +21,32 @@ use Rattle.vale_syntax.specs.View.{listed}
 use Rattle.vale_syntax.proofs.JudgedLaws.{◌>>=◌, meets, first_node, first_plain}
 use Rattle.vale_type_rules.proofs.ReturnLaws.{of_out_block, of_out_else_if}
 
-pub of_out_link : (l : Link) → v.view_link l ≡ e.link (out-Link l).at (out-Link l).op (v.view_expr (out-Link l).operand)
-of_out_link l = search (rules, source.the_lemmas)
+-- the type of a block is that of its end
+pub type_of_end : (ss : List t.Stmt) (end : t.Stmts) → stmts_type (listed t.more_stmts ss end) ≡ stmts_type end
+type_of_end [] end = refl
+type_of_end (s ∷ ss) end = type_of_end ss end
+
+pub of_typed_else_if : (x : typed.ElseIf) → view_else_if x ≡ t.else_if (typed.out-ElseIf x).at (view_expr (typed.out-ElseIf x).condition) (view_block (typed.out-ElseIf x).block)
+of_typed_else_if x = search (rules, typed_form.the_lemmas)
+
+-- what is after `else` has no condition
+pub no_conditions : (o : Option t.Block) → condition_types (else_end o) ≡ []
+no_conditions None = refl
+no_conditions (Some b) = refl
+
+-- whether there is an `else` is said at the end
+pub else_at_end : (es : List t.ElseIf) (o : Option t.Block) → has_else (elses_of es o) ≡ has_else (else_end o)
+else_at_end [] o = refl
+else_at_end (x ∷ es) o = else_at_end es o
+
+pub ruleset conditions = (of_typed_else_if, no_conditions)
+
+pub ruleset blocks = (of_typed_else_if)
+
+pub of_block_spot : (b : Block) → block_spot (v.view_block b) ≡ (out-Block b).at
+of_block_spot b = ap block_spot (of_out_block b)
+
+-- ---- the first fault of a part, by what it has
 
 module _ (names : List (List ℕ)) (items : List Item) (env : Env) where
   -- a block that gives nothing is a block first
@@ -36,6 +60,9 @@ module _ (names : List (List ℕ)) (items : List Item) (env : Env) where
 
   pub in_else_if_parts : (x : ElseIf) → first (in_else_if names items env (v.view_else_if x)) ≡ first (plain (λ a. t.else_if (out-ElseIf x).at a.0 a.1) (both (expr names items env true (v.view_expr (out-ElseIf x).condition)) (in_block names items env (v.view_block (out-ElseIf x).block))))
   in_else_if_parts x = ap (λ (y : e.ElseIf). first (in_else_if names items env y)) (of_out_else_if x)
+
+  of_out_link : (l : Link) → v.view_link l ≡ e.link (out-Link l).at (out-Link l).op (v.view_expr (out-Link l).operand)
+  of_out_link l = search (rules, source.the_lemmas)
 
   pub in_link : (s : Seen) (l : Link) → first (operand names items env s (v.view_link l)) ≡ first (node (out-Link l).at (λ a. link_rules (out-Link l).op s.value (type a)) (λ a. t.link (a_value (link_gives (out-Link l).op s.value)) (out-Link l).at (out-Link l).op a) (expr names items env true (v.view_expr (out-Link l).operand)))
   in_link s l = ap (λ (y : e.Link). first (operand names items env s y)) (of_out_link l)

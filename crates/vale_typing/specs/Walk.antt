@@ -1,12 +1,17 @@
--- What the walk answers.
-use Rattle.std.specs.Prelude.{List, Option, None, map, option_map}
+-- What the walk answers, and where it stands.
+use Rattle.std.specs.Prelude.{ℕ, List, Option, None, map, option_map}
 use Rattle.vale_core.specs.declared.tree.Block.{Block}
 use Rattle.vale_core.specs.declared.tree.ElseIf.{ElseIf}
 use Rattle.vale_core.specs.declared.tree.Expr.{Expr}
 use Rattle.vale_core.specs.declared.tree.Link.{Link}
 use Rattle.vale_core.specs.declared.tree.Step.{Step}
 use Rattle.vale_core.specs.View.{exprs_of, links_of, steps_of, elses_of, else_end, last_end, view_expr, view_link, view_step, view_else_if, view_block}
+use Rattle.vale_syntax.specs.Types.{Ty, Local}
 use Rattle.vale_syntax.specs.Typed as t
+use Rattle.vale_syntax.specs.Typing.{Env}
+
+abbrev pub env_at : Ty → ℕ → List Local → Env
+env_at gives depth scope = record { gives = gives; depth = depth; scope = scope }
 
 abbrev pub view_exprs : List Expr → t.Exprs
 view_exprs es = exprs_of (map view_expr es)

@@ -12,21 +12,19 @@ ghost use Rattle.vale_core.specs.View as c;
 ghost use Rattle.vale_core.specs.View.{view_ty, view_seen};
 ghost use Rattle.vale_type_rules.specs.Scope.{locals};
 ghost use Rattle.vale_type_rules.specs.Table.{names_of, items_of};
-ghost use Rattle.vale_type_nodes.specs.Valued.{view_valued, view_inside};
-ghost use Rattle.vale_type_nodes.specs.Env.{env_at};
-ghost use Rattle.vale_typing.specs.Walk.{view_exprs, view_links, view_steps, view_elses, view_else, view_last};
+ghost use Rattle.vale_typing.specs.Valued.{view_valued, view_inside};
+ghost use Rattle.vale_typing.specs.Walk.{env_at, view_exprs, view_links, view_steps, view_elses, view_else, view_last};
 
+use crate::names::{element_of, is_used, is_value_under, new_name, new_names};
+use crate::nodes;
+use crate::so_far::{LinksSoFar, StepsSoFar, StmtsSoFar};
+use crate::valued::{Inside, Valued};
 use sqlite_items::{Boxed, Items};
 use std::alloc::Global;
 use vale_base::{Fail, Name, Spot};
 use vale_core as typed;
 use vale_core::{Seen, Ty};
 use vale_syntax::{Block, ElseIf, Expr, Fault, Form, Link, NameAt, Step, Stmt};
-use vale_type_nodes as nodes;
-use vale_type_nodes::{
-    Inside, LinksSoFar, StepsSoFar, StmtsSoFar, Valued, element_of, is_used, is_value_under,
-    new_name, new_names,
-};
 use vale_type_rules::{Local, Scope, Table, deeper, index_view, name_in, seen_of};
 
 #[cycle(check)]

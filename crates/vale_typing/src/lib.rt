@@ -2,6 +2,11 @@
 #![tactic(auto)]
 
 mod check;
+mod copies;
+mod names;
+mod nodes;
+mod so_far;
+mod valued;
 mod whole;
 
 pub use whole::{TypeFault, type_all};

@@ -1,24 +1,65 @@
 // Functions, items and the whole program.
-ghost use Rattle.std.specs.Prelude.{◌≡◌, IfOk, map};
+ghost use Rattle.std.specs.Prelude.{◌≡◌, List, [], IfOk, map};
 ghost use Rattle.vale_base.specs.Faults.{IfFault, IsValueUnlessMemory, IsFaultUnlessMemory};
 ghost use Rattle.vale_syntax.specs.DeclFaults.{declared};
-ghost use Rattle.vale_syntax.specs.Judged.{first, Gives, IsFine, IsFirstFault};
+ghost use Rattle.vale_syntax.specs.Declarations.{head_name};
+ghost use Rattle.vale_syntax.specs.Judged.{first, leaf, Gives, IsFine, IsFirstFault};
+ghost use Rattle.vale_syntax.specs.TypeRules.{head_gives, function_rules};
 ghost use Rattle.vale_syntax.specs.Typed as t;
-ghost use Rattle.vale_syntax.specs.Typing.{in_function, in_functions, in_item, in_items, typed};
-ghost use Rattle.vale_syntax.specs.View.{view_function, view_item, view_tree};
+ghost use Rattle.vale_syntax.specs.Typing.{with_params, in_function, in_functions, in_item, in_items, typed};
+ghost use Rattle.vale_syntax.specs.Types as y;
+ghost use Rattle.vale_syntax.specs.View.{view_param, view_head, view_function, view_item, view_tree};
 ghost use Rattle.vale_syntax.specs.declared.fault.Fault.{Fault};
 ghost use Rattle.vale_core.specs.View as c;
 ghost use Rattle.vale_types.specs.Plain.{HasNoInterface};
+ghost use Rattle.vale_type_rules.specs.Scope.{framed};
 ghost use Rattle.vale_type_rules.specs.Table.{names_of, items_of};
+ghost use Rattle.vale_typing.specs.Walk.{env_at};
 
 use crate::check::type_void_block;
+use crate::copies::{copy_fields, copy_head, copy_heads};
 use sqlite_items::Items;
 use std::alloc::Global;
-use vale_base::Fail;
-use vale_core::{Core, Function as TypedFunction, Item as TypedItem};
-use vale_syntax::{Decls, Fault, Function, Item, Tree};
-use vale_type_nodes::{copy_fields, copy_heads, function_over, params_in};
-use vale_type_rules::{Scope, Table, block_returns, result_of};
+use vale_base::{Fail, Memory};
+use vale_core::{Block as TypedBlock, Core, Function as TypedFunction, Item as TypedItem};
+use vale_syntax::{Decls, Fault, Function, Head, Item, Param, Tree};
+use vale_type_rules::{Local, Scope, Table, block_returns, result_of, type_of};
+
+/// The locals that the parameters of a function are.
+fn params_in(alloc: Global, params: &[Param]) -> Result<Vec<Local>, Memory>
+    ensures { IfOk result (λ locals. (gives : y.Ty) → with_params (map view_param params.now) (env_at gives 0 []) ≡ env_at gives 0 (framed locals.items [])) }
+{
+    let mut locals = Vec::new(alloc);
+    for param in params {
+        let ty = type_of(alloc, &param.ty)?;
+        locals.push(Local {
+            name: param.name.name,
+            ty,
+            depth: 0,
+        })?;
+    }
+    Ok(locals)
+}
+
+/// A function over its body, which always returns or doesn't.
+fn function_over(
+    alloc: Global,
+    head: &Head,
+    returns: bool,
+    body: TypedBlock,
+) -> Result<TypedFunction, Fail<Fault>>
+    ensures { Gives c.view_function result (first (leaf (head_name (view_head head.now)).at (function_rules (head_gives (view_head head.now)) returns) (t.function_body (view_head head.now) (c.view_block body)))) }
+{
+    let gives = result_of(alloc, &head.result)?;
+    if !gives.is_void() && !returns {
+        return Err(Fail::Is(Fault {
+            code: 26,
+            at: head.name.at,
+        }));
+    }
+    let head = copy_head(alloc, head)?;
+    Ok(TypedFunction { head, body })
+}
 
 fn type_function(
     alloc: Global,

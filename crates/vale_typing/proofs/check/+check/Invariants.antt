@@ -12,8 +12,8 @@ use Rattle.vale_core.specs.View as c
 use Rattle.vale_core.specs.View.{view_ty, view_seen}
 use Rattle.vale_type_rules.specs.Scope.{framed, locals}
 use Rattle.vale_type_rules.specs.Table.{names_of, items_of}
-use Rattle.vale_type_nodes.specs.Env.{env_at}
-use Rattle.vale_type_nodes.proofs.LoopLaws.{with_parts}
+use Rattle.vale_typing.specs.Walk.{env_at}
+use Rattle.vale_typing.proofs.LoopLaws.{with_parts}
 use Rattle.vale_typing.proofs.check.+check.Given as goal
 
 -- what is done, with what the parts that are left give, is what the whole list gives

@@ -8,7 +8,7 @@ use Rattle.vale_syntax.specs.Typing.{in_function, in_functions}
 use Rattle.vale_syntax.specs.View.{view_function}
 use Rattle.vale_core.specs.View as core
 use Rattle.vale_type_rules.specs.Table.{names_of, items_of}
-use Rattle.vale_type_nodes.proofs.LoopLaws.{pair_passes, seen_passes, parts_end, listed_all}
+use Rattle.vale_typing.proofs.LoopLaws.{pair_passes, seen_passes, parts_end, listed_all}
 use Rattle.vale_typing.proofs.whole.type_functions.Goals as goal
 
 pub loop-function-preserved : goal.loop-function-preserved

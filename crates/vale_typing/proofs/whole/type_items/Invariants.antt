@@ -4,7 +4,7 @@ use Rattle.vale_syntax.specs.Typing.{in_items}
 use Rattle.vale_syntax.specs.View.{view_item}
 use Rattle.vale_core.specs.View as c
 use Rattle.vale_type_rules.specs.Table.{names_of, items_of}
-use Rattle.vale_type_nodes.proofs.LoopLaws.{with_parts}
+use Rattle.vale_typing.proofs.LoopLaws.{with_parts}
 use Rattle.vale_typing.proofs.whole.type_items.Given as goal
 
 -- what is done, with what those that are left give, is what all of them give

@@ -1,2 +1,0 @@
-pub mod Env
-pub mod Valued

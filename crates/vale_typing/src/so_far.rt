@@ -1,0 +1,99 @@
+// What there is of a list of parts whose walk is under way.
+ghost use Rattle.std.specs.Prelude.{◌≡◌, ◌∷◌, ◌++◌, [], None, List, IfOk, OnOk};
+ghost use Rattle.vale_syntax.specs.Types as y;
+ghost use Rattle.vale_syntax.specs.Typed.{link_seen, step_seen};
+ghost use Rattle.vale_syntax.specs.Typing.{after};
+ghost use Rattle.vale_core.specs.View.{view_seen, view_link, view_step, view_stmt};
+ghost use Rattle.vale_type_rules.specs.Scope.{framed};
+ghost use Rattle.vale_typing.specs.Walk.{env_at};
+
+use crate::names::declare_all;
+use sqlite_items::Items;
+use std::alloc::Global;
+use vale_base::{Memory, Name};
+use vale_core::{Link, Seen, Step, Stmt};
+use vale_type_rules::{Local, copy_seen, link_seen, step_seen};
+
+/// Operators with their operands, and what is known of what stands before the next.
+#[derive(Drop)]
+pub struct LinksSoFar {
+    pub before: Seen,
+    pub done: Items<Link>,
+}
+
+impl LinksSoFar {
+    pub fn new(alloc: Global, start: &Seen) -> Result<Self, Memory>
+        ensures before { IfOk result (λ s. s.before ≡ start.now) }
+        ensures done { IfOk result (λ s. s.done ≡ []) }
+    {
+        let before = copy_seen(alloc, start)?;
+        let done = Items::new(alloc);
+        Ok(LinksSoFar { before, done })
+    }
+
+    pub fn push(&mut self, alloc: Global, link: Link) -> Result<(), Memory>
+        ensures before { OnOk result (view_seen self.new.before ≡ link_seen (view_link link)) }
+        ensures done { OnOk result (self.new.done ≡ self.old.done ++ link ∷ []) }
+    {
+        self.before = copy_seen(alloc, link_seen(&link))?;
+        Ok(self.done.push(link)?)
+    }
+}
+
+/// Steps, the local that the next starts from, where it starts from one, and what is known of what it starts from.
+#[derive(Drop)]
+pub struct StepsSoFar {
+    pub local: Option<Name>,
+    pub base: Seen,
+    pub done: Items<Step>,
+}
+
+impl StepsSoFar {
+    pub fn new(alloc: Global, local: Option<Name>, start: &Seen) -> Result<Self, Memory>
+        ensures local { IfOk result (λ s. s.local ≡ local) }
+        ensures base { IfOk result (λ s. s.base ≡ start.now) }
+        ensures done { IfOk result (λ s. s.done ≡ []) }
+    {
+        let base = copy_seen(alloc, start)?;
+        let done = Items::new(alloc);
+        Ok(StepsSoFar { local, base, done })
+    }
+
+    pub fn push(&mut self, alloc: Global, step: Step) -> Result<(), Memory>
+        ensures local { OnOk result (self.new.local ≡ None) }
+        ensures base { OnOk result (view_seen self.new.base ≡ step_seen (view_step step)) }
+        ensures done { OnOk result (self.new.done ≡ self.old.done ++ step ∷ []) }
+    {
+        self.local = None;
+        self.base = copy_seen(alloc, step_seen(&step))?;
+        Ok(self.done.push(step)?)
+    }
+}
+
+/// Statements, and the locals that they leave behind.
+#[derive(Drop)]
+pub struct StmtsSoFar {
+    pub locals: Vec<Local>,
+    pub done: Items<Stmt>,
+}
+
+impl StmtsSoFar {
+    pub fn new(alloc: Global) -> Self
+        ensures locals { result.locals.items ≡ [] }
+        ensures done { result.done ≡ [] }
+    {
+        StmtsSoFar {
+            locals: Vec::new(alloc),
+            done: Items::new(alloc),
+        }
+    }
+
+    /// One more, at this depth.
+    pub fn push(&mut self, alloc: Global, depth: u32, stmt: Stmt) -> Result<(), Memory>
+        ensures locals { OnOk result ((gives : y.Ty) (outer : List y.Local) → after (view_stmt stmt) (env_at gives depth (framed self.old.locals.items outer)) ≡ env_at gives depth (framed self.new.locals.items outer)) }
+        ensures done { OnOk result (self.new.done ≡ self.old.done ++ stmt ∷ []) }
+    {
+        declare_all(alloc, depth, &mut self.locals, &stmt)?;
+        Ok(self.done.push(stmt)?)
+    }
+}
