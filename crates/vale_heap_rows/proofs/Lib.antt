@@ -1,2 +1,1 @@
 mod CallListLaws
-mod LentHeapLaws

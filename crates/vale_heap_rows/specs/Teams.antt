@@ -2,7 +2,7 @@
 use Rattle.std.specs.Prelude.{◌≡◌, List, All, Some, false}
 use Rattle.vale_table.specs.declared.table.SharedTable.{SharedTable}
 use Rattle.vale_table.specs.Means.{seat_means}
-use Rattle.vale_heap_rows.specs.declared.team.Worker.{Worker}
+use Rattle.vale_heap_rows.specs.declared.worker.Worker.{Worker}
 
 -- the worker has a worker's seat of this table
 pub record SitsAt {B : Type 0} (table : SharedTable B) (worker : Worker B) : Type 0 where

@@ -6,7 +6,10 @@ mod call_lists;
 mod calls_tests;
 #[cfg(test)]
 mod heap_tests;
+#[cfg(test)]
 mod lent_heap;
 #[cfg(test)]
 mod table_tests;
+#[cfg(test)]
 mod team;
+mod worker;

@@ -1,4 +1,4 @@
-use crate::team::{Gate, Worker};
+use crate::team::{Gate, claim_at_once, dismiss, enlist};
 use std::hint::spin_loop;
 use std::sync::atomic::AtomicBool;
 use std::sync::atomic::Ordering::SeqCst;
@@ -16,19 +16,27 @@ impl Gate for Open {
     fn pass(&self, _worker: usize) {}
 }
 
+// Whether these are all frames in order.
+fn are_all(frames: &[u32]) -> bool {
+    let mut next = 0u32;
+    for frame in frames {
+        if *frame != next {
+            return false;
+        }
+        next = next.saturating_add(1);
+    }
+    next == FRAMES
+}
+
 #[test]
 fn sixty_four_workers_claim_each_frame_once(rt: HostRuntime) -> Result<(), Fail> {
     let (table, mut seat) = SharedTable::<u8>::open(rt.alloc(), FRAMES, 5)?;
-    let mut team = Worker::enlist(rt.alloc(), &table, &mut seat, 64)?;
-    assert_eq!(rt; team.len(), 64);
-    Worker::claim_at_once(&rt, &Open, &table, &mut team);
-    let mut frames = Worker::dismiss(rt.alloc(), &table, &mut seat, team)?;
+    let mut team = enlist(rt.alloc(), &table, &mut seat, 64)?;
+    assert!(rt; team.len() == 64);
+    claim_at_once(&rt, &Open, &table, &mut team);
+    let mut frames = dismiss(rt.alloc(), &table, &mut seat, team)?;
     frames.sort()?;
-    let mut want = Vec::with_capacity(rt.alloc(), FRAMES as usize)?;
-    for frame in 0..FRAMES {
-        want.push(frame)?;
-    }
-    assert_eq!(rt; frames, want);
+    assert!(rt; are_all(&frames));
     let mut desk = Desk {
         table: &table,
         seat,
@@ -86,12 +94,13 @@ fn meet(own: &AtomicBool, other: &AtomicBool, met: &AtomicBool) {
 fn two_workers_run_at_once(rt: HostRuntime) -> Result<(), Fail> {
     let (table, mut seat) = SharedTable::<u8>::open(rt.alloc(), 8, 5)?;
     let meeting = Meeting::new();
-    let mut team = Worker::enlist(rt.alloc(), &table, &mut seat, 2)?;
-    assert_eq!(rt; team.len(), 2);
-    Worker::claim_at_once(&rt, &meeting, &table, &mut team);
-    let frames = Worker::dismiss(rt.alloc(), &table, &mut seat, team)?;
-    assert_eq!(rt; frames.len(), 8);
-    assert!(rt; meeting.first_met.load(SeqCst) && meeting.second_met.load(SeqCst));
+    let mut team = enlist(rt.alloc(), &table, &mut seat, 2)?;
+    assert!(rt; team.len() == 2);
+    claim_at_once(&rt, &meeting, &table, &mut team);
+    let frames = dismiss(rt.alloc(), &table, &mut seat, team)?;
+    assert!(rt; frames.len() == 8);
+    assert!(rt; meeting.first_met.load(SeqCst));
+    assert!(rt; meeting.second_met.load(SeqCst));
     Ok(())
 }
 
@@ -107,39 +116,40 @@ fn a_shared_frame_comes_back_at_a_later_base(rt: HostRuntime) -> Result<(), Fail
     };
     assert!(rt; desk.claim().is_none());
     let base = page.base();
-    assert!(rt; base == 5 && page.generation(63) == 5);
+    assert!(rt; base == 5);
+    assert!(rt; page.generation(63) == 5);
     page.reset(base + 1);
     desk.give(page);
     let Some(again) = desk.claim() else {
         panic!(rt; "a frame is free again")
     };
-    assert_eq!(rt;
-        (again.frame(), again.base(), again.generation(0)),
-        (0, 6, 6)
-    );
+    assert!(rt; again.frame() == 0);
+    assert!(rt; again.base() == 6);
+    assert!(rt; again.generation(0) == 6);
     Ok(())
 }
 
 #[test]
 fn a_plain_frame_comes_back_at_a_later_base(rt: HostRuntime) -> Result<(), Fail> {
     let mut table = PlainTable::<u8>::open(rt.alloc(), 2, 1)?;
-    assert_eq!(rt; table.frames(), 2);
+    assert!(rt; table.frames() == 2);
     let Some(mut page) = table.claim() else {
         panic!(rt; "a frame is free")
     };
     let base = page.base();
-    assert!(rt; base == 1 && page.generation(63) == 1);
+    assert!(rt; base == 1);
+    assert!(rt; page.generation(63) == 1);
     page.reset(base + 1);
     table.give(page);
     let (Some(again), Some(other)) = (table.claim(), table.claim()) else {
         panic!(rt; "two frames are free")
     };
     assert!(rt; table.claim().is_none());
-    assert_eq!(rt;
-        (again.frame(), again.base(), again.generation(0)),
-        (0, 2, 2)
-    );
-    assert_eq!(rt; (other.frame(), other.base()), (1, 1));
+    assert!(rt; again.frame() == 0);
+    assert!(rt; again.base() == 2);
+    assert!(rt; again.generation(0) == 2);
+    assert!(rt; other.frame() == 1);
+    assert!(rt; other.base() == 1);
     Ok(())
 }
 
@@ -150,22 +160,18 @@ fn a_slot_is_retired_after_its_last_generation(rt: HostRuntime) -> Result<(), Fa
         panic!(rt; "one frame has one page")
     };
     let (slot, generation) = page.put(7u8);
-    assert_eq!(rt;
-        (
-            page.get(slot, generation).copied(),
-            page.get(slot, 1).copied()
-        ),
-        (Some(7), None)
-    );
-    assert_eq!(rt; page.end(slot, generation), Some(7));
-    assert_eq!(rt;
-        (page.generation(slot), page.free(), page.retired()),
-        (u64::MAX, 64, 0)
-    );
-    assert_eq!(rt; page.put(8), (slot, u64::MAX));
-    assert_eq!(rt; page.end(slot, u64::MAX), Some(8));
-    assert_eq!(rt; (page.free(), page.retired(), page.live()), (63, 1, 0));
-    assert_eq!(rt; page.get(slot, u64::MAX), None);
+    assert!(rt; page.get(slot, generation).copied() == Some(7));
+    assert!(rt; page.get(slot, 1).is_none());
+    assert!(rt; page.end(slot, generation) == Some(7));
+    assert!(rt; page.generation(slot) == u64::MAX);
+    assert!(rt; page.free() == 64);
+    assert!(rt; page.retired() == 0);
+    assert!(rt; page.put(8) == (slot, u64::MAX));
+    assert!(rt; page.end(slot, u64::MAX) == Some(8));
+    assert!(rt; page.free() == 63);
+    assert!(rt; page.retired() == 1);
+    assert!(rt; page.live() == 0);
+    assert!(rt; page.get(slot, u64::MAX).is_none());
     assert!(rt; page.put(9).0 != slot);
     Ok(())
 }
@@ -173,12 +179,11 @@ fn a_slot_is_retired_after_its_last_generation(rt: HostRuntime) -> Result<(), Fa
 #[test]
 fn a_batch_has_a_page_for_each_frame(rt: HostRuntime) -> Result<(), Fail> {
     let pages = Page::<u8>::batch(rt.alloc(), 4_096, 1)?;
-    assert_eq!(rt; pages.len(), 4_096);
+    assert!(rt; pages.len() == 4_096);
     for (at, page) in pages.iter().enumerate() {
-        assert_eq!(rt;
-            (page.frame() as usize, page.base(), page.free()),
-            (at, 1, 64)
-        );
+        assert!(rt; page.frame() as usize == at);
+        assert!(rt; page.base() == 1);
+        assert!(rt; page.free() == 64);
     }
     Ok(())
 }

@@ -15,6 +15,14 @@ pub struct Seen {
     pub err: Vec<u8>,
 }
 
+impl Seen {
+    pub fn is(&self, status: u8, out: &str, err: &str) -> bool {
+        self.status == status
+            && self.out.as_slice() == out.as_bytes()
+            && self.err.as_slice() == err.as_bytes()
+    }
+}
+
 /// The calls of the outside that are to fail, counted from 1, and the most bytes that `out` takes at a call.
 #[derive(Clone, Copy)]
 pub struct Outside<'a> {
@@ -60,4 +68,17 @@ pub fn run_on<R: Threads + Sync>(
         out: out.bytes.to_vec(alloc)?,
         err: err.bytes.to_vec(alloc)?,
     })
+}
+
+/// Whether these words give this status and these texts for `out` and `err`, with this text as the file `p`.
+pub fn gives<R: Threads + Sync>(
+    rt: &R,
+    alloc: Global,
+    words: &[&str],
+    text: &[u8],
+    expected: (u8, &str, &str),
+) -> Result<bool, Fail> {
+    let seen = run_on(rt, alloc, words, text, &CALM)?;
+    let (status, out, err) = expected;
+    Ok(seen.is(status, out, err))
 }

@@ -1,29 +1,37 @@
 // Programs whose declarations are lawful, and programs whose declarations aren't.
 use crate::reading::read;
+use crate::texts::{NAMES, numbered};
 use std::alloc::Global;
 use std::test::Fail;
 use vale_base::{Fail as Refused, Memory};
+use vale_syntax::Tree;
 use vale_types::{declare, has_no_interface};
 
-// The code, line and column of the text's fault, each 0 where it has none. An interface or an implementation counts as
-// E05 at 1:1.
-fn fault_of(alloc: Global, text: &[u8]) -> Result<(u8, u32, u32), Fail> {
-    let tree = match read(alloc, text)? {
-        Ok(tree) => tree,
-        Err((code, at)) => return Ok((code, at.line, at.col)),
-    };
-    if !has_no_interface(&tree) {
-        return Ok((5, 1, 1));
+// Whether the declarations of the text's tree have this fault, or the code is 0 and they have none.
+fn declares(alloc: Global, tree: &Tree, code: u8, line: u32, col: u32) -> Result<bool, Fail> {
+    // an interface or an implementation counts as E05 at 1:1
+    if !has_no_interface(tree) {
+        return Ok(code == 5 && line == 1 && col == 1);
     }
-    match declare(alloc, &tree) {
-        Ok(_decls) => Ok((0, 0, 0)),
-        Err(Refused::Is(fault)) => Ok((fault.code, fault.at.line, fault.at.col)),
+    match declare(alloc, tree) {
+        Ok(_decls) => Ok(code == 0),
+        Err(Refused::Is(fault)) => {
+            Ok(fault.code == code && fault.at.line == line && fault.at.col == col)
+        }
         Err(Refused::Memory) => Err(Memory.into()),
     }
 }
 
+// Whether this is the text's fault, or the code is 0 and it has none.
+fn has_fault(alloc: Global, text: &[u8], code: u8, line: u32, col: u32) -> Result<bool, Fail> {
+    match read(alloc, text)? {
+        Ok(tree) => declares(alloc, &tree, code, line, col),
+        Err((found, at)) => Ok(found == code && at.line == line && at.col == col),
+    }
+}
+
 // Texts with the code, line and column of their fault.
-const TEXTS: [(&str, u8, u32, u32); 14] = [
+const TEXTS: &[(&str, u8, u32, u32)] = &[
     ("func main() { }", 0, 0, 0),
     (
         "struct S { a! int; } func f(s &S) []S { } func main(input []int) { }",
@@ -57,28 +65,21 @@ const TEXTS: [(&str, u8, u32, u32); 14] = [
 
 #[test]
 fn declarations_are_lawful_or_have_a_fault(rt: HostRuntime) -> Result<(), Fail> {
-    for (text, code, line, col) in TEXTS {
-        let found = fault_of(rt.alloc(), text.as_bytes())?;
-        assert_eq!(rt; found, (code, line, col), "{text}");
+    for &(text, code, line, col) in TEXTS {
+        let is_found = has_fault(rt.alloc(), text.as_bytes(), code, line, col)?;
+        assert!(rt; is_found, "{text}");
     }
     Ok(())
 }
 
-// A `main` that declares so many names.
-fn names(alloc: Global, count: u32) -> Result<Vec<u8>, Fail> {
-    let mut text = Vec::from_slice(alloc, b"func main() {")?;
-    for i in 0..count {
-        let line = format!(in alloc; " x{i} = 1;")?;
-        text.extend_from_slice(line.as_bytes())?;
-    }
-    text.extend_from_slice(b" }")?;
-    Ok(text)
-}
+// How many names a function has, with the code and spot of its fault.
+const SIZES: &[(u32, u8, u32, u32)] = &[(1024, 0, 0, 0), (1025, 17, 1, 6)];
 
 #[test]
 fn a_function_has_at_most_1024_names(rt: HostRuntime) -> Result<(), Fail> {
-    let alloc = rt.alloc();
-    assert_eq!(rt; fault_of(alloc, &names(alloc, 1024)?)?, (0, 0, 0));
-    assert_eq!(rt; fault_of(alloc, &names(alloc, 1025)?)?, (17, 1, 6));
+    for &(count, code, line, col) in SIZES {
+        let text = numbered(rt.alloc(), NAMES, count)?;
+        assert!(rt; has_fault(rt.alloc(), &text, code, line, col)?);
+    }
     Ok(())
 }

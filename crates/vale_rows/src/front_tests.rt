@@ -1,5 +1,6 @@
 // What `check`, `run` and `fmt` answer to a text.
-use crate::calls::{CALM, Seen, run_on};
+use crate::calls::{CALM, gives, run_on};
+use crate::texts::{NAMES, numbered};
 use Answer::{NotServed, Refused, Runs, Unread};
 use std::alloc::Global;
 use std::test::Fail;
@@ -17,7 +18,7 @@ enum Answer {
     Runs(&'static str),
 }
 
-const TEXTS: [(&str, Answer); 57] = [
+const TEXTS: &[(&str, Answer)] = &[
     ("func main() { @ }", Unread("E02 at 1:15\n")),
     ("func main() { print(\"\\q\"); }", Unread("E02 at 1:22\n")),
     (
@@ -205,20 +206,18 @@ fn of_run(answer: Answer) -> Expected {
     }
 }
 
-fn is(seen: &Seen, expected: Expected) -> bool {
-    let (status, out, err) = expected;
-    seen.status == status
-        && seen.out.as_slice() == out.as_bytes()
-        && seen.err.as_slice() == err.as_bytes()
-}
-
-fn call<R: Threads + Sync>(
+// Whether `fmt` refuses the text with this line, or accepts it where there is none.
+fn is_formatted<R: Threads + Sync>(
     rt: &R,
     alloc: Global,
-    command: &str,
     text: &[u8],
-) -> Result<Seen, Fail> {
-    run_on(rt, alloc, &[command, "p"], text, &CALM)
+    answer: Answer,
+) -> Result<bool, Fail> {
+    let seen = run_on(rt, alloc, &["fmt", "p"], text, &CALM)?;
+    match answer {
+        Unread(line) => Ok(seen.is(1, "", line)),
+        _ => Ok(seen.status == 0 && seen.err.is_empty()),
+    }
 }
 
 // Whether the three commands give the text this answer.
@@ -228,74 +227,53 @@ fn answers<R: Threads + Sync>(
     text: &[u8],
     answer: Answer,
 ) -> Result<bool, Fail> {
-    let check = call(rt, alloc, "check", text)?;
-    let run = call(rt, alloc, "run", text)?;
-    let fmt = call(rt, alloc, "fmt", text)?;
-    let is_laid_out = match answer {
-        Unread(line) => is(&fmt, (1, "", line)),
-        _ => fmt.status == 0 && fmt.err.is_empty(),
-    };
-    Ok(is(&check, of_check(answer)) && is(&run, of_run(answer)) && is_laid_out)
+    let is_checked = gives(rt, alloc, &["check", "p"], text, of_check(answer))?;
+    let is_run = gives(rt, alloc, &["run", "p"], text, of_run(answer))?;
+    let is_laid_out = is_formatted(rt, alloc, text, answer)?;
+    Ok(is_checked && is_run && is_laid_out)
 }
 
 #[test]
 fn the_commands_agree_on_each_text(rt: HostRuntime) -> Result<(), Fail> {
-    for (text, answer) in TEXTS {
+    for &(text, answer) in TEXTS {
         let agree = answers(&rt, rt.alloc(), text.as_bytes(), answer)?;
         assert!(rt; agree, "{text}");
     }
     Ok(())
 }
 
+// Bytes with how often each stands in a text, and the text's answer.
+const LIMITS: &[(u8, usize, Answer)] = &[
+    (b' ', 1_048_576, Refused("E13 at 1:1\n")),
+    (b' ', 1_048_577, Unread("E01 at 1:1\n")),
+    (b'a', 1_048_577, Unread("E01 at 1:1\n")),
+];
+
 #[test]
 fn a_text_is_refused_from_its_limit_on(rt: HostRuntime) -> Result<(), Fail> {
-    let alloc = rt.alloc();
-    let longest = vec![in alloc; b' '; 1_048_576]?;
-    let agree = answers(&rt, alloc, &longest, Refused("E13 at 1:1\n"))?;
-    assert!(rt; agree);
-    let spaces = vec![in alloc; b' '; 1_048_577]?;
-    let agree = answers(&rt, alloc, &spaces, Unread("E01 at 1:1\n"))?;
-    assert!(rt; agree);
-    let letters = vec![in alloc; b'a'; 1_048_577]?;
-    let agree = answers(&rt, alloc, &letters, Unread("E01 at 1:1\n"))?;
-    assert!(rt; agree);
+    for &(byte, count, answer) in LIMITS {
+        let text = vec![in rt.alloc(); byte; count]?;
+        assert!(rt; answers(&rt, rt.alloc(), &text, answer)?);
+    }
     Ok(())
 }
 
-// A `main` that declares so many names.
-fn names(alloc: Global, count: u32) -> Result<Vec<u8>, Fail> {
-    let mut text = Vec::from_slice(alloc, b"func main() {")?;
-    for i in 0..count {
-        let line = format!(in alloc; " x{i} = 1;")?;
-        text.extend_from_slice(line.as_bytes())?;
-    }
-    text.extend_from_slice(b" }")?;
-    Ok(text)
-}
+// What stands around so many more parameters of a function.
+const PARAMS: (&str, &str, &str, &str) = ("func f(x int", ", x", " int", ") { } func main() { }");
 
-// A function with one parameter and as many more, before a `main`.
-fn params(alloc: Global, more: u32) -> Result<Vec<u8>, Fail> {
-    let mut text = Vec::from_slice(alloc, b"func f(x int")?;
-    for i in 0..more {
-        let line = format!(in alloc; ", x{i} int")?;
-        text.extend_from_slice(line.as_bytes())?;
-    }
-    text.extend_from_slice(b") { } func main() { }")?;
-    Ok(text)
-}
+// Functions with so many names, and their answer.
+const SIZES: &[((&str, &str, &str, &str), u32, Answer)] = &[
+    (NAMES, 1024, Runs("")),
+    (NAMES, 1025, Refused("E17 at 1:6\n")),
+    (PARAMS, 1023, Runs("")),
+    (PARAMS, 1024, Refused("E17 at 1:6\n")),
+];
 
 #[test]
 fn a_function_has_at_most_1024_names(rt: HostRuntime) -> Result<(), Fail> {
-    let alloc = rt.alloc();
-    let rows = [
-        (names(alloc, 1024)?, Runs("")),
-        (names(alloc, 1025)?, Refused("E17 at 1:6\n")),
-        (params(alloc, 1023)?, Runs("")),
-        (params(alloc, 1024)?, Refused("E17 at 1:6\n")),
-    ];
-    for (text, answer) in rows {
-        let agree = answers(&rt, alloc, &text, answer)?;
-        assert!(rt; agree);
+    for &(parts, count, answer) in SIZES {
+        let text = numbered(rt.alloc(), parts, count)?;
+        assert!(rt; answers(&rt, rt.alloc(), &text, answer)?);
     }
     Ok(())
 }

@@ -1,80 +1,93 @@
 // Texts with their tokens or their first fault.
 use std::alloc::Global;
 use std::test::Fail;
-use vale_base::{Fail as Refused, Memory, Spot};
+use vale_base::{Fail as Refused, Memory};
 use vale_lexer::{LexFault, lex};
 use vale_syntax::{Sign, Token, TokenKind, Tokens};
 
-// The text's number of tokens and the spot of its end, or the code and spot of its fault.
-fn outline(alloc: Global, text: &[u8]) -> Result<(usize, Spot), Fail> {
+// Whether the text has this outline: 100 more than its number of tokens and the spot of its end, or the code and spot of its
+// fault.
+fn has_outline(
+    alloc: Global,
+    text: &[u8],
+    outline: usize,
+    line: u32,
+    col: u32,
+) -> Result<bool, Fail> {
     if text.len() > 1_048_576 {
-        return Ok((0, Spot { line: 1, col: 1 }));
+        return Ok(false);
     }
-    match lex(alloc, text) {
-        Ok(tokens) => Ok((100 + tokens.list.as_slice().len(), tokens.end)),
-        Err(Refused::Is(LexFault { code, at })) => Ok((code as usize, at)),
-        Err(Refused::Memory) => Err(Memory.into()),
-    }
+    let (found, at) = match lex(alloc, text) {
+        Ok(tokens) => (100 + tokens.list.as_slice().len(), tokens.end),
+        Err(Refused::Is(LexFault { code, at })) => (code as usize, at),
+        Err(Refused::Memory) => return Err(Memory.into()),
+    };
+    Ok(found == outline && at.line == line && at.col == col)
 }
+
+// Texts with their outlines.
+const TEXTS: &[(&str, usize, u32, u32)] = &[
+    ("func main() { @ }", 2, 1, 15),
+    ("func main() { x = 9223372036854775808; }", 3, 1, 19),
+    ("func main() { print(\"a); }", 4, 1, 21),
+    ("", 100, 1, 1),
+    ("{}()[],;...!&= == != < <= > >=+-*/%", 124, 1, 36),
+    ("\"a\\n\\t\\\\\\\"b\"", 101, 1, 13),
+    ("a // b", 101, 1, 7),
+    ("//x\n\tb\r\nc", 102, 3, 2),
+    ("007 9223372036854775807 0..10.", 106, 1, 31),
+    ("iffy if _1 1a", 105, 1, 14),
+    ("a/b", 103, 1, 4),
+    ("\"a\\q\n", 2, 1, 3),
+    ("\"a\n\\q\"", 4, 1, 1),
+    ("\"a\\", 2, 1, 3),
+    ("a:b", 2, 1, 2),
+    ("10000000000000000000", 3, 1, 1),
+    ("x\n  \"", 4, 2, 3),
+    ("9223372036854775808 @", 3, 1, 1),
+    ("@ 9223372036854775808", 2, 1, 1),
+    (
+        "func pure struct interface impl for iso imm set return if else while foreach in parallel merge and or not true false int bool str",
+        125,
+        1,
+        130,
+    ),
+];
+
+// Bytes that are no text of letters, with their outlines.
+const BYTES: &[(&[u8], usize, u32, u32)] = &[(b"\x80", 2, 1, 1), (b"\"\x80\x00\"", 101, 1, 5)];
 
 #[test]
 fn texts_have_their_tokens_or_their_fault(rt: HostRuntime) -> Result<(), Fail> {
-    let rows: [(&[u8], usize, u32, u32); 22] = [
-        (b"func main() { @ }", 2, 1, 15),
-        (b"func main() { x = 9223372036854775808; }", 3, 1, 19),
-        (b"func main() { print(\"a); }", 4, 1, 21),
-        (b"", 100, 1, 1),
-        (b"{}()[],;...!&= == != < <= > >=+-*/%", 124, 1, 36),
-        (b"\"a\\n\\t\\\\\\\"b\"", 101, 1, 13),
-        (b"a // b", 101, 1, 7),
-        (b"//x\n\tb\r\nc", 102, 3, 2),
-        (b"007 9223372036854775807 0..10.", 106, 1, 31),
-        (b"iffy if _1 1a", 105, 1, 14),
-        (b"a/b", 103, 1, 4),
-        (b"\"a\\q\n", 2, 1, 3),
-        (b"\"a\n\\q\"", 4, 1, 1),
-        (b"\"a\\", 2, 1, 3),
-        (b"a:b", 2, 1, 2),
-        (b"\x80", 2, 1, 1),
-        (b"\"\x80\x00\"", 101, 1, 5),
-        (b"10000000000000000000", 3, 1, 1),
-        (b"x\n  \"", 4, 2, 3),
-        (b"9223372036854775808 @", 3, 1, 1),
-        (b"@ 9223372036854775808", 2, 1, 1),
-        (
-            b"func pure struct interface impl for iso imm set return if else while foreach in parallel merge and or not true false int bool str",
-            125,
-            1,
-            130,
-        ),
-    ];
-    for (text, found, line, col) in rows {
-        let (seen, at) = outline(rt.alloc(), text)?;
-        assert_eq!(rt; seen, found, "{text:?}");
-        assert_eq!(rt; at, Spot { line, col }, "{text:?}");
+    for &(text, outline, line, col) in TEXTS {
+        let is_found = has_outline(rt.alloc(), text.as_bytes(), outline, line, col)?;
+        assert!(rt; is_found, "{text}");
+    }
+    for &(bytes, outline, line, col) in BYTES {
+        assert!(rt; has_outline(rt.alloc(), bytes, outline, line, col)?);
     }
     Ok(())
 }
 
+// A quote of so many letters.
+fn quote(alloc: Global, letters: usize) -> Result<Vec<u8>, Fail> {
+    let mut text = Vec::from_slice(alloc, b"\"")?;
+    for _ in 0..letters {
+        text.push(b'a')?;
+    }
+    text.push(b'"')?;
+    Ok(text)
+}
+
+// How many letters a quote has, with its outline and the column of that.
+const QUOTES: &[(usize, usize, u32)] = &[(65_536, 101, 65_539), (65_537, 3, 1)];
+
 #[test]
 fn a_quote_has_a_limit(rt: HostRuntime) -> Result<(), Fail> {
-    let mut text = vec![in rt.alloc(); b'a'; 65_538]?;
-    text[0] = b'"';
-    text[65_537] = b'"';
-    let (found, at) = outline(rt.alloc(), &text)?;
-    assert_eq!(rt; found, 101);
-    assert_eq!(rt;
-        at,
-        Spot {
-            line: 1,
-            col: 65_539
-        }
-    );
-    text[65_537] = b'a';
-    text.push(b'"')?;
-    let (found, at) = outline(rt.alloc(), &text)?;
-    assert_eq!(rt; found, 3);
-    assert_eq!(rt; at, Spot { line: 1, col: 1 });
+    for &(letters, outline, col) in QUOTES {
+        let text = quote(rt.alloc(), letters)?;
+        assert!(rt; has_outline(rt.alloc(), &text, outline, 1, col)?);
+    }
     Ok(())
 }
 
@@ -114,15 +127,20 @@ fn is_sign(tokens: &Tokens, sign: Sign) -> bool {
     }
 }
 
+// The tokens of a short text.
+fn lexed(alloc: Global, text: &str) -> Result<Tokens, Fail> {
+    if text.len() > 100 {
+        return Err("a short text".into());
+    }
+    Ok(lex(alloc, text.as_bytes())?)
+}
+
 #[test]
 fn tokens_have_their_values(rt: HostRuntime) -> Result<(), Fail> {
-    let quote = lex(rt.alloc(), b"\"a\\n\\t\\\\\\\"b\"")?;
-    assert!(rt; is_quote(&quote, &[97, 10, 9, 92, 34, 98]));
-    let number = lex(rt.alloc(), b"007")?;
-    assert!(rt; is_number(&number, 7));
-    let dots = lex(rt.alloc(), b"..")?;
-    assert!(rt; is_sign(&dots, Sign::DotDot));
-    let at_most = lex(rt.alloc(), b"<=")?;
-    assert!(rt; is_sign(&at_most, Sign::LessEqual));
+    let quote = "\"a\\n\\t\\\\\\\"b\"";
+    assert!(rt; is_quote(&lexed(rt.alloc(), quote)?, &[97, 10, 9, 92, 34, 98]));
+    assert!(rt; is_number(&lexed(rt.alloc(), "007")?, 7));
+    assert!(rt; is_sign(&lexed(rt.alloc(), "..")?, Sign::DotDot));
+    assert!(rt; is_sign(&lexed(rt.alloc(), "<=")?, Sign::LessEqual));
     Ok(())
 }

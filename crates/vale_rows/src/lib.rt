@@ -25,6 +25,8 @@ mod refusal_tests;
 #[cfg(test)]
 mod run_tests;
 #[cfg(test)]
+mod texts;
+#[cfg(test)]
 mod trap_tests;
 #[cfg(test)]
 mod verifier_tests;

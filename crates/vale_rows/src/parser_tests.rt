@@ -1,19 +1,20 @@
 // Texts that are a program and texts that aren't, and canonical texts, which are printed as they were read.
 use crate::reading::read;
+use crate::texts::repeated;
 use std::alloc::Global;
 use std::test::Fail;
 use vale_printer::print;
 
-// The code, line and column of the text's fault, each 0 where it has none.
-fn fault_of(alloc: Global, text: &[u8]) -> Result<(u8, u32, u32), Fail> {
+// Whether this is the text's fault, or the code is 0 and it has none.
+fn has_fault(alloc: Global, text: &[u8], code: u8, line: u32, col: u32) -> Result<bool, Fail> {
     match read(alloc, text)? {
-        Ok(_) => Ok((0, 0, 0)),
-        Err((code, at)) => Ok((code, at.line, at.col)),
+        Ok(_) => Ok(code == 0),
+        Err((found, at)) => Ok(found == code && at.line == line && at.col == col),
     }
 }
 
 // Texts with the code, line and column of their fault.
-const TEXTS: [(&str, u8, u32, u32); 17] = [
+const TEXTS: &[(&str, u8, u32, u32)] = &[
     ("", 0, 0, 0),
     ("func main() { x = ; }", 5, 1, 19),
     ("func main() {", 5, 1, 14),
@@ -35,29 +36,15 @@ const TEXTS: [(&str, u8, u32, u32); 17] = [
 
 #[test]
 fn a_text_is_a_program_or_has_a_fault(rt: HostRuntime) -> Result<(), Fail> {
-    for (text, code, line, col) in TEXTS {
-        let found = fault_of(rt.alloc(), text.as_bytes())?;
-        assert_eq!(rt; found, (code, line, col), "{text}");
+    for &(text, code, line, col) in TEXTS {
+        let is_found = has_fault(rt.alloc(), text.as_bytes(), code, line, col)?;
+        assert!(rt; is_found, "{text}");
     }
     Ok(())
 }
 
-// A text in which a piece stands many times.
-fn repeated(alloc: Global, parts: (&str, &str, &str, &str), times: u32) -> Result<Vec<u8>, Fail> {
-    let (front, open, middle, close) = parts;
-    let mut text = Vec::from_slice(alloc, front.as_bytes())?;
-    for _ in 0..times {
-        text.extend_from_slice(open.as_bytes())?;
-    }
-    text.extend_from_slice(middle.as_bytes())?;
-    for _ in 0..times {
-        text.extend_from_slice(close.as_bytes())?;
-    }
-    Ok(text)
-}
-
 // What opens a level, its count, and the code and column of the fault.
-const LEVELS: [((&str, &str, &str, &str), u32, u8, u32); 7] = [
+const LEVELS: &[((&str, &str, &str, &str), u32, u8, u32)] = &[
     (("func main() { x = ", "(", "1", ")"), 63, 5, 146),
     (("func main() { x = ", "(", "1", ")"), 64, 6, 82),
     (("func main() { x = ", "(", "1(", ")"), 63, 5, 83),
@@ -69,24 +56,24 @@ const LEVELS: [((&str, &str, &str, &str), u32, u8, u32); 7] = [
 
 #[test]
 fn a_text_has_sixty_four_levels(rt: HostRuntime) -> Result<(), Fail> {
-    for (parts, times, code, col) in LEVELS {
-        let text = repeated(rt.alloc(), parts, times)?;
-        let found = fault_of(rt.alloc(), &text)?;
-        assert_eq!(rt; found, (code, 1, col), "{times} times in {text:?}");
+    for &((front, open, middle, close), times, code, col) in LEVELS {
+        let text = repeated(rt.alloc(), (front, open, middle, close), times)?;
+        let is_found = has_fault(rt.alloc(), &text, code, 1, col)?;
+        assert!(rt; is_found, "{times} times {open} in {front}");
     }
     Ok(())
 }
 
-// The text of the tree that the text has, or nothing.
-fn printed(alloc: Global, text: &[u8]) -> Result<Vec<u8>, Fail> {
+// Whether the text has a tree, and this is the tree's text.
+fn is_printed_as(alloc: Global, text: &[u8], canonical: &[u8]) -> Result<bool, Fail> {
     match read(alloc, text)? {
-        Ok(tree) => Ok(print(alloc, &tree)?),
-        Err(_) => Ok(Vec::new(alloc)),
+        Ok(tree) => Ok(print(alloc, &tree)?.as_slice() == canonical),
+        Err(_) => Ok(false),
     }
 }
 
 // Canonical texts of items.
-const ITEMS: [&str; 9] = [
+const ITEMS: &[&str] = &[
     "struct A {\n}\n",
     "struct A {\n  x! int;\n  y bool;\n}\nstruct B {\n}\n",
     "interface I {\n}\n",
@@ -100,15 +87,15 @@ const ITEMS: [&str; 9] = [
 
 #[test]
 fn items_are_printed_as_they_were_read(rt: HostRuntime) -> Result<(), Fail> {
-    for text in ITEMS {
-        let found = printed(rt.alloc(), text.as_bytes())?;
-        assert!(rt; found.as_slice() == text.as_bytes(), "{text}");
+    for &text in ITEMS {
+        let is_kept = is_printed_as(rt.alloc(), text.as_bytes(), text.as_bytes())?;
+        assert!(rt; is_kept, "{text}");
     }
     Ok(())
 }
 
 // What stands in a canonical block: statements, and last expressions.
-const LINES: [&str; 56] = [
+const LINES: &[&str] = &[
     "x = 1;",
     "[] = x;",
     "[a] = x;",
@@ -169,16 +156,15 @@ const LINES: [&str; 56] = [
 
 #[test]
 fn lines_are_printed_as_they_were_read(rt: HostRuntime) -> Result<(), Fail> {
-    for line in LINES {
+    for &line in LINES {
         let text = repeated(rt.alloc(), ("func main() {\n  ", line, "\n}\n", ""), 1)?;
-        let found = printed(rt.alloc(), &text)?;
-        assert!(rt; found == text, "{line}");
+        assert!(rt; is_printed_as(rt.alloc(), &text, &text)?, "{line}");
     }
     Ok(())
 }
 
 // Texts with their canonical texts.
-const LAYOUTS: [(&str, &str); 4] = [
+const LAYOUTS: &[(&str, &str)] = &[
     (
         "func\tmain ( ) // a\r\n{ x=007 ;}",
         "func main() {\n  x = 7;\n}\n",
@@ -199,9 +185,9 @@ const LAYOUTS: [(&str, &str); 4] = [
 
 #[test]
 fn a_text_is_laid_out(rt: HostRuntime) -> Result<(), Fail> {
-    for (text, canonical) in LAYOUTS {
-        let found = printed(rt.alloc(), text.as_bytes())?;
-        assert!(rt; found.as_slice() == canonical.as_bytes(), "{text}");
+    for &(text, canonical) in LAYOUTS {
+        let is_laid_out = is_printed_as(rt.alloc(), text.as_bytes(), canonical.as_bytes())?;
+        assert!(rt; is_laid_out, "{text}");
     }
     Ok(())
 }

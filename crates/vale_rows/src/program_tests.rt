@@ -1,11 +1,11 @@
 // Whole runs of accepted programs: what they print, how they trap and where they are cut.
-use crate::calls::{CALM, Seen, run_on};
+use crate::calls::gives;
 use std::alloc::Global;
 use std::test::Fail;
 use std::thread::Threads;
 
 // Programs that come to their end, each with what it prints.
-const DONE: [(&str, &str); 26] = [
+const DONE: &[(&str, &str)] = &[
     (
         "func fact(n int) int { if n < 2 { return 1; } return n * fact(n - 1); } func main() { println(fact(5)); println(fact(20)); }",
         "120\n2432902008176640000\n",
@@ -113,7 +113,7 @@ const DONE: [(&str, &str); 26] = [
 ];
 
 // Programs that trap, each with what it prints before and the report.
-const TRAPPED: [(&str, &str, &str); 18] = [
+const TRAPPED: &[(&str, &str, &str)] = &[
     (
         "func main() { println(1); println(9223372036854775807 + 1); }",
         "1\n",
@@ -207,7 +207,7 @@ const TRAPPED: [(&str, &str, &str); 18] = [
 ];
 
 // Programs with the ticks that they may spend, the status, what is printed and what is told.
-const TICKED: [(&str, &str, u8, &str, &str); 8] = [
+const TICKED: &[(&str, &str, u8, &str, &str)] = &[
     (
         "func main() { println(1); while true { print(\"x\"); } }",
         "4",
@@ -269,54 +269,49 @@ const TICKED: [(&str, &str, u8, &str, &str); 8] = [
 // Each call calls itself once more.
 const DEEP: &str = "func f(n int) { f(n + 1); } func main() { f(0); }";
 
-fn is(seen: &Seen, status: u8, out: &str, err: &str) -> bool {
-    seen.status == status
-        && seen.out.as_slice() == out.as_bytes()
-        && seen.err.as_slice() == err.as_bytes()
+// Whether a run of the program gives this.
+fn runs<R: Threads + Sync>(
+    rt: &R,
+    alloc: Global,
+    text: &str,
+    expected: (u8, &str, &str),
+) -> Result<bool, Fail> {
+    gives(rt, alloc, &["run", "p"], text.as_bytes(), expected)
 }
 
-fn run<R: Threads + Sync>(rt: &R, alloc: Global, text: &str) -> Result<Seen, Fail> {
-    run_on(rt, alloc, &["run", "p"], text.as_bytes(), &CALM)
-}
-
-fn run_with<R: Threads + Sync>(
+// Whether a run of the program that may spend so many ticks gives this.
+fn runs_with<R: Threads + Sync>(
     rt: &R,
     alloc: Global,
     text: &str,
     ticks: &str,
-) -> Result<Seen, Fail> {
-    run_on(
-        rt,
-        alloc,
-        &["run", "p", "--ticks", ticks],
-        text.as_bytes(),
-        &CALM,
-    )
+    expected: (u8, &str, &str),
+) -> Result<bool, Fail> {
+    let words = ["run", "p", "--ticks", ticks];
+    gives(rt, alloc, &words, text.as_bytes(), expected)
 }
 
 #[test]
 fn programs_print_what_they_mean(rt: HostRuntime) -> Result<(), Fail> {
-    for (text, out) in DONE {
-        let seen = run(&rt, rt.alloc(), text)?;
-        assert!(rt; is(&seen, 0, out, ""), "{text}");
+    for &(text, out) in DONE {
+        assert!(rt; runs(&rt, rt.alloc(), text, (0, out, ""))?, "{text}");
     }
     Ok(())
 }
 
 #[test]
 fn traps_are_told(rt: HostRuntime) -> Result<(), Fail> {
-    for (text, out, report) in TRAPPED {
-        let seen = run(&rt, rt.alloc(), text)?;
-        assert!(rt; is(&seen, 3, out, report), "{text}");
+    for &(text, out, report) in TRAPPED {
+        assert!(rt; runs(&rt, rt.alloc(), text, (3, out, report))?, "{text}");
     }
     Ok(())
 }
 
 #[test]
 fn a_run_is_cut_where_no_tick_is_left(rt: HostRuntime) -> Result<(), Fail> {
-    for (text, ticks, status, out, err) in TICKED {
-        let seen = run_with(&rt, rt.alloc(), text, ticks)?;
-        assert!(rt; is(&seen, status, out, err), "{text}");
+    for &(text, ticks, status, out, err) in TICKED {
+        let agrees = runs_with(&rt, rt.alloc(), text, ticks, (status, out, err))?;
+        assert!(rt; agrees, "{text}");
     }
     Ok(())
 }
@@ -333,14 +328,12 @@ fn deep_report(alloc: Global) -> Result<String, Fail> {
 
 #[test]
 fn the_depth_of_calls_has_an_end(rt: HostRuntime) -> Result<(), Fail> {
-    let alloc = rt.alloc();
-    let report = deep_report(alloc)?;
-    let seen = run(&rt, alloc, DEEP)?;
-    assert!(rt; is(&seen, 3, "", report.as_str()));
+    let report = deep_report(rt.alloc())?;
+    let trapped = (3, "", report.as_str());
+    assert!(rt; runs(&rt, rt.alloc(), DEEP, trapped)?);
     // the call that is too deep spends no tick
-    let seen = run_with(&rt, alloc, DEEP, "100000")?;
-    assert!(rt; is(&seen, 3, "", report.as_str()));
-    let seen = run_with(&rt, alloc, DEEP, "99999")?;
-    assert!(rt; is(&seen, 4, "", "cut after 99999 ticks\n"));
+    assert!(rt; runs_with(&rt, rt.alloc(), DEEP, "100000", trapped)?);
+    let cut = (4, "", "cut after 99999 ticks\n");
+    assert!(rt; runs_with(&rt, rt.alloc(), DEEP, "99999", cut)?);
     Ok(())
 }

@@ -12,21 +12,23 @@ fn refusal(alloc: Global, text: &str) -> Option<Refusal> {
     }
 }
 
+// Refusals with what is told of them.
+const TOLD: &[(u8, u32, u32, &str)] = &[
+    (20, 1, 21, "E20 at 1:21"),
+    (1, 1, 1, "E01 at 1:1"),
+    (5, 12, 1048, "E05 at 12:1048"),
+];
+
 #[test]
 fn a_refusal_is_told_by_its_code_and_spot(rt: HostRuntime) -> Result<(), Fail> {
     let alloc = rt.alloc();
-    let rows = [
-        (20, 1, 21, "E20 at 1:21"),
-        (1, 1, 1, "E01 at 1:1"),
-        (5, 12, 1048, "E05 at 12:1048"),
-    ];
-    for (code, line, col, text) in rows {
+    for &(code, line, col, text) in TOLD {
         let refusal = Refusal {
             code,
             at: Spot { line, col },
         };
         let told = format!(in alloc; "{refusal}")?;
-        assert_eq!(rt; told.as_str(), text);
+        assert!(rt; told.as_str() == text, "{text}");
     }
     Ok(())
 }

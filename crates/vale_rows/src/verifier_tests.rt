@@ -6,14 +6,23 @@ use vale_cert::{Facts, FuncFacts};
 use vale_code::{Code, Func, Instr, Sequence, Ty};
 use vale_verifier::{VerifyFault, certified, verify};
 
-// The code that prints 7, with this last instruction.
-fn seven(alloc: Global, last: Instr) -> Result<Code, Memory> {
+// The texts of a code whose only function is `main`.
+fn names(alloc: Global) -> Result<Sequence<Text>, Memory> {
     let mut texts = Sequence::new(alloc);
     texts.push(Text::from_slice(alloc, b"main")?)?;
+    Ok(texts)
+}
+
+// What prints 7, with this last instruction.
+fn body(alloc: Global, last: Instr) -> Result<Sequence<Instr>, Memory> {
     let mut body = Sequence::new(alloc);
     body.push(Instr::Int { to: 0, number: 7 })?;
     body.push(Instr::Print { from: 0, choice: 1 })?;
     body.push(last)?;
+    Ok(body)
+}
+
+fn main_of(alloc: Global, body: Sequence<Instr>) -> Result<Sequence<Func>, Memory> {
     let mut funcs = Sequence::new(alloc);
     funcs.push(Func {
         name: 0,
@@ -23,7 +32,19 @@ fn seven(alloc: Global, last: Instr) -> Result<Code, Memory> {
         registers: 1,
         body,
     })?;
-    Code::new(texts, Sequence::new(alloc), Sequence::new(alloc), funcs, 0)
+    Ok(funcs)
+}
+
+// The code that prints 7, with this last instruction.
+fn seven(alloc: Global, last: Instr) -> Result<Code, Memory> {
+    let funcs = main_of(alloc, body(alloc, last)?)?;
+    Code::new(
+        names(alloc)?,
+        Sequence::new(alloc),
+        Sequence::new(alloc),
+        funcs,
+        0,
+    )
 }
 
 // Facts of one function, without labels.
@@ -42,8 +63,8 @@ fn a_certified_code_is_verified_with_ample_memory(rt: HostRuntime) -> Result<(),
     let facts = no_labels(rt.alloc()).ok().ok_or("memory")?;
     assert!(rt; certified(rt.alloc(), &code, &facts).ok().ok_or("memory")?);
     let verified = verify(rt.alloc(), code, facts).ok().ok_or("fault")?;
-    assert_eq!(rt; verified.code.funcs.len(), 1);
-    assert_eq!(rt; verified.facts.funcs.len(), 1);
+    assert!(rt; verified.code.funcs.len() == 1);
+    assert!(rt; verified.facts.funcs.len() == 1);
     Ok(())
 }
 
@@ -60,6 +81,6 @@ fn a_code_that_runs_past_its_end_is_refused_there(rt: HostRuntime) -> Result<(),
 fn a_fault_is_shown_with_its_rule_and_place(rt: HostRuntime) -> Result<(), Fail> {
     let fault = VerifyFault { rule: 7, at: 2 };
     let text = format!(in rt.alloc(); "{fault}")?;
-    assert_eq!(rt; text.as_str(), "rule 7 is broken at 2");
+    assert!(rt; text.as_str() == "rule 7 is broken at 2");
     Ok(())
 }

@@ -1,4 +1,4 @@
-use Rattle.vale_heap_rows.proofs.LentHeapLaws.{join_lent}
+use Rattle.vale_heap_rows.proofs.lent_heap.Laws.{join_lent}
 use Rattle.vale_heap_rows.proofs.lent_heap.KeptHeap.merge.Goals as goal
 
 pub invariant_of-result : goal.invariant_of-result

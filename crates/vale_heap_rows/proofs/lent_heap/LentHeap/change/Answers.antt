@@ -1,4 +1,4 @@
-use Rattle.vale_heap_rows.proofs.LentHeapLaws.{change_lent}
+use Rattle.vale_heap_rows.proofs.lent_heap.Laws.{change_lent}
 use Rattle.vale_heap_rows.proofs.lent_heap.LentHeap.change.Goals as goal
 
 pub invariant_of-self : goal.invariant_of-self

@@ -2,7 +2,7 @@ use Rattle.std.proofs.Common.{sym, arith}
 use Rattle.vale_heap.specs.HeapState.{innermost, LivesIn}
 use Rattle.vale_heap.specs.declared.seat.Home.TheVariants.{Open}
 use Rattle.vale_heap_rows.specs.LentHeap.{IsLent}
-use Rattle.vale_heap_rows.proofs.LentHeapLaws.{make_lent, made_lives, keep_kept}
+use Rattle.vale_heap_rows.proofs.lent_heap.Laws.{make_lent, made_lives, keep_kept}
 use Rattle.vale_heap_rows.proofs.lent_heap.LentHeap.freeze_keep.Goals as goal
 
 pub freeze_keep-requires-clause-root : goal.freeze_keep-requires-clause-root

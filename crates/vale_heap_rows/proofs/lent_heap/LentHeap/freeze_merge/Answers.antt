@@ -1,5 +1,5 @@
 use Rattle.std.proofs.Common.{arith}
-use Rattle.vale_heap_rows.proofs.LentHeapLaws.{merge_lent}
+use Rattle.vale_heap_rows.proofs.lent_heap.Laws.{merge_lent}
 use Rattle.vale_heap_rows.proofs.lent_heap.LentHeap.freeze_merge.Goals as goal
 
 pub invariant_of-self : goal.invariant_of-self

@@ -1,7 +1,7 @@
 use Rattle.std.proofs.Common.{◌≡◌, true}
 use Rattle.vale_table.specs.Means.{IsAt, seat_means}
 use Rattle.vale_heap_rows.specs.Teams.{AreSeated}
-use Rattle.vale_heap_rows.proofs.team.Worker.enlist.Given as goal
+use Rattle.vale_heap_rows.proofs.team.enlist.Given as goal
 
 abbrev pub invariant-loop : goal.invariant-loop
 invariant-loop g l = record {

@@ -1,7 +1,7 @@
 use Rattle.std.proofs.Common.{◌≡◌, true, vec_len}
 use Rattle.vale_table.specs.Means.{IsAt, seat_means}
 use Rattle.vale_heap_rows.specs.Teams.{AreSeated}
-use Rattle.vale_heap_rows.proofs.team.Worker.dismiss.Given as goal
+use Rattle.vale_heap_rows.proofs.team.dismiss.Given as goal
 
 abbrev pub invariant-loop-worker : goal.invariant-loop-worker
 invariant-loop-worker g l = record {
