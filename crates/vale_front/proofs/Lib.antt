@@ -1,3 +1,4 @@
+pub mod ByteLaws
 mod FaultLaws
 mod MissingLaws
 mod Rules

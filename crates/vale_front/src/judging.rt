@@ -1,8 +1,10 @@
 // From a tree to its typed tree.
-ghost use Rattle.std.specs.Prelude.{◌≡◌, List, ℕ, IfOk};
+ghost use Rattle.std.specs.Prelude.{◌≡◌, List, ℕ, IfOk, true};
+ghost use Rattle.std.specs.List.{list_all};
 ghost use Rattle.vale_base.specs.Faults.{IfFault, IsValueUnlessMemory};
 ghost use Rattle.vale_core.specs.View.{view_core};
 ghost use Rattle.vale_front.specs.Front.{Serves, Unsound};
+ghost use Rattle.vale_syntax.specs.Bytes.{is_byte};
 ghost use Rattle.vale_syntax.specs.Typed.{Typed};
 ghost use Rattle.vale_syntax.specs.View.{view_tree};
 ghost use Rattle.vale_syntax.specs.WellFormed.{Reads};
@@ -26,7 +28,8 @@ const NOT_SERVED: Refusal = Refusal {
 /// where a node breaks a rule, with the first such node of the first phase that finds one, and where the program has
 /// something that isn't served yet; `Fail::Memory` may always come.
 pub fn judge(alloc: Global, tree: Tree) -> Result<Sound, Fail<Refusal>>
-    requires { (text : List ℕ) × Reads text (view_tree tree) }
+    // some text of bytes is read as the tree
+    requires { (text : List ℕ) × (list_all is_byte text ≡ true) × Reads text (view_tree tree) }
     // what is answered breaks no rule, and all of it is served
     ensures found { IfOk result (λ sound. (decls : Decls) × Serves (view_tree tree) decls (view_core sound.core)) }
     // what breaks none and is served is answered

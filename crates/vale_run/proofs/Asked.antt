@@ -1,9 +1,7 @@
 -- What is known of a run before it begins.
 use Rattle.std.proofs.Common.{◌≡◌, ◌<◌, ◌≤◌, ◌+◌, ℕ, suc, List, [], ◌∷◌, length, get_or, true, refl, ap, ◌∙◌, arith}
 use Rattle.std.specs.Prelude.{unwrap_or, ◌&&◌}
-use Rattle.std.specs.List.{list_all}
 use Rattle.vale_base.specs.Limits.{ticks_limit, ticks_default}
-use Rattle.vale_syntax.specs.Bytes.{is_byte}
 use Rattle.vale_words.specs.FirstFault.{Word}
 use Rattle.vale_words.specs.Words.{Asks, AsksBehind, ChoosesFrom, IsValue, nothing_chosen, with_setting, option_of}
 use Rattle.vale_words.specs.declared.job.Job.TheVariants as j
@@ -48,12 +46,3 @@ ticks_behind _ words file options behind = absurd behind
 pub asked_ticks : (words : List Word) (file : ℕ) (options : Options) → Asks words (j.Run file options) → IsTicks options.ticks
 asked_ticks [] file options asks = absurd asks
 asked_ticks (word ∷ more) file options (command, text, asks) = ticks_behind command more file options asks
-
--- ---- the text
-
--- a text of bytes
-pub all_bytes : (text : List ℕ) → ((k : ℕ) → get_or text k 0 < 256) → list_all is_byte text ≡ true
-all_bytes [] h = refl
-all_bytes (b ∷ bs) h =
-    let first : is_byte b ≡ true = grind (arith, h 0) in
-    ap (λ x. x && list_all is_byte bs) first ∙ all_bytes bs (λ k. h (suc k))

@@ -12,8 +12,8 @@ ghost use Rattle.vale_syntax.specs.Bytes.{is_byte};
 ghost use Rattle.vale_lower_facts.specs.Suits.{Suits};
 ghost use Rattle.vale_sound.specs.Runs.{Runs};
 
-use vale_lowering::lowered_code_does_what_is_meant;
 use vale_lower_facts::{lowered_code_is_certified, suitable_code_does_what_is_meant};
+use vale_lowering::lowered_code_does_what_is_meant;
 
 /// The types of a well-formed program fit, where its text is one of bytes and it is one of those that are lowered.
 pub fn well_formed_programs_suit()
@@ -26,15 +26,23 @@ pub fn served_programs_are_covered()
     ensures { (tree : Tree) (decls : Decls) (program : Typed) → Serves tree decls program → is_covered program ≡ true }
 {}
 
-/// The code of a program whose text is accepted is certified, takes no input, never goes wrong, does exactly what the program
-/// means and needs as many frames; the text is one of bytes.
+/// The code of a well-formed program is certified, takes no input, never goes wrong, does exactly what the program means and needs as
+/// many frames, where its text is one of bytes and it is one of those that are lowered.
+pub fn well_formed_programs_run()
+    ensures { (text : List ℕ) (tree : Tree) (decls : Decls) (program : Typed) → list_all is_byte text ≡ true → WellFormed text tree decls program
+        → is_covered program ≡ true → Runs program }
+{
+    well_formed_programs_suit();
+    lowered_code_is_certified();
+    suitable_code_does_what_is_meant();
+    lowered_code_does_what_is_meant();
+}
+
+/// The same of every program whose text is accepted.
 pub fn accepted_programs_run()
     ensures { (text : List ℕ) (tree : Tree) (decls : Decls) (program : Typed) → list_all is_byte text ≡ true → Accepts text tree decls program
         → Runs program }
 {
     served_programs_are_covered();
-    well_formed_programs_suit();
-    lowered_code_is_certified();
-    suitable_code_does_what_is_meant();
-    lowered_code_does_what_is_meant();
+    well_formed_programs_run();
 }

@@ -4,4 +4,7 @@
 
 mod laws;
 
-pub use laws::{accepted_programs_run, served_programs_are_covered, well_formed_programs_suit};
+pub use laws::{
+    accepted_programs_run, served_programs_are_covered, well_formed_programs_run,
+    well_formed_programs_suit,
+};

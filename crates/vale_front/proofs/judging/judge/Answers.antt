@@ -4,7 +4,7 @@ use Rattle.vale_core.specs.View.{view_core}
 use Rattle.vale_front.specs.Front.{ill_declared, ill_typed, not_served}
 use Rattle.vale_front.specs.declared.missing.Missing.{Missing}
 use Rattle.vale_front.proofs.MissingLaws.{plain_where_judged}
-use Rattle.vale_syntax.specs.View.{view_item}
+use Rattle.vale_syntax.specs.View.{view_item, view_tree}
 use Rattle.vale_front.proofs.judging.judge.Goals as goal
 
 pub declare-requires : goal.declare-requires
@@ -34,3 +34,19 @@ returns-then-missing-2-clause-refused c =
     let judged = ap (λ (z : Missing). z.unjudged) (sym c.missing_in-missing.ensures) ∙ c.if-missing.false in
     let unserved = ap (λ (z : Missing). z.unserved) (sym c.missing_in-missing.ensures) ∙ c.if-missing-2.true in
     not_served judged c.in-Ok.decls (view_core c.in-Ok-type_all.core) c.in-Ok.ensures.declared c.in-Ok-type_all.ensures.typed unserved refl refl
+
+pub invariant_of-result : goal.invariant_of-result
+invariant_of-result c =
+    record {
+      is_sound = ∣ (
+        c.requires.0,
+        view_tree c.args.tree,
+        c.in-Ok.decls,
+        c.requires.1,
+        record {
+          reads = c.requires.2;
+          declares = c.in-Ok.ensures.declared;
+          types = c.in-Ok-type_all.ensures.typed;
+        },
+      ) ∣₁;
+    }

@@ -1,8 +1,12 @@
-use Rattle.std.proofs.Common.{◌≡◌, sym, subst}
+use Rattle.std.proofs.Common.{◌≡◌, sym, subst, arith}
 use Rattle.vale_front.specs.Front.{Serves, unread, unsound}
+use Rattle.vale_front.proofs.ByteLaws.{all_bytes}
 use Rattle.vale_front.proofs.FaultLaws.{fault_weaker, fault_of, no_value}
 use Rattle.vale_syntax.specs.View.{view_tree}
 use Rattle.vale_front.proofs.whole.front.Goals as goal
+
+pub judge-requires : goal.judge-requires
+judge-requires c = (c.args.text.now, all_bytes c.args.text.now (λ k. omega (arith, c.type_inv.text k)), c.in-Ok.ensures.found)
 
 pub returns-in-Ok-clause-complete : goal.returns-in-Ok-clause-complete
 returns-in-Ok-clause-complete c t decls program a =

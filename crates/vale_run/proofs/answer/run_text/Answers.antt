@@ -1,8 +1,8 @@
 use Rattle.std.proofs.Common.{arith}
 use Rattle.std.proofs.lemmas.Result.{IfOk-weaker}
 use Rattle.vale_core.specs.View.{view_core}
+use Rattle.vale_front.proofs.ByteLaws.{all_bytes}
 use Rattle.vale_run.specs.Owed.{refused_run, runs}
-use Rattle.vale_run.proofs.Asked.{all_bytes}
 use Rattle.vale_run.proofs.answer.run_text.Goals as goal
 
 pub run_program-requires-clause-runs : goal.run_program-requires-clause-runs

@@ -1,16 +1,7 @@
-use Rattle.vale_lower_facts.proofs.Program.{takes_no_input}
 use Rattle.vale_sound.proofs.laws.accepted_programs_run.Goals as goal
 
 pub returns : goal.returns
 returns c = λ text tree decls program bytes accepts.
-    let covered = c.served_programs_are_covered.ensures tree decls program accepts.serves in
-    let suits = c.well_formed_programs_suit.ensures text tree decls program bytes (record { reads = accepts.reads; declares = accepts.serves.declares; types = accepts.serves.types }) covered in
-    let code = c.suitable_code_does_what_is_meant.ensures in
-    let wrong = code.never_wrong program covered suits in
-    record {
-      certified = c.lowered_code_is_certified.ensures program covered suits;
-      takes = takes_no_input program suits;
-      never_wrong = wrong;
-      means = code.means program covered suits;
-      needs = λ ticks first. c.lowered_code_does_what_is_meant.ensures.needs program ticks first (wrong ticks);
-    }
+    c.well_formed_programs_run.ensures text tree decls program bytes
+    (record { reads = accepts.reads; declares = accepts.serves.declares; types = accepts.serves.types })
+    (c.served_programs_are_covered.ensures tree decls program accepts.serves)
