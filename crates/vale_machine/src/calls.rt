@@ -31,6 +31,7 @@ enum Passing {
 }
 
 // The value of a register, for a parameter of this type.
+#[inline(always)]
 fn given(alloc: Global, registers: &[Cell], from: u32, ty: &Ty) -> Reply
     ensures { (s : State) → Replies result (on_value (given_value ty.now (read (values_in registers.now) from)) (λ v. gives (Some v) s)) s }
 {
@@ -42,6 +43,7 @@ fn given(alloc: Global, registers: &[Cell], from: u32, ty: &Ty) -> Reply
 
 // Puts the values of registers, for parameters of these types, behind all cells. The registers are those from the base on
 // to the end.
+#[inline(always)]
 fn pass(alloc: Global, cells: &mut Vec<Cell>, base: usize, params: &[Ty], args: &[u32]) -> Passing
     requires { base ≤ length cells.old.items }
     ensures { ArePassed result (give_all params.now args.now (values_in (drop base cells.old.items))) (values_in (drop base cells.old.items)) cells.old.items cells.new.items }
@@ -65,6 +67,7 @@ fn pass(alloc: Global, cells: &mut Vec<Cell>, base: usize, params: &[Ty], args: 
 }
 
 // Empty cells behind all cells, until there are so many.
+#[inline(always)]
 pub fn fill(cells: &mut Vec<Cell>, count: usize) -> Result<(), Memory>
     ensures { OnOk result (cells.new.items ≡ cells.old.items ++ replicate (count - length cells.old.items) Cell.Empty) }
 {
@@ -75,6 +78,7 @@ pub fn fill(cells: &mut Vec<Cell>, count: usize) -> Result<(), Memory>
 }
 
 // A result that isn't void goes to a register.
+#[inline(always)]
 fn dest_of(result_type: &Ty, to: u32) -> Option<u32>
     ensures { result ≡ result_to result_type.now to }
 {
@@ -85,6 +89,7 @@ fn dest_of(result_type: &Ty, to: u32) -> Option<u32>
 }
 
 // A function of a code.
+#[inline(always)]
 pub fn function_of(code: &Code, function: u32) -> &Func
     requires { function < length code.now.funcs }
     ensures { slice_get code.now.funcs function ≡ Some result.now }
@@ -94,6 +99,7 @@ pub fn function_of(code: &Code, function: u32) -> &Func
 
 impl Machine {
     // A function is called with the values of these registers.
+    #[inline(always)]
     pub(crate) fn call(
         &mut self,
         code: &Code,
@@ -144,6 +150,7 @@ impl Machine {
     }
 
     // The caller goes on behind its instruction later; this frame is the innermost.
+    #[inline(always)]
     fn enter(&mut self, frame: Frame) -> Step
         requires { self.old.top.place + 1 < 2 ^ 64 }
         ensures { IsEntered result frame self.old self.new }
@@ -157,6 +164,7 @@ impl Machine {
     }
 
     // A function is left with the value of a register.
+    #[inline(always)]
     pub(crate) fn ret(&mut self, from: u32) -> Step
         requires register { self.old.top.base + from < length self.old.cells.items }
         requires room { HasRoom self.old.top.dest self.old.top.base (reverse self.old.below.items) }
@@ -175,6 +183,7 @@ impl Machine {
     }
 
     // The innermost function is left with this value, or with none.
+    #[inline(always)]
     pub(crate) fn leave(&mut self, cell: Cell) -> Step
         requires base { self.old.top.base ≤ length self.old.cells.items }
         requires room { HasRoom self.old.top.dest self.old.top.base (reverse self.old.below.items) }
@@ -197,6 +206,7 @@ impl Machine {
     }
 
     // A value goes to a register, where there are both.
+    #[inline(always)]
     fn hand(&mut self, dest: Option<u32>, cell: Cell)
         requires { HasRegister dest self.old.top.base (length self.old.cells.items) }
         ensures step { (code : Parts) (taken : List Piece)

@@ -15,6 +15,7 @@ pub enum Cell {
 }
 
 impl Cell {
+    #[inline(always)]
     pub fn is_empty(&self) -> bool
         ensures { result ≡ is_none (value_in self.now) }
     {
@@ -26,6 +27,7 @@ impl Cell {
         }
     }
 
+    #[inline(always)]
     fn int(&self) -> Option<i64>
         ensures { result ≡ int_in (value_in self.now) }
     {
@@ -37,6 +39,7 @@ impl Cell {
         }
     }
 
+    #[inline(always)]
     fn truth(&self) -> Option<bool>
         ensures { result ≡ truth_in (value_in self.now) }
     {
@@ -61,6 +64,7 @@ impl Cell {
 }
 
 // What a register holds, where there is such a register.
+#[inline(always)]
 #[tactic(auto, using(crate::proofs::Operands::read_past, crate::proofs::Operands::read_within))]
 pub fn cell_at(registers: &[Cell], register: u32) -> Option<&Cell>
     ensures { MatchOption result (read (values_in registers.now) register ≡ None) (λ cell. read (values_in registers.now) register ≡ value_in cell.now) }
@@ -72,6 +76,7 @@ pub fn cell_at(registers: &[Cell], register: u32) -> Option<&Cell>
 }
 
 // The number that a register holds.
+#[inline(always)]
 pub fn int_at(registers: &[Cell], register: u32) -> Option<i64>
     ensures { result ≡ int_in (read (values_in registers.now) register) }
 {
@@ -82,6 +87,7 @@ pub fn int_at(registers: &[Cell], register: u32) -> Option<i64>
 }
 
 // The numbers that two registers hold.
+#[inline(always)]
 pub fn ints_at(registers: &[Cell], left: u32, right: u32) -> Option<(i64, i64)>
     ensures { result ≡ ints_in (read (values_in registers.now) left) (read (values_in registers.now) right) }
 {
@@ -95,6 +101,7 @@ pub fn ints_at(registers: &[Cell], left: u32, right: u32) -> Option<(i64, i64)>
 }
 
 // The truth that a register holds.
+#[inline(always)]
 pub fn truth_at(registers: &[Cell], register: u32) -> Option<bool>
     ensures { result ≡ truth_in (read (values_in registers.now) register) }
 {
@@ -105,6 +112,7 @@ pub fn truth_at(registers: &[Cell], register: u32) -> Option<bool>
 }
 
 // The truths that two registers hold.
+#[inline(always)]
 pub fn truths_at(registers: &[Cell], left: u32, right: u32) -> Option<(bool, bool)>
     ensures { result ≡ truths_in (read (values_in registers.now) left) (read (values_in registers.now) right) }
 {

@@ -12,6 +12,7 @@ use crate::machine::{Machine, Step};
 use vale_code::{Code, Instr};
 
 // The instruction at a place of a function.
+#[inline(always)]
 pub fn fetched(code: &Code, function: u32, place: usize) -> Option<&Instr>
     ensures fetched { option_map (λ instr. instr.now) result ≡ fetch code.now function place }
     ensures place { IfSome result (λ _. place + 1 < 2 ^ 64) }
@@ -29,6 +30,7 @@ pub fn fetched(code: &Code, function: u32, place: usize) -> Option<&Instr>
 
 impl Machine {
     // Whether a jump spends no tick: it leads on, or to a `tick`.
+    #[inline(always)]
     fn is_free(&self, code: &Code, target: usize) -> bool
         ensures { result ≡ (nat_lt self.now.top.place target || is_tick (fetch code.now self.now.top.function target)) }
     {
@@ -41,6 +43,7 @@ impl Machine {
         }
     }
 
+    #[inline(always)]
     pub(crate) fn jump(&mut self, code: &Code, target: u32) -> Step
         requires { self.old.left + self.old.spent < 2 ^ 64 }
         ensures step { (taken : List Piece) → Stepped code.now taken result (jump code.now (active code.now self.old) target (below code.now self.old) (state_of taken self.old)) self.new }
@@ -58,6 +61,7 @@ impl Machine {
         Step::Going
     }
 
+    #[inline(always)]
     pub(crate) fn unless(&mut self, code: &Code, condition: u32, target: u32) -> Step
         requires ticks { self.old.left + self.old.spent < 2 ^ 64 }
         requires place { self.old.top.place + 1 < 2 ^ 64 }
@@ -80,6 +84,7 @@ impl Machine {
     }
 
     // The tick of a loop's turn.
+    #[inline(always)]
     pub(crate) fn tick(&mut self) -> Step
         requires ticks { self.old.left + self.old.spent < 2 ^ 64 }
         requires place { self.old.top.place + 1 < 2 ^ 64 }

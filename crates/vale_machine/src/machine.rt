@@ -9,7 +9,7 @@ ghost use Rattle.vale_code.specs.Parts.{Parts};
 ghost use Rattle.vale_code.specs.Registers.{put};
 ghost use Rattle.vale_machine.specs.Cells.{value_in};
 ghost use Rattle.vale_machine.specs.Replies.{IsSure, Replies};
-ghost use Rattle.vale_machine.specs.View.{HasMemory, IsLaid, IsTicked, KeepsTicks, Stepped, active, below, config_of, state_of};
+ghost use Rattle.vale_machine.specs.View.{is_going, HasMemory, IsLaid, IsRight, IsTicked, KeepsTicks, Stepped, active, below, config_of, state_of};
 
 use crate::cell::Cell;
 use crate::reply::Reply;
@@ -51,8 +51,24 @@ pub enum Step {
     Wrong,
 }
 
+impl Step {
+    // Whether the run goes on.
+    #[inline(always)]
+    pub(crate) fn is_going(&self) -> bool
+        requires { IsRight self.now }
+        ensures { result ≡ is_going self.now }
+    {
+        match self {
+            Step::Going => true,
+            Step::Wrong => unreachable!(),
+            _ => false,
+        }
+    }
+}
+
 impl Machine {
     // The registers of the innermost frame.
+    #[inline(always)]
     pub(crate) fn registers(&self) -> &[Cell]
         requires { self.now.top.base ≤ length self.now.cells.items }
         ensures { result.now ≡ drop self.now.top.base self.now.cells.items }
@@ -61,6 +77,7 @@ impl Machine {
     }
 
     // A value goes to a register, and the next instruction is the one behind.
+    #[inline(always)]
     pub(crate) fn receive(&mut self, to: u32, cell: Cell)
         requires room { self.old.top.base + to < length self.old.cells.items }
         requires place { self.old.top.place + 1 < 2 ^ 64 }
@@ -74,6 +91,7 @@ impl Machine {
     }
 
     // The next instruction is the one behind.
+    #[inline(always)]
     pub(crate) fn pass(&mut self)
         requires { self.old.top.place + 1 < 2 ^ 64 }
         ensures step { (code : Parts) (taken : List Piece)
@@ -85,6 +103,7 @@ impl Machine {
     }
 
     // The value of an instruction goes to its register, or its trap is told.
+    #[inline(always)]
     pub(crate) fn answer(&mut self, to: u32, at: Spot, reply: Reply) -> Step
         requires room { self.old.top.base + to < length self.old.cells.items }
         requires place { self.old.top.place + 1 < 2 ^ 64 }
@@ -106,6 +125,7 @@ impl Machine {
     }
 
     // The same of an instruction that has no trap.
+    #[inline(always)]
     pub(crate) fn surely(&mut self, to: u32, reply: Reply) -> Step
         requires room { self.old.top.base + to < length self.old.cells.items }
         requires place { self.old.top.place + 1 < 2 ^ 64 }
@@ -127,6 +147,7 @@ impl Machine {
     }
 
     // Whether a tick was left, which is then spent.
+    #[inline(always)]
     pub(crate) fn take_tick(&mut self) -> bool
         requires { self.old.left + self.old.spent < 2 ^ 64 }
         ensures { IsTicked result self.old self.new }

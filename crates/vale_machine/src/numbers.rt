@@ -19,6 +19,7 @@ use crate::reply::{Reply, int_reply};
 use std::cmp::Ordering;
 use vale_base::Spot;
 
+#[inline(always)]
 fn sum(registers: &[Cell], left: u32, right: u32) -> Reply
     ensures answer { (s : State) → Replies result (on_values (read (values_in registers.now) left) (read (values_in registers.now) right) (λ v w. add v w s)) s }
     ensures sure { IsSure result }
@@ -29,6 +30,7 @@ fn sum(registers: &[Cell], left: u32, right: u32) -> Reply
     }
 }
 
+#[inline(always)]
 fn difference(registers: &[Cell], left: u32, right: u32) -> Reply
     ensures answer { (s : State) → Replies result (on_values (read (values_in registers.now) left) (read (values_in registers.now) right) (λ v w. sub v w s)) s }
     ensures sure { IsSure result }
@@ -39,6 +41,7 @@ fn difference(registers: &[Cell], left: u32, right: u32) -> Reply
     }
 }
 
+#[inline(always)]
 fn product(registers: &[Cell], left: u32, right: u32) -> Reply
     ensures answer { (s : State) → Replies result (on_values (read (values_in registers.now) left) (read (values_in registers.now) right) (λ v w. mul v w s)) s }
     ensures sure { IsSure result }
@@ -69,6 +72,7 @@ fn remainder(registers: &[Cell], left: u32, right: u32) -> Reply
     }
 }
 
+#[inline(always)]
 fn negation(registers: &[Cell], from: u32) -> Reply
     ensures answer { (s : State) → Replies result (on_value (read (values_in registers.now) from) (λ v. opposite v s)) s }
     ensures sure { IsSure result }
@@ -80,6 +84,7 @@ fn negation(registers: &[Cell], from: u32) -> Reply
 }
 
 // Whether a comparison holds of two that are ordered so.
+#[inline(always)]
 fn ordered(choice: u8, order: Ordering) -> Reply
     ensures answer { (s : State) → Replies result (on_comparison (comparison_of choice) (λ c. gives_truth s (holds c order))) s }
     ensures sure { IsSure result }
@@ -97,6 +102,7 @@ fn ordered(choice: u8, order: Ordering) -> Reply
 }
 
 // Whether a comparison holds of two truths.
+#[inline(always)]
 fn matched(choice: u8, left: bool, right: bool) -> Reply
     ensures answer { (s : State) → Replies result (on_comparison (comparison_of choice) (λ c. truths_compared c left right s)) s }
     ensures sure { IsSure result }
@@ -108,6 +114,7 @@ fn matched(choice: u8, left: bool, right: bool) -> Reply
     }
 }
 
+#[inline(always)]
 fn comparison(registers: &[Cell], choice: u8, left: u32, right: u32) -> Reply
     ensures answer { (s : State) → Replies result (on_comparison (comparison_of choice) (λ c.
         on_values (read (values_in registers.now) left) (read (values_in registers.now) right) (λ v w. compare c v w s))) s }
@@ -129,6 +136,7 @@ fn comparison(registers: &[Cell], choice: u8, left: u32, right: u32) -> Reply
 }
 
 impl Machine {
+    #[inline(always)]
     pub(crate) fn add(&mut self, to: u32, left: u32, right: u32, at: Spot) -> Step
         requires room { self.old.top.base + to < length self.old.cells.items }
         requires place { self.old.top.place + 1 < 2 ^ 64 }
@@ -142,6 +150,7 @@ impl Machine {
         self.answer(to, at, reply)
     }
 
+    #[inline(always)]
     pub(crate) fn sub(&mut self, to: u32, left: u32, right: u32, at: Spot) -> Step
         requires room { self.old.top.base + to < length self.old.cells.items }
         requires place { self.old.top.place + 1 < 2 ^ 64 }
@@ -155,6 +164,7 @@ impl Machine {
         self.answer(to, at, reply)
     }
 
+    #[inline(always)]
     pub(crate) fn mul(&mut self, to: u32, left: u32, right: u32, at: Spot) -> Step
         requires room { self.old.top.base + to < length self.old.cells.items }
         requires place { self.old.top.place + 1 < 2 ^ 64 }
@@ -194,6 +204,7 @@ impl Machine {
         self.answer(to, at, reply)
     }
 
+    #[inline(always)]
     pub(crate) fn compare(&mut self, to: u32, choice: u8, left: u32, right: u32) -> Step
         requires room { self.old.top.base + to < length self.old.cells.items }
         requires place { self.old.top.place + 1 < 2 ^ 64 }
@@ -207,6 +218,7 @@ impl Machine {
         self.surely(to, reply)
     }
 
+    #[inline(always)]
     pub(crate) fn not(&mut self, to: u32, from: u32) -> Step
         requires room { self.old.top.base + to < length self.old.cells.items }
         requires place { self.old.top.place + 1 < 2 ^ 64 }

@@ -17,6 +17,7 @@ pub enum Reply {
     Wrong,
 }
 
+#[inline(always)]
 pub fn int_reply(outcome: Result<i64, TrapKind>) -> Reply
     ensures answer { (s : State) → Replies result (gives_int s outcome) s }
     ensures sure { IsSure result }

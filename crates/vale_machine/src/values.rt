@@ -21,6 +21,7 @@ use vale_base::Text;
 use vale_code::Code;
 
 // A copy of what a register holds.
+#[inline(always)]
 pub fn copy_at(alloc: Global, registers: &[Cell], from: u32) -> Reply
     ensures { (s : State) → Replies result (on_value (read (values_in registers.now) from) (λ v. gives (Some v) s)) s }
 {
@@ -36,6 +37,7 @@ pub fn copy_at(alloc: Global, registers: &[Cell], from: u32) -> Reply
 }
 
 // False for 0, and true for 1.
+#[inline(always)]
 pub fn chosen(choice: u8) -> Option<bool>
     ensures { result ≡ truth_of choice }
 {
@@ -59,6 +61,7 @@ pub fn text_numbered(code: &Code, number: u32) -> Option<&Text>
 
 impl Machine {
     // A register gets this value.
+    #[inline(always)]
     pub(crate) fn set(&mut self, to: u32, cell: Cell) -> Step
         requires room { self.old.top.base + to < length self.old.cells.items }
         requires place { self.old.top.place + 1 < 2 ^ 64 }
@@ -72,6 +75,7 @@ impl Machine {
         Step::Going
     }
 
+    #[inline(always)]
     pub(crate) fn choose(&mut self, to: u32, choice: u8) -> Step
         requires room { self.old.top.base + to < length self.old.cells.items }
         requires place { self.old.top.place + 1 < 2 ^ 64 }
@@ -87,6 +91,7 @@ impl Machine {
         }
     }
 
+    #[inline(never)]
     pub(crate) fn quote(&mut self, code: &Code, to: u32, text: u32) -> Step
         requires room { self.old.top.base + to < length self.old.cells.items }
         requires place { self.old.top.place + 1 < 2 ^ 64 }
@@ -104,6 +109,7 @@ impl Machine {
         }
     }
 
+    #[inline(always)]
     pub(crate) fn copy(&mut self, to: u32, from: u32) -> Step
         requires room { self.old.top.base + to < length self.old.cells.items }
         requires place { self.old.top.place + 1 < 2 ^ 64 }
