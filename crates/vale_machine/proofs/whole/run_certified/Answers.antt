@@ -16,8 +16,8 @@ turns-init c = record {
 pub is_going-requires : goal.is_going-requires
 is_going-requires c = right c.args.code.now [] c.step-step.result c.turns.machine c.step-step.new.self c.turns.invariant.under_way (c.step-step.ensures.step [])
 
-pub end_of-requires : goal.end_of-requires
-end_of-requires c =
+pub end_of-end-requires : goal.end_of-end-requires
+end_of-end-requires c =
     over c.step-step.result (right c.args.code.now [] c.step-step.result c.turns.machine c.step-step.new.self c.turns.invariant.under_way (c.step-step.ensures.step [])) c.if-not-is_going.ensures
 
 pub turns-smaller : goal.turns-smaller
