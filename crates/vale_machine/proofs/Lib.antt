@@ -9,3 +9,4 @@ pub mod Passing
 pub mod Running
 pub mod Stack
 pub mod Told
+pub mod Turning

@@ -91,6 +91,22 @@ abbrev pub IsTicked : Bool → Machine → Machine → Type 0
 IsTicked false old new = (old.left ≡ 0) × (new ≡ old)
 IsTicked true old new = (0 < old.left) × (new ≡ record old { left = old.left - 1; spent = old.spent + 1 })
 
+-- whether the machine goes on
+abbrev pub is_going : Step → Bool
+is_going step.Going = true
+is_going _ = false
+
+-- a rule gives the step
+abbrev pub IsRight : Step → Type 0
+IsRight step.Wrong = ⊥
+IsRight _ = Unit {0}
+
+-- a rule gives the step, and it ends the run
+abbrev pub IsOver : Step → Type 0
+IsOver step.Going = ⊥
+IsOver step.Wrong = ⊥
+IsOver _ = Unit {0}
+
 -- where the machine goes on, this holds
 abbrev pub IfGoing : Step → Type 0 → Type 0
 IfGoing step.Going P = P

@@ -9,7 +9,7 @@ ghost use Rattle.vale_code.specs.Parts.{Parts};
 ghost use Rattle.vale_code.specs.Registers.{put};
 ghost use Rattle.vale_machine.specs.Cells.{value_in};
 ghost use Rattle.vale_machine.specs.Replies.{IsSure, Replies};
-ghost use Rattle.vale_machine.specs.View.{HasMemory, IsLaid, IsTicked, KeepsTicks, Stepped, active, below, config_of, state_of};
+ghost use Rattle.vale_machine.specs.View.{is_going, HasMemory, IsLaid, IsRight, IsTicked, KeepsTicks, Stepped, active, below, config_of, state_of};
 
 use crate::cell::Cell;
 use crate::reply::Reply;
@@ -49,6 +49,20 @@ pub enum Step {
     Cut,
     Memory,
     Wrong,
+}
+
+impl Step {
+    // Whether the run goes on.
+    pub(crate) fn is_going(&self) -> bool
+        requires { IsRight self.now }
+        ensures { result ≡ is_going self.now }
+    {
+        match self {
+            Step::Going => true,
+            Step::Wrong => unreachable!(),
+            _ => false,
+        }
+    }
 }
 
 impl Machine {

@@ -91,6 +91,7 @@ impl Machine {
     }
 
     // What a register holds is printed, with a line feed where the choice is 1.
+    #[inline(never)]
     pub(crate) fn print(&mut self, from: u32, choice: u8) -> Step
         requires place { self.old.top.place + 1 < 2 ^ 64 }
         requires base { self.old.top.base ≤ length self.old.cells.items }

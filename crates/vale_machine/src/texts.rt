@@ -100,6 +100,7 @@ fn number_in(registers: &[Cell], from: u32) -> Reply
 }
 
 impl Machine {
+    #[inline(never)]
     pub(crate) fn join(&mut self, to: u32, left: u32, right: u32, at: Spot) -> Step
         requires room { self.old.top.base + to < length self.old.cells.items }
         requires place { self.old.top.place + 1 < 2 ^ 64 }
@@ -112,6 +113,7 @@ impl Machine {
         self.answer(to, at, reply)
     }
 
+    #[inline(never)]
     pub(crate) fn text_len(&mut self, to: u32, from: u32) -> Step
         requires room { self.old.top.base + to < length self.old.cells.items }
         requires place { self.old.top.place + 1 < 2 ^ 64 }
@@ -125,6 +127,7 @@ impl Machine {
         self.surely(to, reply)
     }
 
+    #[inline(never)]
     pub(crate) fn slice(&mut self, to: u32, from: u32, first: u32, end: u32, at: Spot) -> Step
         requires room { self.old.top.base + to < length self.old.cells.items }
         requires place { self.old.top.place + 1 < 2 ^ 64 }
@@ -137,6 +140,7 @@ impl Machine {
         self.answer(to, at, reply)
     }
 
+    #[inline(never)]
     pub(crate) fn byte(&mut self, to: u32, from: u32, index: u32, at: Spot) -> Step
         requires room { self.old.top.base + to < length self.old.cells.items }
         requires place { self.old.top.place + 1 < 2 ^ 64 }
@@ -150,6 +154,7 @@ impl Machine {
         self.answer(to, at, reply)
     }
 
+    #[inline(never)]
     pub(crate) fn text_of(&mut self, to: u32, from: u32) -> Step
         requires room { self.old.top.base + to < length self.old.cells.items }
         requires place { self.old.top.place + 1 < 2 ^ 64 }
@@ -162,6 +167,7 @@ impl Machine {
         self.surely(to, reply)
     }
 
+    #[inline(never)]
     pub(crate) fn is_num(&mut self, to: u32, from: u32) -> Step
         requires room { self.old.top.base + to < length self.old.cells.items }
         requires place { self.old.top.place + 1 < 2 ^ 64 }
@@ -175,6 +181,7 @@ impl Machine {
         self.surely(to, reply)
     }
 
+    #[inline(never)]
     pub(crate) fn num(&mut self, to: u32, from: u32, at: Spot) -> Step
         requires room { self.old.top.base + to < length self.old.cells.items }
         requires place { self.old.top.place + 1 < 2 ^ 64 }

@@ -43,6 +43,7 @@ fn calls(alloc: Global, code: &Code, machine: &Machine) -> Result<Frames, Memory
 }
 
 // A trap of the machine.
+#[inline(never)]
 pub fn trap_at(
     alloc: Global,
     code: &Code,

@@ -3,12 +3,12 @@ ghost use Rattle.std.specs.Prelude.{◌≡◌, ◌+◌, ◌<◌, ◌^◌, List, 
 ghost use Rattle.vale_base.specs.State.{State};
 ghost use Rattle.vale_base.specs.declared.piece.Piece.{Piece};
 ghost use Rattle.vale_code.specs.Act.{act, act_if};
-ghost use Rattle.vale_code.specs.Frames.{Config};
+ghost use Rattle.vale_code.specs.Frames.{Config, Next};
 ghost use Rattle.vale_code.specs.Instructions.{fetch};
 ghost use Rattle.vale_code.specs.Run.{step};
 ghost use Rattle.vale_machine.specs.Lawful.{IsFit, IsRunnable, may_want, may_want_at};
-ghost use Rattle.vale_machine.specs.UnderWay.{IsRunning, IsStillUnderWay, IsUnderWay, Turned, WantsForTrap};
-ghost use Rattle.vale_machine.specs.View.{HasMemory, IfGoing, IsLaid, KeepsTicks, Stepped, active, below, config_of, state_of};
+ghost use Rattle.vale_machine.specs.UnderWay.{Ends, IsRunning, IsStillUnderWay, IsUnderWay, Turned, WantsForTrap};
+ghost use Rattle.vale_machine.specs.View.{HasMemory, IfGoing, IsLaid, IsOver, KeepsTicks, Stepped, active, below, config_of, state_of};
 
 use crate::cell::Cell;
 use crate::control::fetched;
@@ -125,7 +125,7 @@ impl Machine {
     }
 
     // The instruction at the machine's place.
-    fn step(&mut self, code: &Code) -> Step
+    pub(crate) fn step(&mut self, code: &Code) -> Step
         requires runnable { IsRunnable code.now }
         requires laid { IsLaid code.now self.old }
         requires ticks { self.old.left + self.old.spent < 2 ^ 64 }
@@ -149,18 +149,33 @@ impl Machine {
         ensures under_way { (taken : List Piece) → IsUnderWay code.now taken self.old → IsStillUnderWay code.now taken result self.new }
         ensures ticks { KeepsTicks self.old self.new }
     {
-        match self.step(code) {
-            Step::Going => Turn::Going,
-            Step::Done => Turn::Ended(End::Done { ticks: self.spent }),
+        let step = self.step(code);
+        if step.is_going() {
+            return Turn::Going;
+        }
+        Turn::Ended(self.end_of(code, step))
+    }
+
+    // How the run ends by a step that doesn't go on.
+    #[inline(never)]
+    pub(crate) fn end_of(&self, code: &Code, step: Step) -> End
+        requires { IsOver step }
+        ensures step { (taken : List Piece) (next : Next) → Stepped code.now taken step next self.now → Ends result next (state_of taken self.now) }
+        // It wants memory of its own only to tell a trap.
+        ensures memory { (taken : List Piece) (next : Next) → HasMemory step → Stepped code.now taken step next self.now → WantsForTrap (Turn.Ended result) next }
+    {
+        match step {
+            Step::Done => End::Done { ticks: self.spent },
             Step::Trap(kind, at) => match trap_at(self.alloc, code, self, kind, at) {
-                Ok(info) => Turn::Ended(End::Trap {
+                Ok(info) => End::Trap {
                     ticks: self.spent,
                     info,
-                }),
-                Err(_) => Turn::Ended(End::Memory),
+                },
+                Err(_) => End::Memory,
             },
-            Step::Cut => Turn::Ended(End::Cut),
-            Step::Memory => Turn::Ended(End::Memory),
+            Step::Cut => End::Cut,
+            Step::Memory => End::Memory,
+            Step::Going => unreachable!(),
             Step::Wrong => unreachable!(),
         }
     }

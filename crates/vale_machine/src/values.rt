@@ -87,6 +87,7 @@ impl Machine {
         }
     }
 
+    #[inline(never)]
     pub(crate) fn quote(&mut self, code: &Code, to: u32, text: u32) -> Step
         requires room { self.old.top.base + to < length self.old.cells.items }
         requires place { self.old.top.place + 1 < 2 ^ 64 }

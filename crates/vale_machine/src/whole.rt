@@ -10,7 +10,7 @@ ghost use Rattle.vale_machine.specs.Given.{given_of};
 
 use crate::machine::Machine;
 use crate::start::Input;
-use crate::turn::{End, Turn};
+use crate::turn::End;
 use std::alloc::Global;
 use vale_base::Piece;
 use vale_code::Code;
@@ -53,14 +53,13 @@ pub fn run_certified(alloc: Global, code: &Code, input: Input, ticks: u64) -> Fi
         }
     };
     'turns: loop {
-        match machine.turn_code(code) {
-            Turn::Going => {}
-            Turn::Ended(end) => {
-                return Finished {
-                    pieces: machine.take_pieces(),
-                    end,
-                };
-            }
+        let step = machine.step(code);
+        if !step.is_going() {
+            let end = machine.end_of(code, step);
+            return Finished {
+                pieces: machine.take_pieces(),
+                end,
+            };
         }
     }
 }
