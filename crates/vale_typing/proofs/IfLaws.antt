@@ -9,7 +9,7 @@ use Rattle.vale_syntax.specs.declared.tree.Expr.{Expr}
 use Rattle.vale_syntax.specs.declared.tree.Block.{Block}
 use Rattle.vale_syntax.specs.declared.tree.ElseIf.{ElseIf}
 use Rattle.vale_syntax.specs.declared.tree.Form.TheVariants as f
-use Rattle.vale_syntax.specs.Judged.{broken, first, leaf, Gives}
+use Rattle.vale_syntax.specs.Judged.{Judged, Rules, broken, first, both, node, leaf, Gives}
 use Rattle.vale_syntax.specs.Tree as e
 use Rattle.vale_syntax.specs.Tree.{Item}
 use Rattle.vale_syntax.specs.Types as y
@@ -18,10 +18,17 @@ use Rattle.vale_syntax.specs.Typed as t
 use Rattle.vale_syntax.specs.Typed.{type, block_type, condition_types, block_types, has_else}
 use Rattle.vale_syntax.specs.Typing.{Env, expr, in_form, in_else_if, in_block, elses}
 use Rattle.vale_syntax.specs.View.{listed, view_expr, view_form, view_block, view_else_if, elses_of, else_end}
-use Rattle.vale_syntax.proofs.JudgedLaws.{◌>>=◌, meets, first_leaf}
+use Rattle.vale_syntax.proofs.JudgedLaws.{◌>>=◌, meets, first_leaf, first_node, first_both}
 use Rattle.vale_syntax.proofs.ViewLaws.{of_if}
 use Rattle.vale_type_nodes.proofs.LoopLaws.{with_parts, no_parts, first_pair}
-use Rattle.vale_typing.proofs.NodeLaws.{third_left}
+
+third : {A B C D : Type 0} (r : Result C Fault) (a : A) (b : B) (f : A × (B × C) → Result D Fault) → (((r >>= λ x. Ok (b, x)) >>= λ y. Ok (a, y)) >>= f) ≡ (r >>= λ x. f (a, (b, x)))
+third (Ok x) a b f = refl
+third (Err e) a b f = refl
+
+module _ {A B C D : Type 0} (at : Spot) (rules : A × (B × C) → Rules) (make : A × (B × C) → D) (j : Judged A) (k : Judged B) (l : Judged C) (a : A) (b : B) where
+  third_left : first j ≡ Ok a → first k ≡ Ok b → first (node at rules make (both j (both k l))) ≡ (first l >>= λ x. meets at (broken (rules (a, (b, x)))) (make (a, (b, x))))
+  third_left p q = first_node at rules make (both j (both k l)) ∙ (rw (first_both j (both k l), first_both k l, p, q) (third (first l) a b (λ v. meets at (broken (rules v)) (make v))))
 
 one_more : (z : Result t.Elses Fault) (a : t.ElseIf) (xs : List t.ElseIf) → (with_parts t.more_elses xs z >>= λ b. Ok (t.more_elses a b)) ≡ with_parts t.more_elses (a ∷ xs) z
 one_more (Ok b) a xs = refl

@@ -1,4 +1,5 @@
 pub mod IfLaws
+pub mod KindLaws
 pub mod NodeLaws
 pub mod PartLaws
 pub mod Rules

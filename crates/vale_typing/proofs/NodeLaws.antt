@@ -1,58 +1,142 @@
--- A node whose first parts have no fault.
-use Rattle.std.proofs.Common.{◌≡◌, refl, sym, ◌∙◌}
+-- A node part by part: the fault of a part is that of the node, and where no part has one the node's own row is asked.
+use Rattle.std.proofs.Common.{◌≡◌, refl, ◌∙◌}
 use Rattle.std.specs.Prelude.{Result, Ok, Err}
 use Rattle.vale_base.specs.declared.spot.Spot.{Spot}
 use Rattle.vale_base.specs.declared.fault.Fail.{Fail}
 use Rattle.vale_base.specs.declared.fault.Fail.TheVariants.{Memory, Is}
 use Rattle.vale_syntax.specs.declared.fault.Fault.{Fault}
-use Rattle.vale_syntax.specs.Judged.{Judged, Rules, broken, first, both, scoped, plain, node, leaf, Gives}
-use Rattle.vale_syntax.proofs.JudgedLaws.{◌>>=◌, meets, first_leaf, first_node, first_both}
-use Rattle.vale_type_nodes.proofs.LoopLaws.{after_passes}
+use Rattle.vale_syntax.specs.Judged.{Judged, fine, faulty, Rules, first, both, scoped, plain, node, leaf, Gives}
 
-second : {A B C : Type 0} (r : Result B Fault) (a : A) (f : A × B → Result C Fault) → ((r >>= λ b. Ok (a, b)) >>= f) ≡ (r >>= λ b. f (a, b))
-second (Ok b) a f = refl
-second (Err e) a f = refl
+-- ---- nodes with a row, over one part to four
 
-third : {A B C D : Type 0} (r : Result C Fault) (a : A) (b : B) (f : A × (B × C) → Result D Fault) → (((r >>= λ x. Ok (b, x)) >>= λ y. Ok (a, y)) >>= f) ≡ (r >>= λ x. f (a, (b, x)))
-third (Ok x) a b f = refl
-third (Err e) a b f = refl
+pub record Node {A B : Type 0} (whole : Result B Fault) (at : Spot) (rules : A → Rules) (make : A → B) (j : Judged A) : Type 0 where
+  pub is : whole ≡ first (node at rules make j)
 
-module _ {A B C : Type 0} (at : Spot) (rules : A × B → Rules) (make : A × B → C) (j : Judged A) (k : Judged B) (a : A) where
-  pub second_left : first j ≡ Ok a → first (node at rules make (both j k)) ≡ (first k >>= λ b. meets at (broken (rules (a, b))) (make (a, b)))
-  second_left e = first_node at rules make (both j k) ∙ (rw (first_both j k, e) (second (first k) a (λ v. meets at (broken (rules v)) (make v))))
+pub record Node2 {A B C : Type 0} (whole : Result C Fault) (at : Spot) (rules : A × B → Rules) (make : A × B → C) (j : Judged A) (k : Judged B) : Type 0 where
+  pub is : whole ≡ first (node at rules make (both j k))
 
-  -- the second part has a fault
-  pub second_fails : {X Y : Type 0} (view : X → C) (seen : Y → B) (fail : Fail Fault) → first j ≡ Ok a → Gives seen (Err fail) (first k) → Gives view (Err fail) (first (node at rules make (both j k)))
-  second_fails view seen Memory e h = tt {0}
-  second_fails view seen (Is f) e h = second_left e ∙ (rw h refl)
+pub record Node3 {A B C D : Type 0} (whole : Result D Fault) (at : Spot) (rules : A × (B × C) → Rules) (make : A × (B × C) → D) (j : Judged A) (k : Judged B) (l : Judged C) : Type 0 where
+  pub is : whole ≡ first (node at rules make (both j (both k l)))
 
-  -- no part has one
-  pub second_ends : (b : B) → first j ≡ Ok a → first k ≡ Ok b → first (node at rules make (both j k)) ≡ first (leaf at (rules (a, b)) (make (a, b)))
-  second_ends b e h = second_left e ∙ (rw h (sym (first_leaf at (rules (a, b)) (make (a, b)))))
+pub record Node4 {A B C D E : Type 0} (whole : Result E Fault) (at : Spot) (rules : A × (B × (C × D)) → Rules) (make : A × (B × (C × D)) → E) (j : Judged A) (k : Judged B) (l : Judged C) (m : Judged D) : Type 0 where
+  pub is : whole ≡ first (node at rules make (both j (both k (both l m))))
 
-module _ {A B C : Type 0} (make : A × B → C) (j : Judged A) (k : A → Judged B) (a : A) where
-  -- the part that depends on the first has a fault
-  pub after_fails : {X Y : Type 0} (view : X → C) (seen : Y → B) (fail : Fail Fault) → first j ≡ Ok a → Gives seen (Err fail) (first (k a)) → Gives view (Err fail) (first (plain make (scoped j k)))
-  after_fails view seen Memory e h = tt {0}
-  after_fails view seen (Is f) e h = after_passes make j a k e ∙ (rw h refl)
+-- ---- nodes without one
 
-module _ {A B C D : Type 0} (at : Spot) (rules : A × (B × C) → Rules) (make : A × (B × C) → D) (j : Judged A) (k : Judged B) (l : Judged C) (a : A) (b : B) where
-  pub third_left : first j ≡ Ok a → first k ≡ Ok b → first (node at rules make (both j (both k l))) ≡ (first l >>= λ x. meets at (broken (rules (a, (b, x)))) (make (a, (b, x))))
-  third_left p q = first_node at rules make (both j (both k l)) ∙ (rw (first_both j (both k l), first_both k l, p, q) (third (first l) a b (λ v. meets at (broken (rules v)) (make v))))
+pub record Plain {A B : Type 0} (whole : Result B Fault) (make : A → B) (j : Judged A) : Type 0 where
+  pub is : whole ≡ first (plain make j)
 
-fourth : {A B C D E : Type 0} (r : Result D Fault) (a : A) (b : B) (x : C) (f : A × (B × (C × D)) → Result E Fault) → ((((r >>= λ y. Ok (x, y)) >>= λ z. Ok (b, z)) >>= λ z. Ok (a, z)) >>= f) ≡ (r >>= λ y. f (a, (b, (x, y))))
-fourth (Ok y) a b x f = refl
-fourth (Err e) a b x f = refl
+pub record Plain2 {A B C : Type 0} (whole : Result C Fault) (make : A × B → C) (j : Judged A) (k : Judged B) : Type 0 where
+  pub is : whole ≡ first (plain make (both j k))
 
-module _ {A B C D E : Type 0} (at : Spot) (rules : A × (B × (C × D)) → Rules) (make : A × (B × (C × D)) → E) (j : Judged A) (k : Judged B) (l : Judged C) (m : Judged D) (a : A) (b : B) (x : C) where
-  fourth_left : first j ≡ Ok a → first k ≡ Ok b → first l ≡ Ok x → first (node at rules make (both j (both k (both l m)))) ≡ (first m >>= λ y. meets at (broken (rules (a, (b, (x, y))))) (make (a, (b, (x, y)))))
-  fourth_left p q r = first_node at rules make (both j (both k (both l m))) ∙ (rw (first_both j (both k (both l m)), first_both k (both l m), first_both l m, p, q, r) (fourth (first m) a b x (λ v. meets at (broken (rules v)) (make v))))
+pub record Scoped {A B C : Type 0} (whole : Result C Fault) (make : A × B → C) (j : Judged A) (k : A → Judged B) : Type 0 where
+  pub is : whole ≡ first (plain make (scoped j k))
 
-  -- the fourth part has a fault
-  pub fourth_fails : {X Y : Type 0} (view : X → E) (seen : Y → D) (fail : Fail Fault) → first j ≡ Ok a → first k ≡ Ok b → first l ≡ Ok x → Gives seen (Err fail) (first m) → Gives view (Err fail) (first (node at rules make (both j (both k (both l m)))))
-  fourth_fails view seen Memory p q r h = tt {0}
-  fourth_fails view seen (Is f) p q r h = fourth_left p q r ∙ (rw h refl)
+-- ---- the laws of judged parts
 
-  -- no part has one
-  pub fourth_ends : (y : D) → first j ≡ Ok a → first k ≡ Ok b → first l ≡ Ok x → first m ≡ Ok y → first (node at rules make (both j (both k (both l m)))) ≡ first (leaf at (rules (a, (b, (x, y)))) (make (a, (b, (x, y)))))
-  fourth_ends y p q r h = fourth_left p q r ∙ (rw h (sym (first_leaf at (rules (a, (b, (x, y)))) (make (a, (b, (x, y)))))))
+fault_of_node : {A B : Type 0} (at : Spot) (rules : A → Rules) (make : A → B) (j : Judged A) (f : Fault) → first j ≡ Err f → first (node at rules make j) ≡ Err f
+fault_of_node at rules make (fine a) f h = cc
+fault_of_node at rules make (faulty g gs) f h = cc
+
+end_of_node : {A B : Type 0} (at : Spot) (rules : A → Rules) (make : A → B) (j : Judged A) (a : A) → first j ≡ Ok a → first (node at rules make j) ≡ first (leaf at (rules a) (make a))
+end_of_node at rules make (fine b) a h = let same : b ≡ a = cc in rw same refl
+end_of_node at rules make (faulty g gs) a h = cc
+
+fault_of_plain : {A B : Type 0} (make : A → B) (j : Judged A) (f : Fault) → first j ≡ Err f → first (plain make j) ≡ Err f
+fault_of_plain make (fine a) f h = cc
+fault_of_plain make (faulty g gs) f h = cc
+
+end_of_plain : {A B : Type 0} (make : A → B) (j : Judged A) (a : A) → first j ≡ Ok a → first (plain make j) ≡ Ok (make a)
+end_of_plain make (fine b) a h = cc
+end_of_plain make (faulty g gs) a h = cc
+
+fault_of_both : {A B : Type 0} (j : Judged A) (k : Judged B) (f : Fault) → first j ≡ Err f → first (both j k) ≡ Err f
+fault_of_both (fine a) k f h = cc
+fault_of_both (faulty g gs) k f h = cc
+
+fault_of_scoped : {A B : Type 0} (j : Judged A) (k : A → Judged B) (f : Fault) → first j ≡ Err f → first (scoped j k) ≡ Err f
+fault_of_scoped (fine a) k f h = cc
+fault_of_scoped (faulty g gs) k f h = cc
+
+rest_of_node : {A B C : Type 0} (at : Spot) (rules : A × B → Rules) (make : A × B → C) (j : Judged A) (k : Judged B) (a : A) → first j ≡ Ok a → first (node at rules make (both j k)) ≡ first (node at (λ b. rules (a, b)) (λ b. make (a, b)) k)
+rest_of_node at rules make (fine b) (fine c) a h = let same : b ≡ a = cc in rw same refl
+rest_of_node at rules make (fine b) (faulty g gs) a h = refl
+rest_of_node at rules make (faulty g gs) k a h = cc
+
+rest_of_plain : {A B C : Type 0} (make : A × B → C) (j : Judged A) (k : Judged B) (a : A) → first j ≡ Ok a → first (plain make (both j k)) ≡ first (plain (λ b. make (a, b)) k)
+rest_of_plain make (fine b) (fine c) a h = cc
+rest_of_plain make (fine b) (faulty g gs) a h = refl
+rest_of_plain make (faulty g gs) k a h = cc
+
+rest_of_scoped : {A B C : Type 0} (make : A × B → C) (j : Judged A) (k : A → Judged B) (a : A) → first j ≡ Ok a → first (plain make (scoped j k)) ≡ first (plain (λ b. make (a, b)) (k a))
+rest_of_scoped make (fine b) k a h = let same : b ≡ a = cc in rw same (rest_of_plain make (fine a) (k a) a refl)
+rest_of_scoped make (faulty g gs) k a h = cc
+
+-- ---- the first of the parts that are left
+
+module _ {A B : Type 0} {whole : Result B Fault} {at : Spot} {rules : A → Rules} {make : A → B} {j : Judged A} (n : Node whole at rules make j) where
+  pub fails : (f : Fault) → first j ≡ Err f → whole ≡ Err f
+  fails f h = n.is ∙ fault_of_node at rules make j f h
+
+  pub ends : (a : A) → first j ≡ Ok a → whole ≡ first (leaf at (rules a) (make a))
+  ends a h = n.is ∙ end_of_node at rules make j a h
+
+module _ {A B C : Type 0} {whole : Result C Fault} {at : Spot} {rules : A × B → Rules} {make : A × B → C} {j : Judged A} {k : Judged B} (n : Node2 whole at rules make j k) where
+  pub fails2 : (f : Fault) → first j ≡ Err f → whole ≡ Err f
+  fails2 f h = n.is ∙ fault_of_node at rules make (both j k) f (fault_of_both j k f h)
+
+  pub next2 : (a : A) → first j ≡ Ok a → Node whole at (λ b. rules (a, b)) (λ b. make (a, b)) k
+  next2 a h = record { is = n.is ∙ rest_of_node at rules make j k a h }
+
+module _ {A B C D : Type 0} {whole : Result D Fault} {at : Spot} {rules : A × (B × C) → Rules} {make : A × (B × C) → D} {j : Judged A} {k : Judged B} {l : Judged C} (n : Node3 whole at rules make j k l) where
+  pub fails3 : (f : Fault) → first j ≡ Err f → whole ≡ Err f
+  fails3 f h = n.is ∙ fault_of_node at rules make (both j (both k l)) f (fault_of_both j (both k l) f h)
+
+  pub next3 : (a : A) → first j ≡ Ok a → Node2 whole at (λ v. rules (a, v)) (λ v. make (a, v)) k l
+  next3 a h = record { is = n.is ∙ rest_of_node at rules make j (both k l) a h }
+
+module _ {A B C D E : Type 0} {whole : Result E Fault} {at : Spot} {rules : A × (B × (C × D)) → Rules} {make : A × (B × (C × D)) → E} {j : Judged A} {k : Judged B} {l : Judged C} {m : Judged D} (n : Node4 whole at rules make j k l m) where
+  pub fails4 : (f : Fault) → first j ≡ Err f → whole ≡ Err f
+  fails4 f h = n.is ∙ fault_of_node at rules make (both j (both k (both l m))) f (fault_of_both j (both k (both l m)) f h)
+
+  pub next4 : (a : A) → first j ≡ Ok a → Node3 whole at (λ v. rules (a, v)) (λ v. make (a, v)) k l m
+  next4 a h = record { is = n.is ∙ rest_of_node at rules make j (both k (both l m)) a h }
+
+module _ {A B : Type 0} {whole : Result B Fault} {make : A → B} {j : Judged A} (n : Plain whole make j) where
+  pub plain_fails : (f : Fault) → first j ≡ Err f → whole ≡ Err f
+  plain_fails f h = n.is ∙ fault_of_plain make j f h
+
+  pub plain_ends : (a : A) → first j ≡ Ok a → whole ≡ Ok (make a)
+  plain_ends a h = n.is ∙ end_of_plain make j a h
+
+module _ {A B C : Type 0} {whole : Result C Fault} {make : A × B → C} {j : Judged A} {k : Judged B} (n : Plain2 whole make j k) where
+  pub plain_fails2 : (f : Fault) → first j ≡ Err f → whole ≡ Err f
+  plain_fails2 f h = n.is ∙ fault_of_plain make (both j k) f (fault_of_both j k f h)
+
+  pub plain_next2 : (a : A) → first j ≡ Ok a → Plain whole (λ b. make (a, b)) k
+  plain_next2 a h = record { is = n.is ∙ rest_of_plain make j k a h }
+
+module _ {A B C : Type 0} {whole : Result C Fault} {make : A × B → C} {j : Judged A} {k : A → Judged B} (n : Scoped whole make j k) where
+  pub scoped_fails : (f : Fault) → first j ≡ Err f → whole ≡ Err f
+  scoped_fails f h = n.is ∙ fault_of_plain make (scoped j k) f (fault_of_scoped j k f h)
+
+  pub scoped_next : (a : A) → first j ≡ Ok a → Plain whole (λ b. make (a, b)) (k a)
+  scoped_next a h = record { is = n.is ∙ rest_of_scoped make j k a h }
+
+-- ---- what a call gives
+
+given : {X Y A B : Type 0} (view : X → B) (seen : Y → A) (fail : Fail Fault) (r : Result A Fault) (whole : Result B Fault) → ((f : Fault) → r ≡ Err f → whole ≡ Err f) → Gives seen (Err fail) r → Gives view (Err fail) whole
+given view seen Memory r whole same h = tt {0}
+given view seen (Is f) r whole same h = same f h
+
+-- the fault of a part is answered as that of the node
+pub at_fault : {X Y A B : Type 0} (view : X → B) (seen : Y → A) {fail : Fail Fault} {out : Result X (Fail Fault)} {r : Result A Fault} {whole : Result B Fault} → (e : Fail Fault) × (out ≡ Err e) × (e ≡ fail) → ((f : Fault) → r ≡ Err f → whole ≡ Err f) → Gives seen (Err fail) r → Gives view out whole
+at_fault view seen {fail} {out} {r} {whole} p same h = rw (p.1, p.2) (given view seen fail r whole same h)
+
+-- nothing is said of want of memory
+pub at_memory : {X B : Type 0} (view : X → B) {out : Result X (Fail Fault)} (whole : Result B Fault) → (e : Fail Fault) × (out ≡ Err e) × (e ≡ Memory) → Gives view out whole
+at_memory view whole p = rw (p.1, p.2) (tt {0})
+
+-- no part has one
+pub at_end : {X B : Type 0} (view : X → B) (out : Result X (Fail Fault)) {r whole : Result B Fault} → whole ≡ r → Gives view out r → Gives view out whole
+at_end view out e h = rw e h
