@@ -7,7 +7,6 @@ mod reading;
 mod refusal;
 mod whole;
 
-pub use judging::judge;
 pub use reading::read;
 pub use refusal::Refusal;
 pub use whole::front;
