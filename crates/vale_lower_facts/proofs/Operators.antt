@@ -21,7 +21,7 @@ use Rattle.vale_lowering.specs.Instructions.{only_if, link_code, unary_code}
 use Rattle.vale_lowering.specs.Lowered.{value_code}
 use Rattle.vale_lowering.specs.Scopes.{Around, code_type}
 use Rattle.vale_lower_facts.specs.Slots.{holds, Stand, scope_at, with_slot, given, behind, type_at}
-use Rattle.vale_lower_facts.specs.Returned.{expr_returns}
+use Rattle.vale_ownership.specs.Returned.{expr_returns}
 use Rattle.vale_lower_facts.specs.Marks.{Marks, mark, only_marks, marked, link_due, link_marks, value_due, value_marks}
 use Rattle.vale_lower_facts.specs.Suits.{unary_suits}
 use Rattle.vale_lower_facts.proofs.Stands.{Site, Below, below_slot, type_here, type_there, Says, says_same, says_then, says_slot, says_with, says_behind}

@@ -37,7 +37,7 @@ use Rattle.vale_lowering.specs.Scopes.{Around, code_type, head_result, result_ty
 use Rattle.vale_lowering.specs.Texts.{function_quotes, block_quotes}
 use Rattle.vale_lowering.proofs.Lookups.{found_function, found_text, in_front}
 use Rattle.vale_lower_facts.specs.Slots.{Stand, behind, type_at, or_last}
-use Rattle.vale_lower_facts.specs.Returned.{block_returns}
+use Rattle.vale_ownership.specs.Returned.{block_returns}
 use Rattle.vale_lower_facts.specs.Marks.{Marks, mark, block_due, block_marks, param_slots, entry_stand, value_type, last_of, function_marks, function_facts, facts_of_parts, lowered_facts}
 use Rattle.vale_lower_facts.specs.Suits.{function_suits, all_suit, PartsSuit, Suits}
 use Rattle.vale_lower_facts.proofs.Stands.{Site, Covers, covers_plain}

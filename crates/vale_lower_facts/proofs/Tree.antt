@@ -26,7 +26,7 @@ use Rattle.vale_syntax.specs.Bytes.{is_byte}
 use Rattle.vale_lowering.specs.Texts.{is_lawful_text, expr_quotes, node_quotes, exprs_quotes, links_quotes, form_quotes, elses_quotes, block_quotes, stmts_quotes, stmt_quotes}
 use Rattle.vale_lowering.proofs.Lookups.{found_text}
 use Rattle.vale_lower_facts.specs.Slots.{local, waits, holds, Stand, scope_at, with_slot, given, behind, type_at}
-use Rattle.vale_lower_facts.specs.Returned.{block_returns, stmts_return, stmt_returns, expr_returns, node_returns, form_returns, elses_return}
+use Rattle.vale_ownership.specs.Returned.{block_returns, stmts_return, stmt_returns, expr_returns, node_returns, form_returns, elses_return}
 use Rattle.vale_lower_facts.specs.Marks.{Marks, mark, marked, only_marks, with_args, counted, count_marks, link_due, links_due, form_due, expr_due, node_due, value_due, unused_due, args_due, stmt_due, stmts_due, block_due, expr_marks, value_marks, node_marks, args_marks, links_marks, form_marks, elses_marks, block_marks, stmts_marks, stmt_marks, unused_marks}
 use Rattle.vale_lower_facts.specs.Suits.{unary_suits, IsLocal, set_suits, expr_suits, node_suits, exprs_suit, links_suit, form_suits, elses_suit, block_suits, stmts_suit, stmt_suits}
 use Rattle.vale_lower_facts.proofs.Stands.{Site, Below, below_behind, type_here, Says, says_same, says_then, says_slot, says_again, says_with, says_behind, says_returns, says_both, says_given, says_ungiven, Within, within_same, within_behind, within_slot, says_within}

@@ -1,4 +1,3 @@
 pub mod Marks
-pub mod Returned
 pub mod Slots
 pub mod Suits

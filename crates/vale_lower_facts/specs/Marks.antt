@@ -19,7 +19,7 @@ use Rattle.vale_cert.specs.declared.facts.Label.{Label}
 use Rattle.vale_lowering.specs.Instructions.{unary_code}
 use Rattle.vale_lowering.specs.Scopes.{code_type, agree, Around, result_type}
 use Rattle.vale_lowering.specs.Lowered.{count, callee_code, set_code, store_code, around_of, names_in, lowered_function, functions_in, texts_in}
-use Rattle.vale_lower_facts.specs.Returned.{block_returns, stmt_returns, expr_returns}
+use Rattle.vale_ownership.specs.Returned.{block_returns, stmt_returns, expr_returns}
 use Rattle.vale_lower_facts.specs.Slots.{Slots, local, waits, holds, Stand, scope_at, with_slot, given, behind, Last, label_for}
 
 -- what each instruction of some code is marked with

@@ -15,7 +15,7 @@ use Rattle.vale_model.specs.Parts.{Parts, parts_of, first_function, has_name, ha
 use Rattle.vale_lowering.specs.Lowered.{functions_in}
 use Rattle.vale_lowering.specs.Scopes.{result_type}
 use Rattle.vale_lowering.specs.Texts.{is_lawful_text}
-use Rattle.vale_lower_facts.specs.Returned.{block_returns}
+use Rattle.vale_ownership.specs.Returned.{block_returns}
 
 -- a name is that of a local of this type
 pub record IsLocal (env : Env) (n : NameAt) (ty : Ty) : Type 0 where

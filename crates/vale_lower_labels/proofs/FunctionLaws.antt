@@ -17,7 +17,7 @@ use Rattle.vale_lowering.specs.Lowered.{lowered_function, around_of, names_in}
 use Rattle.vale_lowering.specs.Scopes.{result_type, code_type}
 use Rattle.vale_lower_facts.specs.Slots as s
 use Rattle.vale_lower_facts.specs.Marks.{Marks, mark, value_type, param_slots, labels_from, last_of, entry_stand, function_marks, function_facts, block_due}
-use Rattle.vale_lower_facts.specs.Returned.{block_returns}
+use Rattle.vale_ownership.specs.Returned.{block_returns}
 use Rattle.vale_lower_labels.specs.declared.labels.Labels.{Labels}
 use Rattle.vale_lower_labels.specs.Bodies.{body_marks, plain_of}
 use Rattle.vale_lower_labels.specs.Progress.{Progress, progress, with_marks}

@@ -11,7 +11,7 @@ use Rattle.vale_syntax.specs.Typed as t
 use Rattle.vale_syntax.specs.View.{listed}
 use Rattle.vale_core.specs.View.{view_ty, view_seen, view_expr, view_node, view_form, view_stmt, view_block, view_else_if, elses_of, else_end, stmts_of, last_end}
 use Rattle.vale_core.proofs.ViewLaws as v
-use Rattle.vale_lower_facts.specs.Returned.{block_returns, stmts_return, stmt_returns, expr_returns, node_returns, form_returns, elses_return}
+use Rattle.vale_ownership.specs.Returned.{block_returns, stmts_return, stmt_returns, expr_returns, node_returns, form_returns, elses_return}
 use Rattle.vale_lower_labels.specs.Sides.{else_if_returns, each_returns}
 use Rattle.vale_lower_labels.proofs.SlotLaws.{of_out_expr}
 

@@ -17,7 +17,7 @@ use Rattle.vale_core.proofs.ViewLaws as v
 use Rattle.vale_lowering.specs.Scopes.{Around}
 use Rattle.vale_syntax.specs.Types as y
 use Rattle.vale_lower_facts.specs.Slots.{Stand, with_slot, local, holds, given, behind, scope_at}
-use Rattle.vale_lower_facts.specs.Returned.{block_returns, stmt_returns, expr_returns}
+use Rattle.vale_ownership.specs.Returned.{block_returns, stmt_returns, expr_returns}
 use Rattle.vale_lower_facts.specs.Marks.{Marks, mark, expr_marks, value_marks, node_marks, args_marks, links_marks, form_marks, elses_marks, block_marks, stmts_marks, stmt_marks, unused_marks, only_marks, link_marks, expr_due, value_due, node_due, links_due, link_due, form_due, block_due, stmts_due, stmt_due, unused_due}
 use Rattle.vale_lower_labels.specs.Going.{one_link_marks, link_op, store_marks, turns_marks, return_marks}
 use Rattle.vale_lower_labels.specs.Progress.{Progress, with_marks}

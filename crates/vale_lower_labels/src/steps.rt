@@ -7,7 +7,7 @@ ghost use Rattle.std.specs.Prelude.{ℕ};
 ghost use Rattle.vale_lowering.specs.Instructions.{unary_code};
 ghost use Rattle.vale_lowering.specs.Lowered.{set_code};
 ghost use Rattle.vale_lower_facts.specs.Marks.{mark, marked};
-ghost use Rattle.vale_lower_facts.specs.Returned.{block_returns};
+ghost use Rattle.vale_ownership.specs.Returned.{block_returns};
 ghost use Rattle.vale_lower_facts.specs.Slots.{scope_at, with_slot, holds, given, behind};
 ghost use Rattle.vale_lower_labels.specs.Progress.{progress, with_marks};
 ghost use Rattle.vale_lower_labels.specs.Shapes.{is_set, sets_local};

@@ -7,7 +7,7 @@ ghost use Rattle.vale_lower_labels.specs.Progress.{progress, with_marks};
 ghost use Rattle.vale_lower_labels.specs.Standing.{stand, framed, slots_of, plain};
 ghost use Rattle.vale_lower_labels.specs.Sides.{side_marks, sides_marks, sides_due};
 ghost use Rattle.vale_lower_labels.specs.Going.{one_link_marks, link_op, next_marks, next_due, next_slots, next_register, goes_on, store_marks, turns_marks, return_marks};
-ghost use Rattle.vale_lower_facts.specs.Returned.{stmt_returns};
+ghost use Rattle.vale_ownership.specs.Returned.{stmt_returns};
 
 use crate::frame::Frame;
 use crate::labels::{Labels, above};

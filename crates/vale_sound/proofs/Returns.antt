@@ -8,7 +8,7 @@ use Rattle.vale_syntax.specs.Typed as t
 use Rattle.vale_syntax.specs.TypeRules.{branch_rules, void_rules, return_nothing_rules, return_value_rules}
 use Rattle.vale_syntax.specs.Returns.{block_returns, stmts_return, stmt_returns, expr_returns, form_returns, elses_return, else_if_returns}
 use Rattle.vale_syntax.specs.Typing.{Env, after, form_spot, expr, in_form, in_else_if, elses, in_block, void_block, stmts, stmt}
-use Rattle.vale_lower_facts.specs.Returned as r
+use Rattle.vale_ownership.specs.Returned as r
 use Rattle.vale_sound.proofs.Fine.{of_leaf, of_node, of_plain, of_both, of_scoped}
 use Rattle.vale_sound.proofs.Fits.{impossible}
 
