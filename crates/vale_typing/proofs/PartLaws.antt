@@ -21,28 +21,6 @@ use Rattle.vale_syntax.specs.View.{listed}
 use Rattle.vale_syntax.proofs.JudgedLaws.{◌>>=◌, meets, first_node, first_plain}
 use Rattle.vale_type_rules.proofs.ReturnLaws.{of_out_block, of_out_else_if}
 
--- the type of a block is that of its end
-pub type_of_end : (ss : List t.Stmt) (end : t.Stmts) → stmts_type (listed t.more_stmts ss end) ≡ stmts_type end
-type_of_end [] end = refl
-type_of_end (s ∷ ss) end = type_of_end ss end
-
-pub of_typed_else_if : (x : typed.ElseIf) → view_else_if x ≡ t.else_if (typed.out-ElseIf x).at (view_expr (typed.out-ElseIf x).condition) (view_block (typed.out-ElseIf x).block)
-of_typed_else_if x = search (rules, typed_form.the_lemmas)
-
--- what is after `else` has no condition
-pub no_conditions : (o : Option t.Block) → condition_types (else_end o) ≡ []
-no_conditions None = refl
-no_conditions (Some b) = refl
-
--- whether there is an `else` is said at the end
-pub else_at_end : (es : List t.ElseIf) (o : Option t.Block) → has_else (elses_of es o) ≡ has_else (else_end o)
-else_at_end [] o = refl
-else_at_end (x ∷ es) o = else_at_end es o
-
-pub ruleset conditions = (of_typed_else_if, no_conditions)
-
-pub ruleset blocks = (of_typed_else_if)
-
 pub of_block_spot : (b : Block) → block_spot (v.view_block b) ≡ (out-Block b).at
 of_block_spot b = ap block_spot (of_out_block b)
 

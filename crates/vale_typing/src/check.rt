@@ -24,6 +24,7 @@ use std::alloc::Global;
 use vale_base::{Fail, Name, Spot};
 use vale_core as typed;
 use vale_core::{Seen, Ty};
+use vale_held::Held;
 use vale_syntax::{Block, ElseIf, Expr, Fault, Form, Link, NameAt, Step, Stmt};
 use vale_type_rules::{Local, Scope, Table, deeper, index_view, name_in, seen_of};
 
@@ -37,7 +38,7 @@ fn type_expr(
     depth: u32,
     scope: &Scope,
     as_value: bool,
-) -> Result<typed::Expr, Fail<Fault>>
+) -> Result<Held<typed::Expr>, Fail<Fault>>
     ensures { Gives c.view_expr result (first (d.expr (names_of table.now) (items_of table.now) (env_at (view_ty gives.now) depth (locals scope.now)) as_value (view_expr expr.now))) }
 {
     match expr {
@@ -48,7 +49,7 @@ fn type_expr(
         }
         Expr::Chain(first, links) => {
             let first = type_expr(alloc, table, first.get(), gives, depth, scope, true)?;
-            let links = type_links(alloc, table, links, gives, depth, scope, &first)?;
+            let links = type_links(alloc, table, links, gives, depth, scope, first.get())?;
             nodes::chain(alloc, first, links)
         }
         Expr::Unary(at, op, operand) => {
@@ -60,7 +61,15 @@ fn type_expr(
             let first = type_expr(alloc, table, base.get(), gives, depth, scope, false)?;
             let base = base.get();
             let steps = type_steps(
-                alloc, table, steps, gives, depth, scope, as_value, base, &first,
+                alloc,
+                table,
+                steps,
+                gives,
+                depth,
+                scope,
+                as_value,
+                base,
+                first.get(),
             )?;
             nodes::steps(alloc, first, steps)
         }
@@ -105,7 +114,8 @@ fn type_exprs(
 {
     let mut done = Items::new(alloc);
     for expr in exprs {
-        done.push(type_expr(alloc, table, expr, gives, depth, scope, true)?)?;
+        let expr = type_expr(alloc, table, expr, gives, depth, scope, true)?;
+        done.push(expr.into_inner())?;
     }
     Ok(done)
 }
@@ -120,7 +130,7 @@ fn type_link(
     depth: u32,
     scope: &Scope,
     before: &Seen,
-) -> Result<typed::Link, Fail<Fault>>
+) -> Result<Held<typed::Link>, Fail<Fault>>
     ensures { Gives c.view_link result (first (d.operand (names_of table.now) (items_of table.now) (env_at (view_ty gives.now) depth (locals scope.now)) (view_seen before.now) (view_link link.now))) }
 {
     let operand = type_expr(alloc, table, &link.operand, gives, depth, scope, true)?;
@@ -143,7 +153,7 @@ fn type_links(
     let mut so_far = LinksSoFar::new(alloc, seen_of(before))?;
     let links = links.as_slice();
     for link in links {
-        let link = type_link(alloc, table, link, gives, depth, scope, &so_far.before)?;
+        let link = type_link(alloc, table, link, gives, depth, scope, so_far.before.get())?;
         so_far.push(alloc, link)?;
     }
     Ok(so_far.done)
@@ -161,7 +171,7 @@ fn type_step(
     as_value: bool,
     local: Option<Name>,
     base: &Seen,
-) -> Result<typed::Step, Fail<Fault>>
+) -> Result<Held<typed::Step>, Fail<Fault>>
     ensures { Gives c.view_step result (first (d.step (names_of table.now) (items_of table.now) (env_at (view_ty gives.now) depth (locals scope.now)) as_value (number_of local) (view_seen base.now) (view_step step.now))) }
 {
     match step {
@@ -171,7 +181,7 @@ fn type_step(
             nodes::method(alloc, table, base, *at, *name, args)
         }
         Step::Index(at, index) => {
-            let view = index_view(alloc, local, &base.view, index)?;
+            let view = Held::new(index_view(alloc, local, &base.view, index)?);
             let index = type_expr(alloc, table, index, gives, depth, scope, true)?;
             nodes::index(alloc, as_value, base, view, *at, index)
         }
@@ -199,7 +209,7 @@ fn type_steps(
         let is_used = is_used(as_value, steps, index);
         let step = &steps[index];
         let local = so_far.local;
-        let base = &so_far.base;
+        let base = so_far.base.get();
         let step = type_step(
             alloc, table, step, gives, depth, scope, is_used, local, base,
         )?;
@@ -217,7 +227,7 @@ fn type_form(
     gives: &Ty,
     depth: u32,
     scope: &Scope,
-) -> Result<Valued, Fail<Fault>>
+) -> Result<Held<Valued>, Fail<Fault>>
     ensures { Gives view_valued result (first (d.in_form (names_of table.now) (items_of table.now) (env_at (view_ty gives.now) depth (locals scope.now)) (view_form form.now))) }
 {
     match form {
@@ -244,8 +254,8 @@ fn type_form(
             new_name(scope, *name)?;
             let over = type_expr(alloc, table, over, gives, depth, scope, true)?;
             let over = nodes::consumed(*at, over)?;
-            let ty = element_of(alloc, &over)?;
             let depth = deeper(depth)?;
+            let ty = element_of(alloc, over.get())?;
             let block = type_loop(alloc, table, block, gives, depth, scope, *name, ty)?;
             nodes::parallel_each(alloc, table, *at, *name, over, block)
         }
@@ -263,7 +273,7 @@ fn type_loop(
     scope: &Scope,
     name: NameAt,
     ty: Ty,
-) -> Result<typed::Block, Fail<Fault>>
+) -> Result<Held<typed::Block>, Fail<Fault>>
     ensures { Gives c.view_block result (first (d.in_block (names_of table.now) (items_of table.now) (with_local name (view_ty ty) (env_at (view_ty gives.now) depth (locals scope.now))) (view_block block.now))) }
 {
     let local = [Local {
@@ -284,7 +294,7 @@ fn type_else_if(
     gives: &Ty,
     depth: u32,
     scope: &Scope,
-) -> Result<typed::ElseIf, Fail<Fault>>
+) -> Result<Held<typed::ElseIf>, Fail<Fault>>
     ensures { Gives c.view_else_if result (first (d.in_else_if (names_of table.now) (items_of table.now) (env_at (view_ty gives.now) depth (locals scope.now)) (view_else_if else_if.now))) }
 {
     let condition = type_expr(alloc, table, &else_if.condition, gives, depth, scope, true)?;
@@ -306,7 +316,8 @@ fn type_else_ifs(
 {
     let mut done = Items::new(alloc);
     for else_if in else_ifs {
-        done.push(type_else_if(alloc, table, else_if, gives, depth, scope)?)?;
+        let else_if = type_else_if(alloc, table, else_if, gives, depth, scope)?;
+        done.push(else_if.into_inner())?;
     }
     Ok(done)
 }
@@ -320,12 +331,15 @@ fn type_else(
     gives: &Ty,
     depth: u32,
     scope: &Scope,
-) -> Result<Option<typed::Block>, Fail<Fault>>
+) -> Result<Held<Option<typed::Block>>, Fail<Fault>>
     ensures { Gives view_else result (first (d.elses (names_of table.now) (items_of table.now) (env_at (view_ty gives.now) depth (locals scope.now)) (else_end (option_map view_block last.now)))) }
 {
     match last {
-        Some(block) => Ok(Some(type_block(alloc, table, block, gives, depth, scope)?)),
-        None => Ok(None),
+        Some(block) => {
+            let block = type_block(alloc, table, block, gives, depth, scope)?;
+            Ok(Held::new(Some(block.into_inner())))
+        }
+        None => Ok(Held::new(None)),
     }
 }
 
@@ -338,7 +352,7 @@ fn type_block(
     gives: &Ty,
     depth: u32,
     scope: &Scope,
-) -> Result<typed::Block, Fail<Fault>>
+) -> Result<Held<typed::Block>, Fail<Fault>>
     ensures { Gives c.view_block result (first (d.in_block (names_of table.now) (items_of table.now) (env_at (view_ty gives.now) depth (locals scope.now)) (view_block block.now))) }
 {
     let inside = type_stmts(alloc, table, block, gives, depth, scope)?;
@@ -355,7 +369,7 @@ pub fn type_void_block(
     gives: &Ty,
     depth: u32,
     scope: &Scope,
-) -> Result<typed::Block, Fail<Fault>>
+) -> Result<Held<typed::Block>, Fail<Fault>>
     ensures { Gives c.view_block result (first (d.void_block (names_of table.now) (items_of table.now) (env_at (view_ty gives.now) depth (locals scope.now)) (view_block block.now))) }
 {
     let body = type_block(alloc, table, block, gives, depth, scope)?;
@@ -374,7 +388,7 @@ fn type_void_loop(
     scope: &Scope,
     name: NameAt,
     ty: Ty,
-) -> Result<typed::Block, Fail<Fault>>
+) -> Result<Held<typed::Block>, Fail<Fault>>
     ensures { Gives c.view_block result (first (d.void_block (names_of table.now) (items_of table.now) (with_local name (view_ty ty) (env_at (view_ty gives.now) depth (locals scope.now))) (view_block block.now))) }
 {
     let body = type_loop(alloc, table, block, gives, depth, scope, name, ty)?;
@@ -423,7 +437,7 @@ fn type_last(
     match last {
         Some(value) => {
             let value = type_expr(alloc, table, value.get(), gives, depth, scope, true)?;
-            Ok(Some(Boxed::new(alloc, value)?))
+            Ok(Some(Boxed::new(alloc, value.into_inner())?))
         }
         None => Ok(None),
     }
@@ -438,7 +452,7 @@ fn type_stmt(
     gives: &Ty,
     depth: u32,
     scope: &Scope,
-) -> Result<typed::Stmt, Fail<Fault>>
+) -> Result<Held<typed::Stmt>, Fail<Fault>>
     ensures { Gives c.view_stmt result (first (d.stmt (names_of table.now) (items_of table.now) (env_at (view_ty gives.now) depth (locals scope.now)) (view_stmt stmt.now))) }
 {
     match stmt {
@@ -485,7 +499,7 @@ fn type_destructure(
     scope: &Scope,
     at: Spot,
     names: &[NameAt],
-) -> Result<typed::Stmt, Fail<Fault>>
+) -> Result<Held<typed::Stmt>, Fail<Fault>>
     ensures { Gives c.view_stmt result (first (d.stmt (names_of table.now) (items_of table.now) (env_at (view_ty gives.now) depth (locals scope.now)) (e.destructure at names.now (view_expr value.now)))) }
 {
     let names = new_names(alloc, depth, scope, names)?;
@@ -503,7 +517,7 @@ fn type_return(
     depth: u32,
     scope: &Scope,
     at: Spot,
-) -> Result<typed::Stmt, Fail<Fault>>
+) -> Result<Held<typed::Stmt>, Fail<Fault>>
     ensures { Gives c.view_stmt result (first (d.stmt (names_of table.now) (items_of table.now) (env_at (view_ty gives.now) depth (locals scope.now)) (return_of at (option_map view_expr value.now)))) }
 {
     match value {

@@ -16,17 +16,16 @@ use std::alloc::Global;
 use vale_base::{Fail, Memory};
 use vale_core::{Expr, Stmt, Ty};
 use vale_syntax::{Fault, NameAt, Step, UnaryOp};
-use vale_type_rules::{Local, Scope, is_visible, type_in};
+use vale_type_faults::new_name_fault;
+use vale_type_rules::{Local, Scope, type_in};
 
 /// Whether the name is a new one.
+#[tactic(auto, using(vale_syntax::proofs::JudgedLaws::first_leaf))]
 pub fn new_name(scope: &Scope, name: NameAt) -> Result<(), Fail<Fault>>
     ensures { Gives (λ u. name) result (first (leaf name.at (new_name_rules name (locals scope.now)) name)) }
 {
-    if is_visible(scope, name) {
-        return Err(Fail::Is(Fault {
-            code: 27,
-            at: name.at,
-        }));
+    if let Some(code) = new_name_fault(scope, name) {
+        return Err(Fail::Is(Fault { code, at: name.at }));
     }
     Ok(())
 }

@@ -12,12 +12,13 @@ use sqlite_items::Items;
 use std::alloc::Global;
 use vale_base::{Memory, Name};
 use vale_core::{Link, Seen, Step, Stmt};
+use vale_held::Held;
 use vale_type_rules::{Local, copy_seen, link_seen, step_seen};
 
 /// Operators with their operands, and what is known of what stands before the next.
 #[derive(Drop)]
 pub struct LinksSoFar {
-    pub before: Seen,
+    pub before: Held<Seen>,
     pub done: Items<Link>,
 }
 
@@ -26,17 +27,17 @@ impl LinksSoFar {
         ensures before { IfOk result (λ s. s.before ≡ start.now) }
         ensures done { IfOk result (λ s. s.done ≡ []) }
     {
-        let before = copy_seen(alloc, start)?;
+        let before = Held::new(copy_seen(alloc, start)?);
         let done = Items::new(alloc);
         Ok(LinksSoFar { before, done })
     }
 
-    pub fn push(&mut self, alloc: Global, link: Link) -> Result<(), Memory>
+    pub fn push(&mut self, alloc: Global, link: Held<Link>) -> Result<(), Memory>
         ensures before { OnOk result (view_seen self.new.before ≡ link_seen (view_link link)) }
         ensures done { OnOk result (self.new.done ≡ self.old.done ++ link ∷ []) }
     {
-        self.before = copy_seen(alloc, link_seen(&link))?;
-        Ok(self.done.push(link)?)
+        self.before = Held::new(copy_seen(alloc, link_seen(link.get()))?);
+        Ok(self.done.push(link.into_inner())?)
     }
 }
 
@@ -44,7 +45,7 @@ impl LinksSoFar {
 #[derive(Drop)]
 pub struct StepsSoFar {
     pub local: Option<Name>,
-    pub base: Seen,
+    pub base: Held<Seen>,
     pub done: Items<Step>,
 }
 
@@ -54,19 +55,19 @@ impl StepsSoFar {
         ensures base { IfOk result (λ s. s.base ≡ start.now) }
         ensures done { IfOk result (λ s. s.done ≡ []) }
     {
-        let base = copy_seen(alloc, start)?;
+        let base = Held::new(copy_seen(alloc, start)?);
         let done = Items::new(alloc);
         Ok(StepsSoFar { local, base, done })
     }
 
-    pub fn push(&mut self, alloc: Global, step: Step) -> Result<(), Memory>
+    pub fn push(&mut self, alloc: Global, step: Held<Step>) -> Result<(), Memory>
         ensures local { OnOk result (self.new.local ≡ None) }
         ensures base { OnOk result (view_seen self.new.base ≡ step_seen (view_step step)) }
         ensures done { OnOk result (self.new.done ≡ self.old.done ++ step ∷ []) }
     {
         self.local = None;
-        self.base = copy_seen(alloc, step_seen(&step))?;
-        Ok(self.done.push(step)?)
+        self.base = Held::new(copy_seen(alloc, step_seen(step.get()))?);
+        Ok(self.done.push(step.into_inner())?)
     }
 }
 
@@ -89,11 +90,11 @@ impl StmtsSoFar {
     }
 
     /// One more, at this depth.
-    pub fn push(&mut self, alloc: Global, depth: u32, stmt: Stmt) -> Result<(), Memory>
+    pub fn push(&mut self, alloc: Global, depth: u32, stmt: Held<Stmt>) -> Result<(), Memory>
         ensures locals { OnOk result ((gives : y.Ty) (outer : List y.Local) → after (view_stmt stmt) (env_at gives depth (framed self.old.locals.items outer)) ≡ env_at gives depth (framed self.new.locals.items outer)) }
         ensures done { OnOk result (self.new.done ≡ self.old.done ++ stmt ∷ []) }
     {
-        declare_all(alloc, depth, &mut self.locals, &stmt)?;
-        Ok(self.done.push(stmt)?)
+        declare_all(alloc, depth, &mut self.locals, stmt.get())?;
+        Ok(self.done.push(stmt.into_inner())?)
     }
 }

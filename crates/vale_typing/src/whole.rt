@@ -22,7 +22,9 @@ use sqlite_items::Items;
 use std::alloc::Global;
 use vale_base::{Fail, Memory};
 use vale_core::{Block as TypedBlock, Core, Function as TypedFunction, Item as TypedItem};
+use vale_held::Held;
 use vale_syntax::{Decls, Fault, Function, Head, Item, Param, Tree};
+use vale_type_faults::function_fault;
 use vale_type_rules::{Local, Scope, Table, block_returns, result_of, type_of};
 
 /// The locals that the parameters of a function are.
@@ -42,37 +44,37 @@ fn params_in(alloc: Global, params: &[Param]) -> Result<Vec<Local>, Memory>
 }
 
 /// A function over its body, which always returns or doesn't.
+#[tactic(auto, using(vale_syntax::proofs::JudgedLaws::first_leaf))]
 fn function_over(
     alloc: Global,
     head: &Head,
     returns: bool,
-    body: TypedBlock,
-) -> Result<TypedFunction, Fail<Fault>>
+    body: Held<TypedBlock>,
+) -> Result<Held<TypedFunction>, Fail<Fault>>
     ensures { Gives c.view_function result (first (leaf (head_name (view_head head.now)).at (function_rules (head_gives (view_head head.now)) returns) (t.function_body (view_head head.now) (c.view_block body)))) }
 {
-    let gives = result_of(alloc, &head.result)?;
-    if !gives.is_void() && !returns {
-        return Err(Fail::Is(Fault {
-            code: 26,
-            at: head.name.at,
-        }));
+    let gives = Held::new(result_of(alloc, &head.result)?);
+    if let Some(code) = function_fault(gives.get(), returns) {
+        let at = head.name.at;
+        return Err(Fail::Is(Fault { code, at }));
     }
     let head = copy_head(alloc, head)?;
-    Ok(TypedFunction { head, body })
+    let body = body.into_inner();
+    Ok(Held::new(TypedFunction { head, body }))
 }
 
 fn type_function(
     alloc: Global,
     table: &Table,
     function: &Function,
-) -> Result<TypedFunction, Fail<Fault>>
+) -> Result<Held<TypedFunction>, Fail<Fault>>
     ensures { Gives c.view_function result (first (in_function (names_of table.now) (items_of table.now) (view_function function.now))) }
 {
-    let gives = result_of(alloc, &function.head.result)?;
+    let gives = Held::new(result_of(alloc, &function.head.result)?);
     let locals = params_in(alloc, function.head.params.as_slice())?;
     let outside = Scope::Outside;
     let scope = Scope::Frame(&locals, &outside);
-    let body = type_void_block(alloc, table, &function.body, &gives, 0, &scope)?;
+    let body = type_void_block(alloc, table, &function.body, gives.get(), 0, &scope)?;
     let returns = block_returns(&function.body);
     function_over(alloc, &function.head, returns, body)
 }
@@ -86,27 +88,31 @@ fn type_functions(
 {
     let mut done = Items::new(alloc);
     for function in functions {
-        done.push(type_function(alloc, table, function)?)?;
+        let function = type_function(alloc, table, function)?;
+        done.push(function.into_inner())?;
     }
     Ok(done)
 }
 
-fn type_item(alloc: Global, table: &Table, item: &Item) -> Result<TypedItem, Fail<Fault>>
+fn type_item(alloc: Global, table: &Table, item: &Item) -> Result<Held<TypedItem>, Fail<Fault>>
     ensures { Gives c.view_item result (first (in_item (names_of table.now) (items_of table.now) (view_item item.now))) }
 {
     match item {
         Item::Struct(name, fields) => {
-            Ok(TypedItem::Struct(*name, copy_fields(alloc, fields.as_slice())?))
+            let fields = copy_fields(alloc, fields.as_slice())?;
+            Ok(Held::new(TypedItem::Struct(*name, fields)))
         }
         Item::Interface(name, heads) => {
-            Ok(TypedItem::Interface(*name, copy_heads(alloc, heads.as_slice())?))
+            let heads = copy_heads(alloc, heads.as_slice())?;
+            Ok(Held::new(TypedItem::Interface(*name, heads)))
         }
         Item::Impl(at, interface, of, functions) => {
             let functions = type_functions(alloc, table, functions.as_slice())?;
-            Ok(TypedItem::Impl(*at, *interface, *of, functions))
+            Ok(Held::new(TypedItem::Impl(*at, *interface, *of, functions)))
         }
         Item::Function(function) => {
-            Ok(TypedItem::Function(type_function(alloc, table, function)?))
+            let function = type_function(alloc, table, function)?;
+            Ok(Held::new(TypedItem::Function(function.into_inner())))
         }
     }
 }
@@ -116,7 +122,8 @@ fn type_items(alloc: Global, table: &Table, items: &[Item]) -> Result<Items<Type
 {
     let mut done = Items::new(alloc);
     for item in items {
-        done.push(type_item(alloc, table, item)?)?;
+        let item = type_item(alloc, table, item)?;
+        done.push(item.into_inner())?;
     }
     Ok(done)
 }

@@ -14,9 +14,11 @@ ghost use Rattle.vale_type_rules.specs.Table.{items_of};
 use std::alloc::Global;
 use vale_base::{Fail, Spot};
 use vale_core::{Expr, Ty};
+use vale_held::Held;
 use vale_syntax::{Fault, NameAt};
+use vale_type_faults::{set_fault, set_gives};
 use vale_type_rules::{
-    Scope, Table, a_value, fits, is_movable, local_of, local_seen, may_be_set, seen_of, type_in,
+    Scope, Table, a_value, is_movable, local_of, local_seen, may_be_set, seen_of, type_in,
 };
 
 /// The name of a local.
@@ -27,7 +29,7 @@ pub fn name(
     scope: &Scope,
     as_value: bool,
     name: NameAt,
-) -> Result<Expr, Fail<Fault>>
+) -> Result<Held<Expr>, Fail<Fault>>
     ensures { Gives view_expr result (first (leaf name.at (name_rules name (locals scope.now)) (named (record { gives = view_ty gives.now; depth = depth; scope = locals scope.now }) as_value name (y.local_of name.name.0 (locals scope.now))))) }
 {
     match local_of(scope, name.name) {
@@ -37,32 +39,29 @@ pub fn name(
         })),
         Some(local) => {
             let seen = local_seen(alloc, depth, local)?;
-            Ok(Expr::name(seen, name, as_value && is_movable(depth, local)))
+            let is_moved = as_value && is_movable(depth, local);
+            Ok(Held::new(Expr::name(seen, name, is_moved)))
         }
     }
 }
 
 /// `set p = e`.
+#[tactic(auto, using(vale_syntax::proofs::JudgedLaws::first_leaf))]
 pub fn set(
     alloc: Global,
     table: &Table,
     at: Spot,
-    place: Expr,
-    value: Expr,
-) -> Result<Expr, Fail<Fault>>
+    place: Held<Expr>,
+    value: Held<Expr>,
+) -> Result<Held<Expr>, Fail<Fault>>
     ensures { Gives view_expr result (first (leaf at (set_rules (items_of table.now) (may_be_set (view_expr place)) (seen (view_expr place)).place (type (view_expr value))) (t.expr (a_value (set_gives (seen (view_expr place)).place)) (t.set at (view_expr place) (view_expr value))))) }
 {
-    let seen = match &seen_of(&place).place {
-        None => return Err(Fail::Is(Fault { code: 23, at })),
-        Some(ty) => {
-            if !fits(table, type_in(&value), ty) {
-                return Err(Fail::Is(Fault { code: 20, at }));
-            }
-            if !may_be_set(&place) {
-                return Err(Fail::Is(Fault { code: 24, at }));
-            }
-            a_value(alloc, ty.copy(alloc)?)?
-        }
-    };
-    Ok(Expr::set(alloc, seen, at, place, value)?)
+    let known = &seen_of(place.get()).place;
+    if let Some(code) = set_fault(table, may_be_set(place.get()), known, type_in(value.get())) {
+        return Err(Fail::Is(Fault { code, at }));
+    }
+    let ty = set_gives(alloc, known)?;
+    let seen = a_value(alloc, ty)?;
+    let set = Expr::set(alloc, seen, at, place.into_inner(), value.into_inner())?;
+    Ok(Held::new(set))
 }

@@ -57,7 +57,7 @@ type_expr-returns-in_err-links-in-Chain m c =
     rw (p.1, p.2, c.in-Chain.is, of_chain c.in-Chain.first c.in-Chain.links)
     (after_fails (λ v. t.expr (chain_seen (seen v.0) v.1) (t.chain v.0 v.1))
     (d.expr names items env true (view_expr c.in-Chain.first)) (λ a. d.links names items env (seen a) (links_of (map view_link c.in-Chain.links))) (core.view_expr c.in_ok-first-in-Chain.first)
-    core.view_expr view_links c.in_err-links-in-Chain.field-0.0 (rw c.get-in-Chain.ensures at c.in_ok-first-in-Chain.ensures) c.in_err-links-in-Chain.ensures)
+    core.view_expr view_links c.in_err-links-in-Chain.field-0.0 (rw c.get-in-Chain.ensures at c.in_ok-first-in-Chain.ensures) (rw c.get-in-Chain-2.ensures at c.in_err-links-in-Chain.ensures))
 
 pub type_expr-returns-in_err-steps-in-Steps : goal.type_expr-returns-in_err-steps-in-Steps
 type_expr-returns-in_err-steps-in-Steps m c =
@@ -68,7 +68,7 @@ type_expr-returns-in_err-steps-in-Steps m c =
     rw (p.1, p.2, c.in-Steps.is, of_steps c.in-Steps.base c.in-Steps.steps)
     (after_fails (λ v. t.expr (steps_seen (seen v.0) v.1) (t.steps v.0 v.1))
     (d.expr names items env false (view_expr c.in-Steps.base)) (λ a. d.steps_from names items env c.args.as_value (name_in (view_expr c.in-Steps.base)) (seen a) (steps_of (map view_step c.in-Steps.steps))) (core.view_expr c.in_ok-first-in-Steps.first)
-    core.view_expr view_steps c.in_err-steps-in-Steps.field-0.0 (rw c.get-in-Steps.ensures at c.in_ok-first-in-Steps.ensures) (rw c.get-base.ensures at c.in_err-steps-in-Steps.ensures))
+    core.view_expr view_steps c.in_err-steps-in-Steps.field-0.0 (rw c.get-in-Steps.ensures at c.in_ok-first-in-Steps.ensures) (rw (c.get-base.ensures, c.get-in-Steps-2.ensures) at c.in_err-steps-in-Steps.ensures))
 
 -- ---- lists, with one part more
 
@@ -80,11 +80,11 @@ type_exprs-loop-expr-preserved m c =
     let all = c.args.exprs.now in
     let i = c.loop-expr.expr-index in
     let x = c.expr-item.result in
-    let z = c.in_ok-type_expr.field-0 in
+    let z = c.in_ok-expr.expr in
     let rest : List Expr → Result t.Exprs Fault = λ xs. first (d.exprs names items env (exprs_of (map view_expr xs))) in
-    rw c.in_ok-push.ensures.ok
+    rw (c.in_ok-push.ensures.ok, c.into_inner.ensures)
     (seen_passes t.more_exprs core.view_expr c.loop-expr.done all i x x (rest all) rest (rest (drop (i + 1) all)) z c.loop-expr-test.true c.expr-item.is
-    (pair_passes (λ v. t.more_exprs v.0 v.1) (d.expr names items env true (view_expr x)) (core.view_expr z) (d.exprs names items env (exprs_of (map view_expr (drop (i + 1) all)))) c.in_ok-type_expr.ensures)
+    (pair_passes (λ v. t.more_exprs v.0 v.1) (d.expr names items env true (view_expr x)) (core.view_expr z) (d.exprs names items env (exprs_of (map view_expr (drop (i + 1) all)))) c.in_ok-expr.ensures)
     c.loop-expr.invariant)
 
 pub type_links-loop-link-preserved : goal.type_links-loop-link-preserved
@@ -102,7 +102,7 @@ type_links-loop-link-preserved m c =
     let left : Seen → Result t.Links Fault = λ s. first (d.links names items env s (links_of (map view_link (drop (i + 1) all)))) in
     rw c.in_ok-push.ensures.done
     (seen_passes t.more_links core.view_link c.loop-link.so_far.done all i x x whole rest (left (view_seen c.push.new.self.before)) z c.loop-link-test.true c.link-item.is
-    (after_passes (λ v. t.more_links v.0 v.1) (d.operand names items env here (view_link x)) (core.view_link z) (λ a. d.links names items env (link_seen a) (links_of (map view_link (drop (i + 1) all)))) c.in_ok-link.ensures
+    (after_passes (λ v. t.more_links v.0 v.1) (d.operand names items env here (view_link x)) (core.view_link z) (λ a. d.links names items env (link_seen a) (links_of (map view_link (drop (i + 1) all)))) (rw c.get.ensures at c.in_ok-link.ensures)
     ∙ ap (λ (s : Seen). left s >>= λ b. Ok (t.more_links (core.view_link z) b)) (sym c.in_ok-push.ensures.before))
     c.loop-link.invariant)
 
@@ -125,7 +125,7 @@ type_steps-loop-index-preserved m c =
     let used = is_used as_value (steps_of (map view_step (drop (i + 1) all))) in
     rw c.in_ok-push.ensures.done
     (seen_passes t.more_steps core.view_step c.loop-index.so_far.done all i x x whole rest (left (number_of new.local) (view_seen new.base)) z c.loop-index-test.true c.index-steps-index.is
-    (after_passes (λ v. t.more_steps v.0 v.1) (d.step names items env used local base (view_step x)) (core.view_step z) (λ a. d.steps_from names items env as_value None (step_seen a) (steps_of (map view_step (drop (i + 1) all)))) (rw c.is_used-is_used.ensures at c.in_ok-step.ensures)
+    (after_passes (λ v. t.more_steps v.0 v.1) (d.step names items env used local base (view_step x)) (core.view_step z) (λ a. d.steps_from names items env as_value None (step_seen a) (steps_of (map view_step (drop (i + 1) all)))) (rw (c.is_used-is_used.ensures, c.get-base.ensures) at c.in_ok-step.ensures)
     ∙ ap (λ (s : Seen). left None s >>= λ b. Ok (t.more_steps (core.view_step z) b)) (sym c.in_ok-push.ensures.base)
     ∙ ap (λ (l : Option Name). left (number_of l) (view_seen new.base) >>= λ b. Ok (t.more_steps (core.view_step z) b)) (sym c.in_ok-push.ensures.local))
     c.loop-index.invariant)
@@ -138,11 +138,11 @@ type_else_ifs-loop-else_if-preserved m c =
     let all = c.args.else_ifs.now in
     let i = c.loop-else_if.else_if-index in
     let x = c.else_if-item.result in
-    let z = c.in_ok-type_else_if.field-0 in
+    let z = c.in_ok-else_if.else_if in
     let rest : List ElseIf → Result t.Elses Fault = λ xs. first (d.elses names items env (elses_of (map view_else_if xs) None)) in
-    rw c.in_ok-push.ensures.ok
+    rw (c.in_ok-push.ensures.ok, c.into_inner.ensures)
     (seen_passes t.more_elses core.view_else_if c.loop-else_if.done all i x x (rest all) rest (rest (drop (i + 1) all)) z c.loop-else_if-test.true c.else_if-item.is
-    (pair_passes (λ v. t.more_elses v.0 v.1) (d.in_else_if names items env (view_else_if x)) (core.view_else_if z) (d.elses names items env (elses_of (map view_else_if (drop (i + 1) all)) None)) c.in_ok-type_else_if.ensures)
+    (pair_passes (λ v. t.more_elses v.0 v.1) (d.in_else_if names items env (view_else_if x)) (core.view_else_if z) (d.elses names items env (elses_of (map view_else_if (drop (i + 1) all)) None)) c.in_ok-else_if.ensures)
     c.loop-else_if.invariant)
 
 pub type_stmts-loop-stmt-preserved : goal.type_stmts-loop-stmt-preserved

@@ -18,11 +18,11 @@ loop-function-preserved c =
     let all = c.args.functions.now in
     let i = c.loop-function.function-index in
     let x = c.function-item.result in
-    let z = c.in_ok-type_function.field-0 in
+    let z = c.in_ok-function.function in
     let rest : List Function → Result (List t.Function) Fault = λ xs. first (in_functions names items (map view_function xs)) in
-    rw c.in_ok-push.ensures.ok
+    rw (c.in_ok-push.ensures.ok, c.into_inner.ensures)
     (seen_passes ◌∷◌ core.view_function c.loop-function.done all i x x (rest all) rest (rest (drop (i + 1) all)) z c.loop-function-test.true c.function-item.is
-    (pair_passes (λ v. v.0 ∷ v.1) (in_function names items (view_function x)) (core.view_function z) (in_functions names items (map view_function (drop (i + 1) all))) c.in_ok-type_function.ensures)
+    (pair_passes (λ v. v.0 ∷ v.1) (in_function names items (view_function x)) (core.view_function z) (in_functions names items (map view_function (drop (i + 1) all))) c.in_ok-function.ensures)
     c.loop-function.invariant)
 
 pub returns : goal.returns

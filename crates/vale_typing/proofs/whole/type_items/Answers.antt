@@ -18,11 +18,11 @@ loop-item-preserved c =
     let all = c.args.items.now in
     let i = c.loop-item.item-index in
     let x = c.item-item.result in
-    let z = c.in_ok-type_item.field-0 in
+    let z = c.in_ok-item.item in
     let rest : List Item → Result (List t.Item) Fault = λ xs. first (in_items names items (map view_item xs)) in
-    rw c.in_ok-push.ensures.ok
+    rw (c.in_ok-push.ensures.ok, c.into_inner.ensures)
     (seen_passes ◌∷◌ core.view_item c.loop-item.done all i x x (rest all) rest (rest (drop (i + 1) all)) z c.loop-item-test.true c.item-item.is
-    (pair_passes (λ v. v.0 ∷ v.1) (in_item names items (view_item x)) (core.view_item z) (in_items names items (map view_item (drop (i + 1) all))) c.in_ok-type_item.ensures)
+    (pair_passes (λ v. v.0 ∷ v.1) (in_item names items (view_item x)) (core.view_item z) (in_items names items (map view_item (drop (i + 1) all))) c.in_ok-item.ensures)
     c.loop-item.invariant)
 
 pub returns : goal.returns

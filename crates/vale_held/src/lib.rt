@@ -1,0 +1,6 @@
+//! Values that are held while others are made.
+#![tactic(auto)]
+
+mod held;
+
+pub use held::Held;

@@ -1,7 +1,0 @@
-use Rattle.std.proofs.Common.{map}
-use Rattle.vale_syntax.specs.View.{view_head}
-use Rattle.vale_typing.proofs.nodes.chained.method_fault.Goals as goal
-
-pub returns-in_ok-code-in-Some-method_seen : goal.returns-in_ok-code-in-Some-method_seen
-returns-in_ok-code-in-Some-method_seen c =
-    rw (← c.in-Some-method_seen.ensures, ← c.in-Some.ensures) (c.in_ok-code-in-Some-method_seen.ensures (map view_head c.in-Some._methods.now))
