@@ -1,9 +1,6 @@
 -- What is known of a block, of an `if` and of an operator, by their parts.
-use Rattle.std.proofs.Common.{◌≡◌, ℕ, List, [], ◌∷◌, refl, ap, ◌∙◌, rules}
-use Rattle.std.specs.Prelude.{Option, None, Some, Ok, map, option_map, true}
-use Rattle.vale_core.specs.declared.tree.ElseIf as typed
-use Rattle.vale_core.specs.declared.tree.Form as typed_form
-use Rattle.vale_core.specs.View.{view_expr, view_block, view_else_if, elses_of, else_end}
+use Rattle.std.proofs.Common.{◌≡◌, ℕ, List, ap, ◌∙◌, rules}
+use Rattle.std.specs.Prelude.{Ok, map, option_map, true}
 use Rattle.vale_syntax.specs.declared.tree.Block.{Block, out-Block}
 use Rattle.vale_syntax.specs.declared.tree.ElseIf.{ElseIf, out-ElseIf}
 use Rattle.vale_syntax.specs.declared.tree.Link.{Link, out-Link}
