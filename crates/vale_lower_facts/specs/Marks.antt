@@ -2,7 +2,7 @@
 --
 -- A part of the code doesn't label the place behind it, where another part may end too. It says whether that place is due a label,
 -- and the instruction that stands there is marked with what is known where its own part begins, which is never more. So one walk
--- emits code and labels: whether a label is due is handed on, and the next instruction is put down together with its label.
+-- gives all labels in order: whether one is due is handed on to the next instruction.
 use Rattle.std.specs.Prelude.{ℕ, ◌+◌, Bool, true, false, ◌&&◌, List, [], ◌∷◌, ◌++◌, length, map, Option, Some, None, if◌then◌else◌}
 use Rattle.vale_syntax.specs.declared.tree.BinaryOp.{BinaryOp}
 use Rattle.vale_syntax.specs.declared.tree.BinaryOp.TheVariants as op
