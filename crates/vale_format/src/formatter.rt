@@ -6,7 +6,7 @@ ghost use Rattle.vale_syntax.specs.Cut.{cut};
 ghost use Rattle.vale_syntax.specs.Grammar.{spells};
 ghost use Rattle.vale_syntax.specs.Round.{IsReadBack};
 ghost use Rattle.vale_syntax.specs.Tree as t;
-ghost use Rattle.vale_parser.specs.ItemReading.{all_of};
+ghost use Rattle.vale_reading.specs.ItemReading.{all_of};
 ghost use Rattle.vale_parser.specs.Refusal.{IsRefusal};
 ghost use Rattle.vale_format.specs.Format.{IsFormatOf, IsFixed};
 ghost use Rattle.vale_format.specs.Named.{IsNamed};

@@ -3,7 +3,7 @@ use Rattle.std.specs.Prelude.{ℕ, ◌≡◌, ◌≤◌, ◌<◌, true, false, L
 use Rattle.vale_base.specs.Limits.{program_limit}
 use Rattle.vale_base.specs.declared.spot.Spot.{Spot}
 use Rattle.vale_front.specs.Missing.{missing_in}
-use Rattle.vale_parser.specs.ItemReading.{all_of}
+use Rattle.vale_reading.specs.ItemReading.{all_of}
 use Rattle.vale_parser.specs.Refusal.{IsRefusal}
 use Rattle.vale_syntax.specs.Cut.{start, cut, LexFaultAt}
 use Rattle.vale_syntax.specs.DeclFaults.{declared}

@@ -14,9 +14,9 @@ use Rattle.vale_syntax.specs.declared.tree.UnaryOp.{UnaryOp}
 use Rattle.vale_syntax.specs.Tree.{TypeExpr, int_type, bool_type, str_type, named_type, array_type, ref_type, imm_ref_type, iso_type, Expr, set, chain, unary, steps, number, quote, truth, name, call, paren, array, iso, form, Exprs, no_exprs, more_exprs, Link, link, Links, no_links, more_links, Step, field, method, index, Steps, no_steps, more_steps, Form, branch, pure, parallel_range, parallel_each, ElseIf, else_if, Elses, more_elses, Block, block}
 use Rattle.vale_syntax.specs.Grammar.{Part, token, one, sign, word, ◌▸◌, deeper, primary, postfix, operand, comparison, whole, rank, binary_kind, unary_kind, truth_kind, HasLinks, HasSteps, named, IsType, IsExpr, AreArgs, AreMoreArgs, IsLink, AreLinks, IsStep, AreSteps, IsForm, IsElseIf, AreElses, IsBlock, AreStmts}
 use Rattle.vale_syntax.specs.View.{else_end}
-use Rattle.vale_parser.specs.declared.stop.Turn.TheVariants.{More, End}
-use Rattle.vale_parser.specs.Steps.{Read, Reader, begins, begins_word, turns_at, enough, faulty}
-use Rattle.vale_parser.specs.Reading.{binary_op, height, of_height, link_op, chained, stepped, Inner, inside, ref_type_at, array_type_at, iso_type_at, type_at, block_at, else_turn, elses_at, branch_at, bound_at, parallel_at, pure_at, form_at, arguments_at, called_at, paren_at, array_at, iso_at, primary_at, member_at, index_at, step_by, step_turn, steps_at, postfix_at, unary_at, link_turn, no_more, links_at, level_at, set_at, whole_at, args_at}
+use Rattle.vale_reading.specs.declared.stop.Turn.TheVariants.{More, End}
+use Rattle.vale_reading.specs.Steps.{Read, Reader, begins, begins_word, turns_at, enough, faulty}
+use Rattle.vale_reading.specs.Reading.{binary_op, height, of_height, link_op, chained, stepped, Inner, inside, ref_type_at, array_type_at, iso_type_at, type_at, block_at, else_turn, elses_at, branch_at, bound_at, parallel_at, pure_at, form_at, arguments_at, called_at, paren_at, array_at, iso_at, primary_at, member_at, index_at, step_by, step_turn, steps_at, postfix_at, unary_at, link_turn, no_more, links_at, level_at, set_at, whole_at, args_at}
 use Rattle.vale_parser.proofs.StepLaws.{sign_again, word_again, name_again}
 use Rattle.vale_parser.proofs.Shorter.{shorter, shorter_link, shorter_step, shorter_else_if}
 use Rattle.vale_parser.proofs.Firsts.{sticks, Above, Stops, NoParen, NoElse, Apart, Before, Any, Apart-stops, Stops-less, Stops-sign, binary_again, sticks_binary, unary_again, starts_no_close, chain_rank, first, type_no_imm, block_stops, block_no_if, block_no_dots}

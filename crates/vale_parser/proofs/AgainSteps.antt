@@ -9,10 +9,10 @@ use Rattle.vale_syntax.specs.declared.token.Word.{Word}
 use Rattle.vale_syntax.specs.Tree.{Expr, Exprs, no_exprs, more_exprs, Link, Links, no_links, more_links, Step, Steps, no_steps, more_steps, ElseIf, Elses, no_else, otherwise, more_elses, Block, Stmt, Stmts, no_stmts, last, more_stmts}
 use Rattle.vale_syntax.specs.Grammar.{Part, one, sign, ◌▸◌}
 use Rattle.vale_syntax.specs.View.{listed, else_end, last_end}
-use Rattle.vale_parser.specs.declared.stop.Turn.{Turn}
-use Rattle.vale_parser.specs.declared.stop.Turn.TheVariants.{More, End}
-use Rattle.vale_parser.specs.Steps.{Reader, is_sign, begins, begins_word, turns_at, enough, faulty}
-use Rattle.vale_parser.specs.Reading.{comma_turn, commas_at}
+use Rattle.vale_reading.specs.declared.stop.Turn.{Turn}
+use Rattle.vale_reading.specs.declared.stop.Turn.TheVariants.{More, End}
+use Rattle.vale_reading.specs.Steps.{Reader, is_sign, begins, begins_word, turns_at, enough, faulty}
+use Rattle.vale_reading.specs.Reading.{comma_turn, commas_at}
 use Rattle.vale_parser.proofs.StepLaws.{sign_itself, word_itself, sign_again}
 use Rattle.vale_parser.proofs.Firsts.{Before}
 

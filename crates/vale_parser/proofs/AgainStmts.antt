@@ -10,10 +10,10 @@ use Rattle.vale_syntax.specs.declared.tree.NameAt.{NameAt}
 use Rattle.vale_syntax.specs.Tree.{Expr, form, Form, branch, pure, parallel_range, parallel_each, Block, Stmt, declare, destructure, return_nothing, return_value, while, foreach, form_stmt, express, Stmts, more_stmts}
 use Rattle.vale_syntax.specs.Grammar.{token, one, sign, ◌▸◌, each, with_commas, deeper, whole, begins_form, IsOfForm, alone, ends_stmt, goes_on, named, IsExpr, IsForm, AreStmts, IsStmt}
 use Rattle.vale_syntax.specs.View.{last_end}
-use Rattle.vale_parser.specs.declared.stop.Turn.{Turn}
-use Rattle.vale_parser.specs.declared.stop.Turn.TheVariants.{More, End}
-use Rattle.vale_parser.specs.Steps.{Read, is_sign, begins, name_at, enough, faulty}
-use Rattle.vale_parser.specs.Reading.{Inner, is_name, after_bracket, form_end, after_form, after_plain, plain_at, declare_at, names_at, destructure_at, return_at, while_at, foreach_at, form_stmt_at, named_by, stmt_by, stmt_turn, stmts_at, within}
+use Rattle.vale_reading.specs.declared.stop.Turn.{Turn}
+use Rattle.vale_reading.specs.declared.stop.Turn.TheVariants.{More, End}
+use Rattle.vale_reading.specs.Steps.{Read, is_sign, begins, name_at, enough, faulty}
+use Rattle.vale_reading.specs.Reading.{Inner, is_name, after_bracket, form_end, after_form, after_plain, plain_at, declare_at, names_at, destructure_at, return_at, while_at, foreach_at, form_stmt_at, named_by, stmt_by, stmt_turn, stmts_at, within}
 use Rattle.vale_parser.proofs.StepLaws.{sign_again, word_again, name_again}
 use Rattle.vale_parser.proofs.Shorter.{goes_on_same, shorter_name, shorter_stmt}
 use Rattle.vale_parser.proofs.Firsts.{differs, heads, nil_not, Stops, NoElse, Before, Apart-stops, Stops-sign, starts, starts_no_semicolon, first, name_alone, bracket_plain, block_stops, stmts_no_else}

@@ -1,10 +1,10 @@
 -- What the reader's answer means.
-use Rattle.std.proofs.Common.{◌≡◌, List, Result, Ok, Err, sym, ◌∙◌}
+use Rattle.std.proofs.Common.{◌≡◌, List, Ok, Err, sym, ◌∙◌}
 use Rattle.vale_syntax.specs.declared.token.Token.{Token}
 use Rattle.vale_syntax.specs.Tree.{Tree}
 use Rattle.vale_syntax.specs.Grammar.{spells}
-use Rattle.vale_parser.specs.Steps.{Fault}
-use Rattle.vale_parser.specs.ItemReading.{all_of}
+use Rattle.vale_reading.specs.Steps.{Fault}
+use Rattle.vale_reading.specs.ItemReading.{all_of}
 use Rattle.vale_parser.proofs.StepLaws.{ok_is}
 use Rattle.vale_parser.proofs.ItemTakes.{all_takes}
 use Rattle.vale_parser.proofs.ItemAgain.{all_again, none_left}

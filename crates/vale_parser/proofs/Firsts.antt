@@ -14,8 +14,8 @@ use Rattle.vale_syntax.specs.declared.tree.UnaryOp.{UnaryOp}
 use Rattle.vale_syntax.specs.declared.tree.UnaryOp.TheVariants as u
 use Rattle.vale_syntax.specs.Tree.{TypeExpr, int_type, bool_type, str_type, named_type, array_type, ref_type, imm_ref_type, iso_type, Expr, set, chain, unary, steps, number, quote, truth, name, call, paren, array, iso, form, link, Links, no_links, more_links, field, method, index, Steps, no_steps, more_steps, Form, branch, pure, parallel_range, parallel_each, Block, block, Stmt, declare, destructure, return_nothing, return_value, while, foreach, form_stmt, express, Stmts, no_stmts, last, more_stmts}
 use Rattle.vale_syntax.specs.Grammar.{token, one, sign, ◌▸◌, primary, operand, whole, rank, binary_kind, unary_kind, truth_kind, HasLinks, HasSteps, named, IsType, IsExpr, AreLinks, AreSteps, IsForm, IsBlock, AreStmts, IsStmt}
-use Rattle.vale_parser.specs.Steps.{is_sign, is_word, begins, begins_word}
-use Rattle.vale_parser.specs.Reading.{binary_op, unary_op, is_name, after_bracket}
+use Rattle.vale_reading.specs.Steps.{is_sign, is_word, begins, begins_word}
+use Rattle.vale_reading.specs.Reading.{binary_op, unary_op, is_name, after_bracket}
 use Rattle.vale_parser.proofs.Shorter.{at_level, of_alone}
 
 -- ---- lists of tokens

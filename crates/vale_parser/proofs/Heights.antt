@@ -2,11 +2,11 @@
 use Rattle.std.proofs.Common.{◌≡◌, ◌<◌, ◌-◌, ℕ, zero, suc, List, Option, Ok, refl, subst, arith}
 use Rattle.vale_syntax.specs.declared.token.Token.{Token}
 use Rattle.vale_syntax.specs.Tree.{Expr, Links, no_links, more_links}
-use Rattle.vale_parser.specs.declared.stop.Stop.{Stop}
-use Rattle.vale_parser.specs.declared.stop.Stop.TheVariants as stop
-use Rattle.vale_parser.specs.Steps.{Read, ◌>>=◌, turns_at}
-use Rattle.vale_parser.specs.Reading.{Inner, chained, link_turn, no_more, most_links, links_at, level_at}
-use Rattle.vale_parser.specs.Gives.{Fails}
+use Rattle.vale_reading.specs.declared.stop.Stop.{Stop}
+use Rattle.vale_reading.specs.declared.stop.Stop.TheVariants as stop
+use Rattle.vale_reading.specs.Steps.{Read, ◌>>=◌, turns_at}
+use Rattle.vale_reading.specs.Reading.{Inner, chained, link_turn, no_more, most_links, links_at, level_at}
+use Rattle.vale_reading.specs.Gives.{Fails}
 
 module _ (names : List (List ℕ)) (o : Option Inner) (ts mid : List Token) (e : Expr) where
   -- the operators of height h between operands of height n

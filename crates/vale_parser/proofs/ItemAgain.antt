@@ -11,10 +11,10 @@ use Rattle.vale_syntax.specs.declared.token.Word.TheVariants as w
 use Rattle.vale_syntax.specs.declared.tree.NameAt.{NameAt}
 use Rattle.vale_syntax.specs.Tree.{TypeExpr, Param, param, Head, head, Block, block, Function, function, FieldDecl, field_decl, Item, struct_item, interface_item, impl_item, function_item, Tree, tree}
 use Rattle.vale_syntax.specs.Grammar.{Part, token, sign, word, ◌▸◌, when, optional, each, with_commas, deeper, names_in, IsType, IsBlock, IsParam, IsHead, IsFunction, IsField, IsItem, spells}
-use Rattle.vale_parser.specs.declared.stop.Turn.TheVariants.{More, End}
-use Rattle.vale_parser.specs.Steps.{Fault, Read, Reader, is_sign, begins, begins_word, enough, faulty}
-use Rattle.vale_parser.specs.Reading.{type_at, block_at, within}
-use Rattle.vale_parser.specs.ItemReading.{lower, ended, until, all_until, braced, purity_at, bang_at, param_at, params_at, result_at, head_at, signature_at, function_at, field_at, struct_at, interface_at, impl_at, function_item_at, item_at, items_at, read_items, tree_of, all_of}
+use Rattle.vale_reading.specs.declared.stop.Turn.TheVariants.{More, End}
+use Rattle.vale_reading.specs.Steps.{Fault, Read, Reader, is_sign, begins, begins_word, enough, faulty}
+use Rattle.vale_reading.specs.Reading.{type_at, block_at, within}
+use Rattle.vale_reading.specs.ItemReading.{lower, ended, until, all_until, braced, purity_at, bang_at, param_at, params_at, result_at, head_at, signature_at, function_at, field_at, struct_at, interface_at, impl_at, function_item_at, item_at, items_at, read_items, tree_of, all_of}
 use Rattle.vale_parser.proofs.StepLaws.{ok_is, sign_again, word_again, name_again}
 use Rattle.vale_parser.proofs.Shorter.{at_level, shorter_name, shorter_type, shorter_block, shorter_each}
 use Rattle.vale_parser.proofs.Firsts.{Before, starts_type, first_type}

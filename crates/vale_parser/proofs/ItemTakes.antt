@@ -8,11 +8,11 @@ use Rattle.vale_syntax.specs.declared.token.Sign.TheVariants as s
 use Rattle.vale_syntax.specs.declared.token.Word.TheVariants as w
 use Rattle.vale_syntax.specs.Tree.{TypeExpr, param, head, function, field_decl, Item, struct_item, interface_item, impl_item, function_item, Tree, tree}
 use Rattle.vale_syntax.specs.Grammar.{Part, sign, word, ◌▸◌, when, optional, each, with_commas, deeper, names_in, IsType, IsParam, IsHead, IsFunction, IsField, IsItem, spells}
-use Rattle.vale_parser.specs.declared.stop.Turn.{Turn}
-use Rattle.vale_parser.specs.declared.stop.Turn.TheVariants.{More, End}
-use Rattle.vale_parser.specs.Steps.{Read, Reader, begins, begins_word, enough, faulty}
-use Rattle.vale_parser.specs.Reading.{within}
-use Rattle.vale_parser.specs.ItemReading.{lower, ended, until_by, until, all_until, braced, flag_word, purity_at, flag_sign, bang_at, param_at, params_at, result_by, result_at, head_at, signature_at, function_at, field_at, struct_at, interface_at, impl_at, function_item_at, item_by, item_at, items_at, read_items, tree_of, all_of}
+use Rattle.vale_reading.specs.declared.stop.Turn.{Turn}
+use Rattle.vale_reading.specs.declared.stop.Turn.TheVariants.{More, End}
+use Rattle.vale_reading.specs.Steps.{Read, Reader, begins, begins_word, enough, faulty}
+use Rattle.vale_reading.specs.Reading.{within}
+use Rattle.vale_reading.specs.ItemReading.{lower, ended, until_by, until, all_until, braced, flag_word, purity_at, flag_sign, bang_at, param_at, params_at, result_by, result_at, head_at, signature_at, function_at, field_at, struct_at, interface_at, impl_at, function_item_at, item_by, item_at, items_at, read_items, tree_of, all_of}
 use Rattle.vale_parser.proofs.StepLaws.{given, returned, sign_takes, word_takes, name_takes, front, Takes, by_turn, turns_takes, faulty_takes, commas_take}
 use Rattle.vale_parser.proofs.Takes.{type_takes, block_takes, within_sound}
 

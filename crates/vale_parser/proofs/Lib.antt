@@ -7,10 +7,6 @@ pub mod Again
 pub mod AgainStmts
 pub mod ItemTakes
 pub mod ItemAgain
-pub mod Levels
-pub mod Built
-pub mod Loops
-pub mod Numbered
 pub mod Answered
 pub mod Heights
 pub mod MoreLevels

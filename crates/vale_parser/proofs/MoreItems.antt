@@ -9,10 +9,10 @@ use Rattle.vale_syntax.specs.declared.token.Sign.TheVariants as s
 use Rattle.vale_syntax.specs.declared.token.Word.TheVariants as w
 use Rattle.vale_syntax.specs.Tree.{param, head, function, field_decl, Item, struct_item, interface_item, impl_item, function_item, Tree}
 use Rattle.vale_syntax.specs.Grammar.{names_in}
-use Rattle.vale_parser.specs.declared.stop.Turn.TheVariants.{More, End}
-use Rattle.vale_parser.specs.Steps.{Fault, too_deep, Read, Reader, begins, begins_word, enough, faulty}
-use Rattle.vale_parser.specs.Reading.{within}
-use Rattle.vale_parser.specs.ItemReading.{lower, ended, until_by, until, all_until, braced, flag_word, purity_at, flag_sign, bang_at, param_at, params_at, result_by, result_at, head_at, signature_at, function_at, field_at, struct_at, interface_at, impl_at, function_item_at, item_by, item_at, items_at, read_items, tree_of, read_at, all_of}
+use Rattle.vale_reading.specs.declared.stop.Turn.TheVariants.{More, End}
+use Rattle.vale_reading.specs.Steps.{Fault, too_deep, Read, Reader, begins, begins_word, enough, faulty}
+use Rattle.vale_reading.specs.Reading.{within}
+use Rattle.vale_reading.specs.ItemReading.{lower, ended, until_by, until, all_until, braced, flag_word, purity_at, flag_sign, bang_at, param_at, params_at, result_by, result_at, head_at, signature_at, function_at, field_at, struct_at, interface_at, impl_at, function_item_at, item_by, item_at, items_at, read_items, tree_of, read_at, all_of}
 use Rattle.vale_parser.specs.TooMany.{GetsPast}
 use Rattle.vale_parser.proofs.MoreLevels.{Follows, Grows, shorter, done, refused, step, sign_opens, sign_then, word_then, name_then, turns_grow}
 use Rattle.vale_parser.proofs.MoreReads.{Two, Differs, none_left, more_left, levels_of, commas_grow, type_grows, block_grows}

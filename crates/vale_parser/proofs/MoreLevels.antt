@@ -8,9 +8,9 @@ use Rattle.vale_syntax.specs.declared.token.Sign.{Sign}
 use Rattle.vale_syntax.specs.declared.token.Word.{Word}
 use Rattle.vale_syntax.specs.declared.tree.NameAt.{NameAt}
 use Rattle.vale_syntax.specs.Grammar.{number_of}
-use Rattle.vale_parser.specs.declared.stop.Turn.{Turn}
-use Rattle.vale_parser.specs.declared.stop.Turn.TheVariants.{More, End}
-use Rattle.vale_parser.specs.Steps.{Fault, unexpected, too_deep, Read, Reader, ◌>>=◌, is_sign, is_word, sign_at, word_at, numbered, name_of, name_at, with_front, turn_then, turns_at}
+use Rattle.vale_reading.specs.declared.stop.Turn.{Turn}
+use Rattle.vale_reading.specs.declared.stop.Turn.TheVariants.{More, End}
+use Rattle.vale_reading.specs.Steps.{Fault, unexpected, too_deep, Read, Reader, ◌>>=◌, is_sign, is_word, sign_at, word_at, numbered, name_of, name_at, with_front, turn_then, turns_at}
 use Rattle.vale_parser.specs.TooMany.{from}
 
 -- at most so many tokens are after what was read, or from the fault on

@@ -12,9 +12,9 @@ use Rattle.vale_syntax.specs.declared.tree.BinaryOp.{BinaryOp}
 use Rattle.vale_syntax.specs.declared.tree.UnaryOp.{UnaryOp}
 use Rattle.vale_syntax.specs.Tree.{int_type, bool_type, str_type, named_type, array_type, ref_type, imm_ref_type, iso_type, Expr, set, unary, number, quote, truth, name, call, paren, array, iso, form, no_exprs, more_exprs, link, no_links, more_links, field, method, index, no_steps, more_steps, Form, branch, pure, else_if, more_elses, block, declare, destructure, return_nothing, return_value, while, foreach, form_stmt, express, more_stmts}
 use Rattle.vale_syntax.specs.View.{else_end, last_end}
-use Rattle.vale_parser.specs.declared.stop.Turn.TheVariants.{More, End}
-use Rattle.vale_parser.specs.Steps.{Read, Reader, too_deep, begins, begins_word, name_at, enough, faulty}
-use Rattle.vale_parser.specs.Reading.{comma_turn, others_at, commas_at, link_op, unary_op, chained, stepped, Inner, inside, after_bracket, parallel, form_end, after_form, plain_end, after_plain, ref_by, ref_type_at, array_type_at, iso_type_at, type_by, type_at, block_at, else_by, else_turn_by, else_turn, elses_at, branch_at, bound_by, bound_at, parallel_at, pure_at, form_by, form_at, arguments_at, called_by, called_at, paren_at, array_at, iso_at, primary_by, primary_at, member_by, member_at, index_at, step_by, step_turn, steps_at, postfix_at, unary_by, unary_at, link_by, link_turn, no_more, most_links, links_at, level_at, set_at, whole_by, whole_at, args_at, plain_at, declare_at, names_at, destructure_at, return_by, return_at, while_at, foreach_at, form_stmt_at, named_by, bracket_by, stmt_by, stmt_turn, stmts_at, inner_of, within}
+use Rattle.vale_reading.specs.declared.stop.Turn.TheVariants.{More, End}
+use Rattle.vale_reading.specs.Steps.{Read, Reader, too_deep, begins, begins_word, name_at, enough, faulty}
+use Rattle.vale_reading.specs.Reading.{comma_turn, others_at, commas_at, link_op, unary_op, chained, stepped, Inner, inside, after_bracket, parallel, form_end, after_form, plain_end, after_plain, ref_by, ref_type_at, array_type_at, iso_type_at, type_by, type_at, block_at, else_by, else_turn_by, else_turn, elses_at, branch_at, bound_by, bound_at, parallel_at, pure_at, form_by, form_at, arguments_at, called_by, called_at, paren_at, array_at, iso_at, primary_by, primary_at, member_by, member_at, index_at, step_by, step_turn, steps_at, postfix_at, unary_by, unary_at, link_by, link_turn, no_more, most_links, links_at, level_at, set_at, whole_by, whole_at, args_at, plain_at, declare_at, names_at, destructure_at, return_by, return_at, while_at, foreach_at, form_stmt_at, named_by, bracket_by, stmt_by, stmt_turn, stmts_at, inner_of, within}
 use Rattle.vale_parser.proofs.MoreLevels.{Grows, weaker, fewer, shorter, done, refused, if_grows, behind, step, sign_opens, word_opens, sign_then, word_then, name_then, name_grows, turns_grow}
 
 -- readers a level deeper, and those with more levels

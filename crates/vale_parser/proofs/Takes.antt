@@ -15,10 +15,10 @@ use Rattle.vale_syntax.specs.declared.tree.UnaryOp.TheVariants as u
 use Rattle.vale_syntax.specs.Tree.{TypeExpr, int_type, bool_type, str_type, named_type, array_type, ref_type, imm_ref_type, iso_type, Expr, set, chain, unary, steps, number, quote, truth, name, call, paren, array, iso, form, Exprs, no_exprs, more_exprs, Link, link, Links, no_links, more_links, Step, field, method, index, Steps, no_steps, more_steps, Form, branch, pure, ElseIf, else_if, more_elses, Block, block, Stmt, declare, destructure, return_nothing, return_value, while, foreach, form_stmt, express, more_stmts}
 use Rattle.vale_syntax.specs.Grammar.{Part, one, sign, word, nothing, ◌▸◌, each, with_commas, deeper, primary, postfix, operand, whole, rank, binary_kind, unary_kind, begins_form, alone, ends_stmt, named, IsType, IsExpr, AreArgs, AreMoreArgs, IsLink, AreLinks, IsStep, AreSteps, IsForm, IsElseIf, AreElses, IsBlock, AreStmts, IsStmt}
 use Rattle.vale_syntax.specs.View.{else_end, last_end}
-use Rattle.vale_parser.specs.declared.stop.Turn.{Turn}
-use Rattle.vale_parser.specs.declared.stop.Turn.TheVariants.{More, End}
-use Rattle.vale_parser.specs.Steps.{Read, Reader, begins, begins_word, name_at, turn_then, turns_at, enough, faulty}
-use Rattle.vale_parser.specs.Reading.{binary_op, height, of_height, link_op, unary_op, chained, stepped, Inner, inside, after_bracket, parallel, form_end, after_form, plain_end, after_plain, ref_by, ref_type_at, array_type_at, iso_type_at, type_by, type_at, block_at, else_by, else_turn_by, else_turn, elses_at, branch_at, bound_by, bound_at, parallel_at, pure_at, form_by, form_at, arguments_at, called_by, called_at, paren_at, array_at, iso_at, primary_by, primary_at, member_by, member_at, index_at, step_by, step_turn, steps_at, postfix_at, unary_by, unary_at, link_by, link_turn, no_more, most_links, links_at, level_at, set_at, whole_by, whole_at, args_at, plain_at, declare_at, names_at, destructure_at, return_by, return_at, while_at, foreach_at, form_stmt_at, named_by, bracket_by, stmt_by, stmt_turn, stmts_at, within}
+use Rattle.vale_reading.specs.declared.stop.Turn.{Turn}
+use Rattle.vale_reading.specs.declared.stop.Turn.TheVariants.{More, End}
+use Rattle.vale_reading.specs.Steps.{Read, Reader, begins, begins_word, name_at, turn_then, turns_at, enough, faulty}
+use Rattle.vale_reading.specs.Reading.{binary_op, height, of_height, link_op, unary_op, chained, stepped, Inner, inside, after_bracket, parallel, form_end, after_form, plain_end, after_plain, ref_by, ref_type_at, array_type_at, iso_type_at, type_by, type_at, block_at, else_by, else_turn_by, else_turn, elses_at, branch_at, bound_by, bound_at, parallel_at, pure_at, form_by, form_at, arguments_at, called_by, called_at, paren_at, array_at, iso_at, primary_by, primary_at, member_by, member_at, index_at, step_by, step_turn, steps_at, postfix_at, unary_by, unary_at, link_by, link_turn, no_more, most_links, links_at, level_at, set_at, whole_by, whole_at, args_at, plain_at, declare_at, names_at, destructure_at, return_by, return_at, while_at, foreach_at, form_stmt_at, named_by, bracket_by, stmt_by, stmt_turn, stmts_at, within}
 use Rattle.vale_parser.proofs.StepLaws.{given, returned, at_kind, sign_takes, word_takes, name_takes, front, Takes, by_turn, turns_takes, faulty_takes, commas_take}
 
 -- ---- operators

@@ -6,13 +6,13 @@ use Rattle.vale_syntax.specs.declared.tree.Expr.{Expr}
 use Rattle.vale_syntax.specs.declared.tree.Stmt.{Stmt}
 use Rattle.vale_syntax.specs.Tree as t
 use Rattle.vale_syntax.specs.View.{view_expr, view_stmt, stmts_of}
-use Rattle.vale_parser.specs.declared.stop.Stop.{Stop}
+use Rattle.vale_reading.specs.declared.stop.Stop.{Stop}
+use Rattle.vale_reading.specs.declared.types.Parser.{Parser}
+use Rattle.vale_reading.specs.Steps.{Reader}
+use Rattle.vale_reading.specs.Reading.{Inner, within, whole_at, unary_at, postfix_at, stmts_at}
+use Rattle.vale_reading.specs.Gives.{Gives}
 use Rattle.vale_parser.specs.declared.level.Rank.{Rank}
 use Rattle.vale_parser.specs.declared.level.Rank.TheVariants as rank
-use Rattle.vale_parser.specs.declared.types.Parser.{Parser}
-use Rattle.vale_parser.specs.Steps.{Reader}
-use Rattle.vale_parser.specs.Reading.{Inner, within, whole_at, unary_at, postfix_at, stmts_at}
-use Rattle.vale_parser.specs.Gives.{Gives}
 
 -- so much of an expression
 abbrev pub ranked_at : Rank → List (List ℕ) → Option Inner → Reader t.Expr

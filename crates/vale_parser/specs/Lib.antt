@@ -1,8 +1,3 @@
-pub mod Steps
-pub mod Reading
-pub mod ItemReading
-pub mod Gives
-pub mod Seen
 pub mod Refusal
 pub mod TooMany
 pub mod Deeper

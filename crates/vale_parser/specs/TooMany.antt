@@ -4,9 +4,9 @@ use Rattle.vale_base.specs.declared.spot.Spot.{Spot}
 use Rattle.vale_base.specs.Limits.{level_limit}
 use Rattle.vale_syntax.specs.declared.token.Token.{Token}
 use Rattle.vale_syntax.specs.Tree.{Tree}
+use Rattle.vale_reading.specs.Steps.{Fault, unexpected, too_deep}
+use Rattle.vale_reading.specs.ItemReading.{read_at, all_of}
 use Rattle.vale_parser.specs.declared.whole.ParseFault.{ParseFault}
-use Rattle.vale_parser.specs.Steps.{Fault, unexpected, too_deep}
-use Rattle.vale_parser.specs.ItemReading.{read_at, all_of}
 use Rattle.vale_parser.specs.Refusal.{spot_at}
 
 -- the tokens from the fault on

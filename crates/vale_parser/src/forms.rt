@@ -2,23 +2,22 @@
 
 ghost use Rattle.std.specs.Prelude.{◌≡◌, ◌<◌, ◌-◌, map, option_map};
 ghost use Rattle.vale_syntax.specs.View.{elses_of, view_expr, view_form, view_block, view_else_if};
-ghost use Rattle.vale_parser.specs.Reading as r;
+ghost use Rattle.vale_reading.specs.Reading as r;
+ghost use Rattle.vale_reading.specs.Gives.{Gives, turned};
 ghost use Rattle.vale_parser.specs.Deeper.{ReadsExprs, ReadsStmts};
-ghost use Rattle.vale_parser.specs.Gives.{Gives, turned};
 
-use crate::basic::{begins, begins_word, sign, word};
-use crate::build::parallel;
 use crate::level::{Level, Rank};
-use crate::stop::{Found, Statements, Stop, Turn};
-use crate::types::Parser;
 use sqlite_items::{Boxed, Items};
+use vale_reading::{
+    Found, Parser, Statements, Stop, Turn, begins, begins_word, parallel, sign, word,
+};
 use vale_syntax::{Block, ElseIf, Expr, Form, Sign, Token, TokenKind, Word};
 
 impl<
     F: for<'t> Fn(&Parser<'_>, usize, Rank, &'t [Token]) -> Found<'t, Expr>,
     G: for<'t> Fn(&Parser<'_>, usize, &'t [Token]) -> Found<'t, Statements>,
 > Level<'_, F, G> {
-    #[tactic(auto, unfolding(crate::specs::Reading::bound_at))]
+    #[tactic(auto, unfolding(vale_reading::specs::Reading::bound_at))]
     fn bound<'t>(&self, depth: usize, tokens: &'t [Token]) -> Found<'t, Option<Boxed<Expr>>>
         requires exprs { ReadsExprs self.now.depth (F.pre self.now.expr) (F.post self.now.expr) }
         requires fewer { depth < self.now.depth }
@@ -33,7 +32,7 @@ impl<
     }
 
     /// A block.
-    #[tactic(auto, unfolding(crate::specs::Reading::block_at))]
+    #[tactic(auto, unfolding(vale_reading::specs::Reading::block_at))]
     pub fn block<'t>(&self, tokens: &'t [Token]) -> Found<'t, Block>
         requires exprs { ReadsExprs self.now.depth (F.pre self.now.expr) (F.post self.now.expr) }
         requires stmts { ReadsStmts self.now.depth (G.pre self.now.stmts) (G.post self.now.stmts) }
@@ -46,7 +45,7 @@ impl<
         Ok((Block::new(at, end, stmts, last), rest))
     }
 
-    #[tactic(auto, unfolding(crate::specs::Reading::else_turn))]
+    #[tactic(auto, unfolding(vale_reading::specs::Reading::else_turn))]
     fn else_if<'t>(&self, tokens: &'t [Token]) -> Found<'t, Turn<ElseIf, Option<Block>>>
         requires exprs { ReadsExprs self.now.depth (F.pre self.now.expr) (F.post self.now.expr) }
         requires stmts { ReadsStmts self.now.depth (G.pre self.now.stmts) (G.post self.now.stmts) }
@@ -87,7 +86,7 @@ impl<
         Err(Stop::Unexpected(rest))
     }
 
-    #[tactic(auto, unfolding(crate::specs::Reading::branch_at))]
+    #[tactic(auto, unfolding(vale_reading::specs::Reading::branch_at))]
     fn branch<'t>(&self, tokens: &'t [Token]) -> Found<'t, Form>
         requires exprs { ReadsExprs self.now.depth (F.pre self.now.expr) (F.post self.now.expr) }
         requires stmts { ReadsStmts self.now.depth (G.pre self.now.stmts) (G.post self.now.stmts) }
@@ -101,7 +100,7 @@ impl<
         Ok((Form::branch(at, condition, block, else_ifs, last), rest))
     }
 
-    #[tactic(auto, unfolding(crate::specs::Reading::parallel_at))]
+    #[tactic(auto, unfolding(vale_reading::specs::Reading::parallel_at))]
     fn parallel<'t>(&self, tokens: &'t [Token]) -> Found<'t, Form>
         requires exprs { ReadsExprs self.now.depth (F.pre self.now.expr) (F.post self.now.expr) }
         requires stmts { ReadsStmts self.now.depth (G.pre self.now.stmts) (G.post self.now.stmts) }
@@ -119,7 +118,7 @@ impl<
     }
 
     /// A form.
-    #[tactic(auto, unfolding(crate::specs::Reading::form_at))]
+    #[tactic(auto, unfolding(vale_reading::specs::Reading::form_at))]
     pub fn form<'t>(&self, tokens: &'t [Token]) -> Found<'t, Form>
         requires exprs { ReadsExprs self.now.depth (F.pre self.now.expr) (F.post self.now.expr) }
         requires stmts { ReadsStmts self.now.depth (G.pre self.now.stmts) (G.post self.now.stmts) }

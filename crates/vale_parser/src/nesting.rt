@@ -2,13 +2,12 @@
 
 ghost use Rattle.std.specs.Prelude.{◌≡◌, map, option_map};
 ghost use Rattle.vale_syntax.specs.View.{stmts_of, view_block, view_expr, view_stmt};
-ghost use Rattle.vale_parser.specs.Reading as r;
+ghost use Rattle.vale_reading.specs.Reading as r;
+ghost use Rattle.vale_reading.specs.Gives.{Gives};
 ghost use Rattle.vale_parser.specs.Deeper.{ranked_at};
-ghost use Rattle.vale_parser.specs.Gives.{Gives};
 
 use crate::level::{Level, Rank};
-use crate::stop::{Found, Statements};
-use crate::types::Parser;
+use vale_reading::{Found, Parser, Statements};
 use vale_syntax::{Block, Expr, Token};
 
 /// An expression.

@@ -3,25 +3,22 @@
 ghost use Rattle.std.specs.Prelude.{◌≡◌, ◌<◌, ◌-◌, map};
 ghost use Rattle.vale_syntax.specs.Tree as t;
 ghost use Rattle.vale_syntax.specs.View.{listed, exprs_of, steps_of, view_expr, view_step};
-ghost use Rattle.vale_parser.specs.Steps.{with_front};
-ghost use Rattle.vale_parser.specs.Reading as r;
+ghost use Rattle.vale_reading.specs.Steps.{with_front};
+ghost use Rattle.vale_reading.specs.Reading as r;
+ghost use Rattle.vale_reading.specs.Gives.{Gives, turned};
 ghost use Rattle.vale_parser.specs.Deeper.{ReadsExprs, ReadsStmts};
-ghost use Rattle.vale_parser.specs.Gives.{Gives, turned};
 
-use crate::basic::{begins, sign, word};
-use crate::build::stepped;
 use crate::level::{Level, Rank};
-use crate::stop::{Found, Statements, Stop, Turn};
-use crate::types::Parser;
 use sqlite_items::Items;
 use vale_base::Text;
+use vale_reading::{Found, Parser, Statements, Stop, Turn, begins, sign, stepped, word};
 use vale_syntax::{Expr, Sign, Step, Token, TokenKind, Word};
 
 impl<
     F: for<'t> Fn(&Parser<'_>, usize, Rank, &'t [Token]) -> Found<'t, Expr>,
     G: for<'t> Fn(&Parser<'_>, usize, &'t [Token]) -> Found<'t, Statements>,
 > Level<'_, F, G> {
-    #[tactic(auto, unfolding(crate::specs::Reading::comma_turn))]
+    #[tactic(auto, unfolding(vale_reading::specs::Reading::comma_turn))]
     fn another<'t>(&self, depth: usize, tokens: &'t [Token]) -> Found<'t, Turn<Expr, ()>>
         requires exprs { ReadsExprs self.now.depth (F.pre self.now.expr) (F.post self.now.expr) }
         requires fewer { depth < self.now.depth }
@@ -61,7 +58,7 @@ impl<
         Err(Stop::Unexpected(rest))
     }
 
-    #[tactic(auto, unfolding(crate::specs::Reading::args_at))]
+    #[tactic(auto, unfolding(vale_reading::specs::Reading::args_at))]
     fn args<'t>(&self, depth: usize, tokens: &'t [Token]) -> Found<'t, Items<Expr>>
         requires exprs { ReadsExprs self.now.depth (F.pre self.now.expr) (F.post self.now.expr) }
         requires fewer { depth < self.now.depth }
@@ -77,7 +74,7 @@ impl<
     }
 
     /// Arguments with their parentheses.
-    #[tactic(auto, unfolding(crate::specs::Reading::arguments_at))]
+    #[tactic(auto, unfolding(vale_reading::specs::Reading::arguments_at))]
     fn arguments<'t>(&self, tokens: &'t [Token]) -> Found<'t, Items<Expr>>
         requires exprs { ReadsExprs self.now.depth (F.pre self.now.expr) (F.post self.now.expr) }
         requires stmts { ReadsStmts self.now.depth (G.pre self.now.stmts) (G.post self.now.stmts) }
@@ -91,7 +88,7 @@ impl<
     }
 
     /// A name, and its arguments where it is called.
-    #[tactic(auto, unfolding(crate::specs::Reading::called_at))]
+    #[tactic(auto, unfolding(vale_reading::specs::Reading::called_at))]
     fn called<'t>(&self, tokens: &'t [Token]) -> Found<'t, Expr>
         requires exprs { ReadsExprs self.now.depth (F.pre self.now.expr) (F.post self.now.expr) }
         requires stmts { ReadsStmts self.now.depth (G.pre self.now.stmts) (G.post self.now.stmts) }
@@ -105,7 +102,7 @@ impl<
         Ok((Expr::call(name, args), rest))
     }
 
-    #[tactic(auto, unfolding(crate::specs::Reading::paren_at))]
+    #[tactic(auto, unfolding(vale_reading::specs::Reading::paren_at))]
     fn paren<'t>(&self, tokens: &'t [Token]) -> Found<'t, Expr>
         requires exprs { ReadsExprs self.now.depth (F.pre self.now.expr) (F.post self.now.expr) }
         requires stmts { ReadsStmts self.now.depth (G.pre self.now.stmts) (G.post self.now.stmts) }
@@ -118,7 +115,7 @@ impl<
         Ok((Expr::paren(self.parser.alloc, at, inner)?, rest))
     }
 
-    #[tactic(auto, unfolding(crate::specs::Reading::array_at))]
+    #[tactic(auto, unfolding(vale_reading::specs::Reading::array_at))]
     fn array<'t>(&self, tokens: &'t [Token]) -> Found<'t, Expr>
         requires exprs { ReadsExprs self.now.depth (F.pre self.now.expr) (F.post self.now.expr) }
         requires stmts { ReadsStmts self.now.depth (G.pre self.now.stmts) (G.post self.now.stmts) }
@@ -142,7 +139,7 @@ impl<
         Ok((Expr::iso(at, block), rest))
     }
 
-    #[tactic(auto, unfolding(crate::specs::Reading::primary_at))]
+    #[tactic(auto, unfolding(vale_reading::specs::Reading::primary_at))]
     fn primary<'t>(&self, tokens: &'t [Token]) -> Found<'t, Expr>
         requires exprs { ReadsExprs self.now.depth (F.pre self.now.expr) (F.post self.now.expr) }
         requires stmts { ReadsStmts self.now.depth (G.pre self.now.stmts) (G.post self.now.stmts) }
@@ -171,7 +168,7 @@ impl<
         }
     }
 
-    #[tactic(auto, unfolding(crate::specs::Reading::member_at))]
+    #[tactic(auto, unfolding(vale_reading::specs::Reading::member_at))]
     fn member<'t>(&self, tokens: &'t [Token]) -> Found<'t, Turn<Step, ()>>
         requires exprs { ReadsExprs self.now.depth (F.pre self.now.expr) (F.post self.now.expr) }
         requires stmts { ReadsStmts self.now.depth (G.pre self.now.stmts) (G.post self.now.stmts) }
@@ -186,7 +183,7 @@ impl<
         Ok((Turn::More(Step::method(at, name.name, args)), rest))
     }
 
-    #[tactic(auto, unfolding(crate::specs::Reading::index_at))]
+    #[tactic(auto, unfolding(vale_reading::specs::Reading::index_at))]
     fn index<'t>(&self, tokens: &'t [Token]) -> Found<'t, Turn<Step, ()>>
         requires exprs { ReadsExprs self.now.depth (F.pre self.now.expr) (F.post self.now.expr) }
         requires stmts { ReadsStmts self.now.depth (G.pre self.now.stmts) (G.post self.now.stmts) }
@@ -199,7 +196,7 @@ impl<
         Ok((Turn::More(Step::index(at, index)), rest))
     }
 
-    #[tactic(auto, unfolding(crate::specs::Reading::step_turn))]
+    #[tactic(auto, unfolding(vale_reading::specs::Reading::step_turn))]
     fn step<'t>(&self, tokens: &'t [Token]) -> Found<'t, Turn<Step, ()>>
         requires exprs { ReadsExprs self.now.depth (F.pre self.now.expr) (F.post self.now.expr) }
         requires stmts { ReadsStmts self.now.depth (G.pre self.now.stmts) (G.post self.now.stmts) }
@@ -235,7 +232,7 @@ impl<
         Err(Stop::Unexpected(rest))
     }
 
-    #[tactic(auto, unfolding(crate::specs::Reading::postfix_at))]
+    #[tactic(auto, unfolding(vale_reading::specs::Reading::postfix_at))]
     pub fn postfix<'t>(&self, tokens: &'t [Token]) -> Found<'t, Expr>
         requires exprs { ReadsExprs self.now.depth (F.pre self.now.expr) (F.post self.now.expr) }
         requires stmts { ReadsStmts self.now.depth (G.pre self.now.stmts) (G.post self.now.stmts) }

@@ -3,24 +3,24 @@
 ghost use Rattle.std.specs.Prelude.{◌≡◌, ◌<◌, ◌-◌, map};
 ghost use Rattle.vale_syntax.specs.Tree as t;
 ghost use Rattle.vale_syntax.specs.View.{links_of, view_expr, view_link};
-ghost use Rattle.vale_parser.specs.Steps.{turns_at};
-ghost use Rattle.vale_parser.specs.Reading as r;
+ghost use Rattle.vale_reading.specs.Steps.{turns_at};
+ghost use Rattle.vale_reading.specs.Reading as r;
+ghost use Rattle.vale_reading.specs.Gives.{Gives, turned};
 ghost use Rattle.vale_parser.specs.Deeper.{ReadsExprs, ReadsStmts};
-ghost use Rattle.vale_parser.specs.Gives.{Gives, turned};
 
-use crate::basic::{begins_word, link_op, most_links, sign, unary_op, word};
-use crate::build::chained;
 use crate::level::{Level, Rank};
-use crate::stop::{Found, Statements, Stop, Turn};
-use crate::types::Parser;
 use sqlite_items::Items;
+use vale_reading::{
+    Found, Parser, Statements, Stop, Turn, begins_word, chained, link_op, most_links, sign,
+    unary_op, word,
+};
 use vale_syntax::{Expr, Link, Sign, Token, Word};
 
 impl<
     F: for<'t> Fn(&Parser<'_>, usize, Rank, &'t [Token]) -> Found<'t, Expr>,
     G: for<'t> Fn(&Parser<'_>, usize, &'t [Token]) -> Found<'t, Statements>,
 > Level<'_, F, G> {
-    #[tactic(auto, unfolding(crate::specs::Reading::unary_at))]
+    #[tactic(auto, unfolding(vale_reading::specs::Reading::unary_at))]
     pub fn unary<'t>(&self, tokens: &'t [Token]) -> Found<'t, Expr>
         requires exprs { ReadsExprs self.now.depth (F.pre self.now.expr) (F.post self.now.expr) }
         requires stmts { ReadsStmts self.now.depth (G.pre self.now.stmts) (G.post self.now.stmts) }
@@ -39,7 +39,7 @@ impl<
     }
 
     #[cycle(operators)]
-    #[tactic(auto, unfolding(crate::specs::Reading::link_turn))]
+    #[tactic(auto, unfolding(vale_reading::specs::Reading::link_turn))]
     fn link<'t>(&self, height: usize, tokens: &'t [Token]) -> Found<'t, Turn<Link, ()>>
         requires exprs { ReadsExprs self.now.depth (F.pre self.now.expr) (F.post self.now.expr) }
         requires stmts { ReadsStmts self.now.depth (G.pre self.now.stmts) (G.post self.now.stmts) }
@@ -82,7 +82,7 @@ impl<
 
     /// An expression without `set` of operators of at most this height.
     #[cycle(operators)]
-    #[tactic(auto, unfolding(crate::specs::Reading::level_at, crate::specs::Reading::links_at))]
+    #[tactic(auto, unfolding(vale_reading::specs::Reading::level_at, vale_reading::specs::Reading::links_at))]
     fn level<'t>(&self, height: usize, tokens: &'t [Token]) -> Found<'t, Expr>
         requires exprs { ReadsExprs self.now.depth (F.pre self.now.expr) (F.post self.now.expr) }
         requires stmts { ReadsStmts self.now.depth (G.pre self.now.stmts) (G.post self.now.stmts) }
@@ -97,7 +97,7 @@ impl<
         Ok((chained(self.parser.alloc, first, links)?, rest))
     }
 
-    #[tactic(auto, unfolding(crate::specs::Reading::set_at))]
+    #[tactic(auto, unfolding(vale_reading::specs::Reading::set_at))]
     fn set<'t>(&self, tokens: &'t [Token]) -> Found<'t, Expr>
         requires exprs { ReadsExprs self.now.depth (F.pre self.now.expr) (F.post self.now.expr) }
         requires stmts { ReadsStmts self.now.depth (G.pre self.now.stmts) (G.post self.now.stmts) }
@@ -112,7 +112,7 @@ impl<
     }
 
     /// An expression.
-    #[tactic(auto, unfolding(crate::specs::Reading::whole_at))]
+    #[tactic(auto, unfolding(vale_reading::specs::Reading::whole_at))]
     pub fn whole<'t>(&self, tokens: &'t [Token]) -> Found<'t, Expr>
         requires exprs { ReadsExprs self.now.depth (F.pre self.now.expr) (F.post self.now.expr) }
         requires stmts { ReadsStmts self.now.depth (G.pre self.now.stmts) (G.post self.now.stmts) }

@@ -2,23 +2,23 @@
 
 ghost use Rattle.std.specs.Prelude.{◌≡◌, ◌<◌, ◌-◌, map, option_map};
 ghost use Rattle.vale_syntax.specs.View.{stmts_of, view_expr, view_stmt};
-ghost use Rattle.vale_parser.specs.Reading as r;
+ghost use Rattle.vale_reading.specs.Reading as r;
+ghost use Rattle.vale_reading.specs.Gives.{Gives, turned};
 ghost use Rattle.vale_parser.specs.Deeper.{ReadsExprs, ReadsStmts};
-ghost use Rattle.vale_parser.specs.Gives.{Gives, turned};
 
-use crate::basic::{begins, begins_declaration, begins_destructuring, sign, word};
-use crate::build::{after_form, after_plain};
 use crate::level::{Level, Rank};
-use crate::stop::{Found, Statements, Stop, Turn};
-use crate::types::Parser;
 use sqlite_items::{Boxed, Items};
+use vale_reading::{
+    Found, Parser, Statements, Stop, Turn, after_form, after_plain, begins, begins_declaration,
+    begins_destructuring, sign, word,
+};
 use vale_syntax::{Expr, Sign, Stmt, Token, TokenKind, Word};
 
 impl<
     F: for<'t> Fn(&Parser<'_>, usize, Rank, &'t [Token]) -> Found<'t, Expr>,
     G: for<'t> Fn(&Parser<'_>, usize, &'t [Token]) -> Found<'t, Statements>,
 > Level<'_, F, G> {
-    #[tactic(auto, unfolding(crate::specs::Reading::plain_at))]
+    #[tactic(auto, unfolding(vale_reading::specs::Reading::plain_at))]
     fn plain<'t>(&self, tokens: &'t [Token]) -> Found<'t, Turn<Stmt, Option<Boxed<Expr>>>>
         requires exprs { ReadsExprs self.now.depth (F.pre self.now.expr) (F.post self.now.expr) }
         requires stmts { ReadsStmts self.now.depth (G.pre self.now.stmts) (G.post self.now.stmts) }
@@ -28,7 +28,7 @@ impl<
         after_plain(self.parser.alloc, value, rest)
     }
 
-    #[tactic(auto, unfolding(crate::specs::Reading::declare_at))]
+    #[tactic(auto, unfolding(vale_reading::specs::Reading::declare_at))]
     fn declare<'t>(&self, tokens: &'t [Token]) -> Found<'t, Turn<Stmt, Option<Boxed<Expr>>>>
         requires exprs { ReadsExprs self.now.depth (F.pre self.now.expr) (F.post self.now.expr) }
         requires stmts { ReadsStmts self.now.depth (G.pre self.now.stmts) (G.post self.now.stmts) }
@@ -41,7 +41,7 @@ impl<
         Ok((Turn::More(Stmt::declare(name, value)), rest))
     }
 
-    #[tactic(auto, unfolding(crate::specs::Reading::destructure_at))]
+    #[tactic(auto, unfolding(vale_reading::specs::Reading::destructure_at))]
     fn destructure<'t>(&self, tokens: &'t [Token]) -> Found<'t, Turn<Stmt, Option<Boxed<Expr>>>>
         requires exprs { ReadsExprs self.now.depth (F.pre self.now.expr) (F.post self.now.expr) }
         requires stmts { ReadsStmts self.now.depth (G.pre self.now.stmts) (G.post self.now.stmts) }
@@ -57,7 +57,7 @@ impl<
         Ok((Turn::More(Stmt::destructure(at, names, value)), rest))
     }
 
-    #[tactic(auto, unfolding(crate::specs::Reading::return_at))]
+    #[tactic(auto, unfolding(vale_reading::specs::Reading::return_at))]
     fn return_stmt<'t>(&self, tokens: &'t [Token]) -> Found<'t, Turn<Stmt, Option<Boxed<Expr>>>>
         requires exprs { ReadsExprs self.now.depth (F.pre self.now.expr) (F.post self.now.expr) }
         requires stmts { ReadsStmts self.now.depth (G.pre self.now.stmts) (G.post self.now.stmts) }
@@ -76,7 +76,7 @@ impl<
         ))
     }
 
-    #[tactic(auto, unfolding(crate::specs::Reading::while_at))]
+    #[tactic(auto, unfolding(vale_reading::specs::Reading::while_at))]
     fn while_stmt<'t>(&self, tokens: &'t [Token]) -> Found<'t, Turn<Stmt, Option<Boxed<Expr>>>>
         requires exprs { ReadsExprs self.now.depth (F.pre self.now.expr) (F.post self.now.expr) }
         requires stmts { ReadsStmts self.now.depth (G.pre self.now.stmts) (G.post self.now.stmts) }
@@ -88,7 +88,7 @@ impl<
         Ok((Turn::More(Stmt::while_loop(at, condition, block)), rest))
     }
 
-    #[tactic(auto, unfolding(crate::specs::Reading::foreach_at))]
+    #[tactic(auto, unfolding(vale_reading::specs::Reading::foreach_at))]
     fn foreach_stmt<'t>(&self, tokens: &'t [Token]) -> Found<'t, Turn<Stmt, Option<Boxed<Expr>>>>
         requires exprs { ReadsExprs self.now.depth (F.pre self.now.expr) (F.post self.now.expr) }
         requires stmts { ReadsStmts self.now.depth (G.pre self.now.stmts) (G.post self.now.stmts) }
@@ -104,7 +104,7 @@ impl<
         Ok((Turn::More(Stmt::foreach(at, name, from, to, block)), rest))
     }
 
-    #[tactic(auto, unfolding(crate::specs::Reading::form_stmt_at))]
+    #[tactic(auto, unfolding(vale_reading::specs::Reading::form_stmt_at))]
     fn form_stmt<'t>(&self, tokens: &'t [Token]) -> Found<'t, Turn<Stmt, Option<Boxed<Expr>>>>
         requires exprs { ReadsExprs self.now.depth (F.pre self.now.expr) (F.post self.now.expr) }
         requires stmts { ReadsStmts self.now.depth (G.pre self.now.stmts) (G.post self.now.stmts) }
@@ -114,7 +114,7 @@ impl<
         after_form(self.parser.alloc, form, rest)
     }
 
-    #[tactic(auto, unfolding(crate::specs::Reading::stmt_turn))]
+    #[tactic(auto, unfolding(vale_reading::specs::Reading::stmt_turn))]
     fn stmt<'t>(&self, tokens: &'t [Token]) -> Found<'t, Turn<Stmt, Option<Boxed<Expr>>>>
         requires exprs { ReadsExprs self.now.depth (F.pre self.now.expr) (F.post self.now.expr) }
         requires stmts { ReadsStmts self.now.depth (G.pre self.now.stmts) (G.post self.now.stmts) }

@@ -5,17 +5,16 @@ ghost use Rattle.vale_base.specs.Faults.{IfFault, IsValueUnlessMemory};
 ghost use Rattle.vale_syntax.specs.Tree as t;
 ghost use Rattle.vale_syntax.specs.Grammar.{spells};
 ghost use Rattle.vale_syntax.specs.View.{view_item, view_tree};
-ghost use Rattle.vale_parser.specs.ItemReading as i;
-ghost use Rattle.vale_parser.specs.Gives.{Gives};
+ghost use Rattle.vale_reading.specs.ItemReading as i;
+ghost use Rattle.vale_reading.specs.Gives.{Gives};
 ghost use Rattle.vale_parser.specs.Refusal.{spot_at, IsRefusal};
 ghost use Rattle.vale_parser.specs.TooMany.{OpensTooMany};
 
-use crate::names::Names;
-use crate::stop::Stop;
-use crate::types::Parser;
+use crate::items::items;
 use sqlite_items::Items;
 use std::alloc::Global;
 use vale_base::{Fail, LEVEL_LIMIT, Spot};
+use vale_reading::{Names, Parser, Stop};
 use vale_syntax::{Item, Token, Tokens, Tree};
 
 /// Why the tokens spell no tree, and where: 5 where no program of any nesting begins through the token, 6 where it opens
@@ -37,21 +36,25 @@ fn spot_at(tokens: &[Token], end: Spot) -> Spot
 }
 
 /// The items, by the names' numbers.
-#[tactic(auto, unfolding(crate::specs::ItemReading::items_at))]
-fn items<'t>(alloc: Global, names: &Names<'_>, tokens: &'t [Token]) -> Result<Items<Item>, Stop<'t>>
+#[tactic(auto, unfolding(vale_reading::specs::ItemReading::items_at))]
+fn items_of<'t>(
+    alloc: Global,
+    names: &Names<'_>,
+    tokens: &'t [Token],
+) -> Result<Items<Item>, Stop<'t>>
     ensures { Gives (map view_item) result (i.items_of names.now tokens.now) }
 {
     let parser = Parser { alloc, names };
-    let (items, _) = parser.items(LEVEL_LIMIT, tokens)?;
+    let (items, _) = items(&parser, LEVEL_LIMIT, tokens)?;
     Ok(items)
 }
 
-#[tactic(auto, unfolding(crate::specs::ItemReading::all_of))]
+#[tactic(auto, unfolding(vale_reading::specs::ItemReading::all_of))]
 fn read<'t>(alloc: Global, tokens: &'t [Token]) -> Result<Tree, Stop<'t>>
     ensures { Gives view_tree result (i.all_of tokens.now) }
 {
     let names = Names::of(alloc, tokens)?;
-    let items = items(alloc, &names, tokens)?;
+    let items = items_of(alloc, &names, tokens)?;
     let names = names.to_items(alloc)?;
     Ok(Tree { names, items })
 }

@@ -3,10 +3,10 @@ use Rattle.std.specs.Prelude.{map}
 use Rattle.std.proofs.lemmas.Result.{err_from_is_err_and}
 use Rattle.vale_syntax.specs.Tree.{no_links, more_links}
 use Rattle.vale_syntax.specs.View.{links_of, view_expr, view_link}
-use Rattle.vale_parser.specs.Steps.{turns_at}
-use Rattle.vale_parser.specs.Reading.{no_more, within, link_turn, level_at}
+use Rattle.vale_reading.specs.Steps.{turns_at}
+use Rattle.vale_reading.specs.Reading.{no_more, within, link_turn, level_at}
+use Rattle.vale_reading.proofs.Loops.{turn_more, turn_end, turn_fails, turns_over}
 use Rattle.vale_parser.proofs.Heights.{level_read, level_fails}
-use Rattle.vale_parser.proofs.Loops.{turn_more, turn_end, turn_fails, turns_over}
 use Rattle.vale_parser.proofs.level.Level.+operators.Goals as goal
 
 pub links-returns-in_err-turn : goal.links-returns-in_err-turn

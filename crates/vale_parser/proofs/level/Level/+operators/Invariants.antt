@@ -2,8 +2,8 @@ use Rattle.std.proofs.Common.{◌≡◌, ◌-◌, ◌+◌, ◌*◌}
 use Rattle.std.specs.Prelude.{map}
 use Rattle.vale_syntax.specs.Tree.{no_links, more_links}
 use Rattle.vale_syntax.specs.View.{listed, view_link}
-use Rattle.vale_parser.specs.Steps.{with_front, turns_at}
-use Rattle.vale_parser.specs.Reading.{no_more, within, link_turn, level_at}
+use Rattle.vale_reading.specs.Steps.{with_front, turns_at}
+use Rattle.vale_reading.specs.Reading.{no_more, within, link_turn, level_at}
 use Rattle.vale_parser.proofs.level.Level.+operators.Given as goal
 
 abbrev pub decreases-level : goal.decreases-level

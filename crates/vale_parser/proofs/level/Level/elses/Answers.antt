@@ -3,9 +3,9 @@ use Rattle.std.specs.Prelude.{option_map}
 use Rattle.std.proofs.lemmas.Result.{err_from_is_err_and}
 use Rattle.vale_syntax.specs.Tree.{more_elses}
 use Rattle.vale_syntax.specs.View.{else_end, view_else_if, view_block}
-use Rattle.vale_parser.specs.Steps.{unexpected, turns_at, faulty}
-use Rattle.vale_parser.specs.Reading.{within, else_turn, elses_at}
-use Rattle.vale_parser.proofs.Loops.{turn_more, turn_end, turn_fails, turns_out}
+use Rattle.vale_reading.specs.Steps.{unexpected, turns_at, faulty}
+use Rattle.vale_reading.specs.Reading.{within, else_turn, elses_at}
+use Rattle.vale_reading.proofs.Loops.{turn_more, turn_end, turn_fails, turns_out}
 use Rattle.vale_parser.proofs.level.Level.elses.Goals as goal
 
 pub returns-in_err-turn : goal.returns-in_err-turn

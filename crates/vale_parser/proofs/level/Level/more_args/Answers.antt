@@ -3,9 +3,9 @@ use Rattle.std.specs.Prelude.{map}
 use Rattle.std.proofs.lemmas.Result.{err_from_is_err_and}
 use Rattle.vale_syntax.specs.Tree.{no_exprs, more_exprs}
 use Rattle.vale_syntax.specs.View.{listed, view_expr}
-use Rattle.vale_parser.specs.Steps.{unexpected, with_front, turns_at, faulty}
-use Rattle.vale_parser.specs.Reading.{comma_turn, within, whole_at}
-use Rattle.vale_parser.proofs.Loops.{turn_more, turn_end, turn_fails, turns_out}
+use Rattle.vale_reading.specs.Steps.{unexpected, with_front, turns_at, faulty}
+use Rattle.vale_reading.specs.Reading.{comma_turn, within, whole_at}
+use Rattle.vale_reading.proofs.Loops.{turn_more, turn_end, turn_fails, turns_out}
 use Rattle.vale_parser.proofs.level.Level.more_args.Goals as goal
 
 pub returns-in_err-turn : goal.returns-in_err-turn

@@ -2,8 +2,8 @@ use Rattle.std.proofs.Common.{◌≡◌, ◌-◌, ◌+◌, length}
 use Rattle.std.specs.Prelude.{map}
 use Rattle.vale_syntax.specs.Tree.{no_exprs, more_exprs}
 use Rattle.vale_syntax.specs.View.{listed, view_expr}
-use Rattle.vale_parser.specs.Steps.{with_front, turns_at, faulty}
-use Rattle.vale_parser.specs.Reading.{comma_turn, within, whole_at}
+use Rattle.vale_reading.specs.Steps.{with_front, turns_at, faulty}
+use Rattle.vale_reading.specs.Reading.{comma_turn, within, whole_at}
 use Rattle.vale_parser.proofs.level.Level.more_args.Given as goal
 
 abbrev pub invariant-loop : goal.invariant-loop

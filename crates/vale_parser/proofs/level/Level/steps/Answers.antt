@@ -2,9 +2,9 @@ use Rattle.std.proofs.Common.{◌+◌, length, refl}
 use Rattle.std.proofs.lemmas.Result.{err_from_is_err_and}
 use Rattle.vale_syntax.specs.Tree.{no_steps, more_steps}
 use Rattle.vale_syntax.specs.View.{view_step}
-use Rattle.vale_parser.specs.Steps.{unexpected, turns_at, faulty}
-use Rattle.vale_parser.specs.Reading.{within, step_turn, steps_at}
-use Rattle.vale_parser.proofs.Loops.{turn_more, turn_end, turn_fails, turns_out}
+use Rattle.vale_reading.specs.Steps.{unexpected, turns_at, faulty}
+use Rattle.vale_reading.specs.Reading.{within, step_turn, steps_at}
+use Rattle.vale_reading.proofs.Loops.{turn_more, turn_end, turn_fails, turns_out}
 use Rattle.vale_parser.proofs.level.Level.steps.Goals as goal
 
 pub returns-in_err-turn : goal.returns-in_err-turn

@@ -2,8 +2,8 @@ use Rattle.std.proofs.Common.{◌≡◌, ◌-◌, ◌+◌, length}
 use Rattle.std.specs.Prelude.{map}
 use Rattle.vale_syntax.specs.Tree.{no_steps, more_steps}
 use Rattle.vale_syntax.specs.View.{listed, view_step}
-use Rattle.vale_parser.specs.Steps.{with_front, turns_at, faulty}
-use Rattle.vale_parser.specs.Reading.{within, step_turn}
+use Rattle.vale_reading.specs.Steps.{with_front, turns_at, faulty}
+use Rattle.vale_reading.specs.Reading.{within, step_turn}
 use Rattle.vale_parser.proofs.level.Level.steps.Given as goal
 
 abbrev pub invariant-loop : goal.invariant-loop

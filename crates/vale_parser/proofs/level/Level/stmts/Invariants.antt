@@ -2,8 +2,8 @@ use Rattle.std.proofs.Common.{◌≡◌, ◌-◌, ◌+◌, length}
 use Rattle.std.specs.Prelude.{map}
 use Rattle.vale_syntax.specs.Tree.{more_stmts}
 use Rattle.vale_syntax.specs.View.{listed, last_end, view_stmt}
-use Rattle.vale_parser.specs.Steps.{with_front, turns_at, faulty}
-use Rattle.vale_parser.specs.Reading.{within, stmt_turn}
+use Rattle.vale_reading.specs.Steps.{with_front, turns_at, faulty}
+use Rattle.vale_reading.specs.Reading.{within, stmt_turn}
 use Rattle.vale_parser.proofs.level.Level.stmts.Given as goal
 
 abbrev pub invariant-loop : goal.invariant-loop

@@ -1,0 +1,11 @@
+use Rattle.std.proofs.Common.{◌≡◌, ◌-◌, ◌+◌, [], ◌∷◌, length}
+use Rattle.std.specs.Prelude.{map}
+use Rattle.vale_syntax.specs.View.{listed, view_param}
+use Rattle.vale_reading.specs.Steps.{with_front, turns_at, faulty}
+use Rattle.vale_reading.specs.Reading.{comma_turn}
+use Rattle.vale_reading.specs.ItemReading.{param_at}
+use Rattle.vale_parser.proofs.items.more_params.Given as goal
+
+abbrev pub invariant-loop : goal.invariant-loop
+invariant-loop l =
+    with_front (listed (λ x xs. x ∷ xs) (map (view_param) l.items)) (turns_at (comma_turn (param_at l.parser.names.now l.depth)) (λ x xs. x ∷ xs) (λ _. []) (faulty) (length l.tokens + 1 - l.counter) l.rest) ≡ with_front (listed (λ x xs. x ∷ xs) (map view_param l.fn.params)) (turns_at (comma_turn (param_at l.parser.names.now l.depth)) (λ x xs. x ∷ xs) (λ _. []) faulty (length l.tokens + 1) l.tokens)

@@ -1,7 +1,0 @@
-use Rattle.std.proofs.Common.{◌≡◌, drop}
-use Rattle.vale_syntax.specs.Grammar.{names_in}
-use Rattle.vale_parser.specs.Seen.{nows, seen_in}
-use Rattle.vale_parser.proofs.names.Names.of.Given as goal
-
-abbrev pub invariant-loop-token : goal.invariant-loop-token
-invariant-loop-token l = seen_in (nows l.texts.keys) (drop l.token-index l.tokens) ≡ names_in l.tokens

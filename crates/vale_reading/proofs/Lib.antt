@@ -1,0 +1,4 @@
+pub mod Levels
+pub mod Built
+pub mod Loops
+pub mod Numbered

@@ -1,0 +1,5 @@
+pub mod Steps
+pub mod Reading
+pub mod ItemReading
+pub mod Gives
+pub mod Seen
