@@ -8,6 +8,7 @@ ghost use Rattle.vale_parser.specs.Deeper.{ReadsExprs, ReadsStmts};
 
 use crate::level::{Level, Rank};
 use sqlite_items::{Boxed, Items};
+use vale_held::Held;
 use vale_reading::{
     Found, Parser, Statements, Stop, Turn, begins, begins_word, parallel, sign, word,
 };
@@ -62,7 +63,9 @@ impl<
         let (at, inner) = word(Word::If, rest)?;
         let deeper = self.parser.below(self.depth, rest)?;
         let (condition, rest) = self.expr_below(deeper, Rank::Whole, inner)?;
+        let condition = Held::new(condition);
         let (block, rest) = self.block(rest)?;
+        let condition = condition.into_inner();
         Ok((Turn::More(ElseIf::new(at, condition, block)), rest))
     }
 
@@ -95,8 +98,11 @@ impl<
         let (at, rest) = word(Word::If, tokens)?;
         let deeper = self.parser.below(self.depth, tokens)?;
         let (condition, rest) = self.expr_below(deeper, Rank::Whole, rest)?;
+        let condition = Held::new(condition);
         let (block, rest) = self.block(rest)?;
+        let block = Held::new(block);
         let ((else_ifs, last), rest) = self.elses(rest)?;
+        let (condition, block) = (condition.into_inner(), block.into_inner());
         Ok((Form::branch(at, condition, block, else_ifs, last), rest))
     }
 
@@ -112,8 +118,11 @@ impl<
         let (name, rest) = self.parser.name(rest)?;
         let (_, rest) = word(Word::In, rest)?;
         let (over, rest) = self.expr_below(deeper, Rank::Whole, rest)?;
+        let over = Held::new(over);
         let (to, rest) = self.bound(deeper, rest)?;
+        let to = Held::new(to);
         let (block, rest) = self.block(rest)?;
+        let (over, to) = (over.into_inner(), to.into_inner());
         Ok((parallel(at, name, over, to, block), rest))
     }
 

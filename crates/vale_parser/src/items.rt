@@ -10,6 +10,7 @@ ghost use Rattle.vale_syntax.specs.declared.token.Sign.TheVariants as s;
 
 use crate::nesting::block;
 use sqlite_items::Items;
+use vale_held::Held;
 use vale_reading::{Parser, Stop, Turn, bang, begins, purity, sign, word};
 use vale_syntax::{FieldDecl, Function, Head, Item, Param, Sign, Token, TokenKind, TypeExpr, Word};
 
@@ -134,8 +135,9 @@ fn signature<'t>(
     ensures { Gives (λ x. (view_head x.0, x.1.now)) result (i.signature_at parser.now.names.now depth tokens.now) }
 {
     let (head, rest) = head(parser, depth, tokens)?;
+    let head = Held::new(head);
     let (_, rest) = sign(Sign::Semicolon, rest)?;
-    Ok((head, rest))
+    Ok((head.into_inner(), rest))
 }
 
 #[tactic(auto, unfolding(vale_reading::specs::ItemReading::function_at))]
@@ -147,7 +149,9 @@ fn function<'t>(
     ensures { Gives (λ x. (view_function x.0, x.1.now)) result (i.function_at parser.now.names.now depth tokens.now) }
 {
     let (head, rest) = head(parser, depth, tokens)?;
+    let head = Held::new(head);
     let (body, rest) = block(parser, depth, rest)?;
+    let head = head.into_inner();
     Ok((Function { head, body }, rest))
 }
 
@@ -162,11 +166,12 @@ fn field<'t>(
     let (name, rest) = parser.name(tokens)?;
     let (may_be_set, rest) = bang(rest)?;
     let (ty, rest) = parser.type_expr(depth, rest)?;
+    let ty = Held::new(ty);
     let (_, rest) = sign(Sign::Semicolon, rest)?;
     let field = FieldDecl {
         name,
         may_be_set,
-        ty,
+        ty: ty.into_inner(),
     };
     Ok((field, rest))
 }

@@ -11,6 +11,7 @@ ghost use Rattle.vale_parser.specs.Deeper.{ReadsExprs, ReadsStmts};
 use crate::level::{Level, Rank};
 use sqlite_items::Items;
 use vale_base::Text;
+use vale_held::Held;
 use vale_reading::{Found, Parser, Statements, Stop, Turn, begins, sign, stepped, word};
 use vale_syntax::{Expr, Sign, Step, Token, TokenKind, Word};
 
@@ -111,7 +112,9 @@ impl<
         let (at, rest) = sign(Sign::OpenParen, tokens)?;
         let deeper = self.parser.below(self.depth, tokens)?;
         let (inner, rest) = self.expr_below(deeper, Rank::Whole, rest)?;
+        let inner = Held::new(inner);
         let (_, rest) = sign(Sign::CloseParen, rest)?;
+        let inner = inner.into_inner();
         Ok((Expr::paren(self.parser.alloc, at, inner)?, rest))
     }
 
@@ -125,8 +128,9 @@ impl<
         let deeper = self.parser.below(self.depth, tokens)?;
         let (_, rest) = sign(Sign::CloseBracket, rest)?;
         let (element, rest) = self.parser.type_expr(deeper, rest)?;
+        let element = Held::new(element);
         let (args, rest) = self.arguments(rest)?;
-        Ok((Expr::array(at, element, args), rest))
+        Ok((Expr::array(at, element.into_inner(), args), rest))
     }
 
     fn iso<'t>(&self, tokens: &'t [Token]) -> Found<'t, Expr>
@@ -192,8 +196,9 @@ impl<
         let (at, rest) = sign(Sign::OpenBracket, tokens)?;
         let deeper = self.parser.below(self.depth, tokens)?;
         let (index, rest) = self.expr_below(deeper, Rank::Whole, rest)?;
+        let index = Held::new(index);
         let (_, rest) = sign(Sign::CloseBracket, rest)?;
-        Ok((Turn::More(Step::index(at, index)), rest))
+        Ok((Turn::More(Step::index(at, index.into_inner())), rest))
     }
 
     #[tactic(auto, unfolding(vale_reading::specs::Reading::step_turn))]
@@ -239,7 +244,9 @@ impl<
         ensures { Gives (λ x. (view_expr x.0, x.1.now)) result (r.postfix_at self.now.parser.now.names.now (r.within self.now.parser.now.names.now self.now.depth) tokens.now) }
     {
         let (base, rest) = self.primary(tokens)?;
+        let base = Held::new(base);
         let (steps, rest) = self.steps(rest)?;
+        let base = base.into_inner();
         Ok((stepped(self.parser.alloc, base, steps)?, rest))
     }
 }

@@ -10,6 +10,7 @@ ghost use Rattle.vale_parser.specs.Deeper.{ReadsExprs, ReadsStmts};
 
 use crate::level::{Level, Rank};
 use sqlite_items::Items;
+use vale_held::Held;
 use vale_reading::{
     Found, Parser, Statements, Stop, Turn, begins_word, chained, link_op, most_links, sign,
     unary_op, word,
@@ -92,8 +93,10 @@ impl<
             return self.unary(tokens);
         }
         let (first, rest) = self.level(height - 1, tokens)?;
+        let first = Held::new(first);
         let most = most_links(height, rest);
         let (links, rest) = self.links(height, most, rest)?;
+        let first = first.into_inner();
         Ok((chained(self.parser.alloc, first, links)?, rest))
     }
 
@@ -106,8 +109,10 @@ impl<
         let (at, rest) = word(Word::Set, tokens)?;
         let deeper = self.parser.below(self.depth, tokens)?;
         let (place, rest) = self.expr_below(deeper, Rank::Place, rest)?;
+        let place = Held::new(place);
         let (_, rest) = sign(Sign::Assign, rest)?;
         let (value, rest) = self.expr_below(deeper, Rank::Whole, rest)?;
+        let place = place.into_inner();
         Ok((Expr::set(self.parser.alloc, at, place, value)?, rest))
     }
 

@@ -8,6 +8,7 @@ ghost use Rattle.vale_parser.specs.Deeper.{ReadsExprs, ReadsStmts};
 
 use crate::level::{Level, Rank};
 use sqlite_items::{Boxed, Items};
+use vale_held::Held;
 use vale_reading::{
     Found, Parser, Statements, Stop, Turn, after_form, after_plain, begins, begins_declaration,
     begins_destructuring, sign, word,
@@ -37,8 +38,9 @@ impl<
         let (name, rest) = self.parser.name(tokens)?;
         let (_, rest) = sign(Sign::Assign, rest)?;
         let (value, rest) = self.whole(rest)?;
+        let value = Held::new(value);
         let (_, rest) = sign(Sign::Semicolon, rest)?;
-        Ok((Turn::More(Stmt::declare(name, value)), rest))
+        Ok((Turn::More(Stmt::declare(name, value.into_inner())), rest))
     }
 
     #[tactic(auto, unfolding(vale_reading::specs::Reading::destructure_at))]
@@ -53,7 +55,9 @@ impl<
         let (_, rest) = sign(Sign::CloseBracket, rest)?;
         let (_, rest) = sign(Sign::Assign, rest)?;
         let (value, rest) = self.whole(rest)?;
+        let value = Held::new(value);
         let (_, rest) = sign(Sign::Semicolon, rest)?;
+        let value = value.into_inner();
         Ok((Turn::More(Stmt::destructure(at, names, value)), rest))
     }
 
@@ -69,11 +73,10 @@ impl<
             return Ok((Turn::More(Stmt::return_nothing(at)), rest));
         }
         let (value, rest) = self.whole(rest)?;
+        let value = Held::new(value);
         let (_, rest) = sign(Sign::Semicolon, rest)?;
-        Ok((
-            Turn::More(Stmt::return_value(self.parser.alloc, at, value)?),
-            rest,
-        ))
+        let stmt = Stmt::return_value(self.parser.alloc, at, value.into_inner())?;
+        Ok((Turn::More(stmt), rest))
     }
 
     #[tactic(auto, unfolding(vale_reading::specs::Reading::while_at))]
@@ -84,7 +87,9 @@ impl<
     {
         let (at, rest) = word(Word::While, tokens)?;
         let (condition, rest) = self.whole(rest)?;
+        let condition = Held::new(condition);
         let (block, rest) = self.block(rest)?;
+        let condition = condition.into_inner();
         Ok((Turn::More(Stmt::while_loop(at, condition, block)), rest))
     }
 
@@ -98,9 +103,12 @@ impl<
         let (name, rest) = self.parser.name(rest)?;
         let (_, rest) = word(Word::In, rest)?;
         let (from, rest) = self.whole(rest)?;
+        let from = Held::new(from);
         let (_, rest) = sign(Sign::DotDot, rest)?;
         let (to, rest) = self.whole(rest)?;
+        let to = Held::new(to);
         let (block, rest) = self.block(rest)?;
+        let (from, to) = (from.into_inner(), to.into_inner());
         Ok((Turn::More(Stmt::foreach(at, name, from, to, block)), rest))
     }
 

@@ -32,4 +32,4 @@ level-returns-in_err-links g m c =
 pub level-returns : goal.level-returns
 level-returns g m c =
     let more : 0 < c.args.height = omega arith in
-    rw c.in_ok-chained.ensures (level_read c.args.self.now.parser.now.names.now (within c.args.self.now.parser.now.names.now c.args.self.now.depth) c.args.tokens.now c.in_ok-first.rest.now (view_expr c.in_ok-first.first) c.args.height (links_of (map view_link c.in_ok-links.links)) c.in_ok-links.rest.now more c.in_ok-first.ensures (rw c.most_links-most.ensures at c.in_ok-links.ensures))
+    rw (c.in_ok-chained.ensures, c.into_inner-first.ensures, c.new-first.ensures) (level_read c.args.self.now.parser.now.names.now (within c.args.self.now.parser.now.names.now c.args.self.now.depth) c.args.tokens.now c.in_ok-first.rest.now (view_expr c.in_ok-first.first) c.args.height (links_of (map view_link c.in_ok-links.links)) c.in_ok-links.rest.now more c.in_ok-first.ensures (rw c.most_links-most.ensures at c.in_ok-links.ensures))
