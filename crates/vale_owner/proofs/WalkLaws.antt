@@ -1,6 +1,6 @@
 -- What is found behind each part, by its own parts.
 use Rattle.std.proofs.Common.{◌≡◌, ℕ, List, [], ◌∷◌, ◌++◌, length, refl, ap, sym, ◌∙◌, append-nil}
-use Rattle.std.specs.Prelude.{ℤ, Bool, true, false, ◌&&◌, ◌||◌, Option, None, map, option_map, if◌then◌else◌}
+use Rattle.std.specs.Prelude.{ℤ, Bool, true, false, ◌&&◌, ◌||◌, Option, Some, None, map, option_map, if◌then◌else◌}
 use Rattle.vale_base.specs.declared.name.Name.{Name}
 use Rattle.vale_base.specs.declared.spot.Spot.{Spot}
 use Rattle.vale_syntax.specs.declared.fault.Fault.{Fault}
@@ -11,18 +11,19 @@ use Rattle.vale_syntax.specs.declared.tree.NameAt.{NameAt}
 use Rattle.vale_syntax.specs.Judged.{own, first_of}
 use Rattle.vale_syntax.specs.Types as y
 use Rattle.vale_syntax.specs.Typed as t
+use Rattle.vale_syntax.specs.View.{listed}
 use Rattle.vale_core.specs.declared.tree.Expr.{Expr, out-Expr}
 use Rattle.vale_core.specs.declared.tree.Link.{Link, out-Link}
 use Rattle.vale_core.specs.declared.tree.ElseIf.{ElseIf, out-ElseIf}
 use Rattle.vale_core.specs.declared.tree.Block.{Block, out-Block}
-use Rattle.vale_core.specs.View.{view_expr, view_node, view_stmt, view_block, view_else_if, view_link, stmts_of}
+use Rattle.vale_core.specs.View.{view_expr, view_node, view_stmt, view_block, view_else_if, view_link, stmts_of, last_end, return_of}
 use Rattle.vale_core.proofs.ViewLaws as v
 use Rattle.vale_ownership.proofs.PartLaws.{of_out_expr, of_out_link, of_out_block, of_out_else_if}
 use Rattle.vale_ownership.specs.Owned.{Flow, still, ◌then◌, expr_flow, node_flow, exprs_flow, links_flow, step_flow, steps_flow, form_flow, elses_flow, block_flow, body_flow, stmts_flow, stmt_flow, way, agree, behind, loop_rules}
 use Rattle.vale_ownership.specs.Returned.{block_returns}
 use Rattle.vale_ownership.specs.Whole.{Locals, are_alike}
 use Rattle.vale_owner.specs.Found.{Found, earlier, going, naming, judged, told, with_first, back_to, closed, declaring, declaring_all, loop_ended, Kept, no_ways, with_way, with_ways, Sided, sided, branch_ended, or_else}
-use Rattle.vale_owner.specs.After.{after_expr, after_node, after_exprs, after_link, after_links, after_step, after_steps, after_form, after_block, after_body, after_stmts, after_stmt, after_set, after_iteration, after_side, ways_of_side, after_else_if, ways_of_else_if, after_sides, may_skip, link_flow}
+use Rattle.vale_owner.specs.After.{after_expr, after_node, after_exprs, after_link, after_links, after_step, after_steps, after_form, after_block, after_body, after_stmts, after_stmt, after_set, after_iteration, after_side, ways_of_side, after_else_if, ways_of_else_if, after_else_ifs, ways_of_else_ifs, after_sides, may_skip, link_flow}
 use Rattle.vale_owner.proofs.FoundLaws.{made, in_turn, earlier_none, going_still, going_then, all_ways, ways_behind, one_way}
 use Rattle.vale_owner.proofs.LocalLaws.{alike_itself}
 
@@ -179,8 +180,13 @@ module _ (f : Found) where
       ∙ ap (λ z. sides_made (earlier (earlier (earlier f.first (first_of (expr_flow c f.locals).faults)) (first_of bs)) (first_of (elses_flow es ls).faults)) z)
       (one_way (block_returns b) (block_flow b ls).after (elses_flow es ls).ways k)
 
-  -- ---- forms
+pub sides_by_parts : (es : List t.ElseIf) (end : t.Elses) (f : Found) (k : Kept) → after_sides (listed t.more_elses es end) f k ≡ after_sides end (after_else_ifs es f) (ways_of_else_ifs es f k)
+sides_by_parts [] end f k = refl
+sides_by_parts (e ∷ es) end f k = more_sides f e (listed t.more_elses es end) k ∙ sides_by_parts es end (after_else_if e f) (ways_of_else_if e f k)
 
+-- ---- forms
+
+module _ (f : Found) where
   pub at_if : (at : Spot) (c : t.Expr) (b : t.Block) (es : t.Elses) → after_form (t.branch at c b es) f ≡ branch_ended at f.locals (after_sides es (after_side b (after_expr c f)) (ways_of_side b (after_expr c f) no_ways))
   unfolding after_form after_sides after_side ways_of_side after_block after_expr back_to branch_ended
   at_if at c b es =
@@ -240,6 +246,11 @@ module _ (f : Found) where
   unfolding after_stmts after_stmt
   more_stmts s ss = going_then (stmt_flow s) (stmts_flow ss) f
 
+  pub at_return : (at : Spot) (e : Option t.Expr) → after_stmt (return_of at e) f ≡ after_stmts (last_end e) f
+  unfolding after_stmt after_stmts
+  at_return at None = refl
+  at_return at (Some e) = refl
+
   pub at_declare : (n : NameAt) (x : y.Ty) (e : t.Expr) → after_stmt (t.declare n x e) f ≡ declaring n (after_expr e f)
   unfolding after_stmt after_expr declaring
   at_declare n x e = refl
@@ -247,14 +258,6 @@ module _ (f : Found) where
   pub at_destructure : (at : Spot) (ns : List NameAt) (xs : List y.Ty) (e : t.Expr) → after_stmt (t.destructure at ns xs e) f ≡ declaring_all ns (after_expr e f)
   unfolding after_stmt after_expr declaring_all
   at_destructure at ns xs e = refl
-
-  pub at_return_nothing : (at : Spot) → after_stmt (t.return_nothing at) f ≡ f
-  unfolding after_stmt
-  at_return_nothing at = going_still f
-
-  pub at_return_value : (at : Spot) (e : t.Expr) → after_stmt (t.return_value at e) f ≡ after_expr e f
-  unfolding after_stmt after_expr
-  at_return_value at e = refl
 
   pub at_while : (at : Spot) (c : t.Expr) (b : t.Block) → after_stmt (t.while at c b) f ≡ loop_ended at (are_alike f.locals (after_expr c f).locals) (after_expr c f).locals (block_returns b) (after_block b (after_expr c f))
   unfolding after_stmt after_expr after_block loop_ended
@@ -288,6 +291,13 @@ module _ (f : Found) where
   unfolding after_stmt after_expr
   at_express e = refl
 
+pub stmts_by_parts : (ss : List t.Stmt) (end : t.Stmts) (f : Found) → after_stmts (listed t.more_stmts ss end) f ≡ after_stmts end (after_stmts (listed t.more_stmts ss t.no_stmts) f)
+stmts_by_parts [] end f = ap (λ z. after_stmts end z) (sym (no_stmts f))
+stmts_by_parts (s ∷ ss) end f =
+    more_stmts f s (listed t.more_stmts ss end)
+    ∙ stmts_by_parts ss end (after_stmt s f)
+    ∙ ap (λ z. after_stmts end z) (sym (more_stmts f s (listed t.more_stmts ss t.no_stmts)))
+
 pub set_is : (p e : t.Expr) (f : Found) → after_set p e f ≡ told (after_expr e (with_first None f)).first (after_expr p (with_first f.first (after_expr e (with_first None f))))
 unfolding after_set
 set_is p e f = refl
@@ -296,9 +306,7 @@ set_is p e f = refl
 
 pub ruleset exprs = (expr_by_parts)
 
-pub ruleset nodes = (v.of_set, v.of_chain, v.of_unary, v.of_steps, v.of_number, v.of_quote, v.of_truth, v.of_name, v.of_call, v.of_paren, v.of_elements, v.of_isolate, v.of_form, at_set, at_chain, at_unary, at_steps, at_number, at_quote, at_truth, at_name, at_call, at_paren, at_array, at_iso, at_form)
-
-pub ruleset sets = (set_is)
+pub ruleset nodes = (v.of_set, v.of_chain, v.of_unary, v.of_steps, v.of_number, v.of_quote, v.of_truth, v.of_name, v.of_call, v.of_paren, v.of_elements, v.of_isolate, v.of_form, at_set, at_chain, at_unary, at_steps, at_number, at_quote, at_truth, at_name, at_call, at_paren, at_array, at_iso, at_form, set_is)
 
 pub ruleset lists = (no_exprs, more_exprs, no_links, more_links, no_steps, more_steps, no_stmts, the_last, more_stmts)
 
@@ -306,12 +314,12 @@ pub ruleset links = (link_by_parts)
 
 pub ruleset steps = (v.of_field, v.of_method, v.of_index, at_field, at_method, at_index)
 
-pub ruleset forms = (v.of_if, v.of_pure, v.of_parallel_range, v.of_parallel_each, at_if, at_pure, at_range, at_each)
+pub ruleset forms = (sides_by_parts, v.of_if, v.of_pure, v.of_parallel_range, v.of_parallel_each, at_if, at_pure, at_range, at_each)
 
 pub ruleset sides = (iteration_is, side_is, ways_are)
 
-pub ruleset else_ifs = (else_if_by_parts, else_if_ways_by_parts, no_else, otherwise, more_sides)
+pub ruleset else_ifs = (else_if_by_parts, else_if_ways_by_parts, no_else, otherwise)
 
-pub ruleset blocks = (block_by_parts, body_by_parts)
+pub ruleset blocks = (block_by_parts, body_by_parts, stmts_by_parts)
 
-pub ruleset stmts = (v.of_declare, v.of_destructure, v.of_return_nothing, v.of_return_value, v.of_while, v.of_foreach, v.of_form_stmt, v.of_express, at_declare, at_destructure, at_return_nothing, at_return_value, at_while, at_foreach, at_form_stmt, at_express)
+pub ruleset stmts = (v.of_declare, v.of_destructure, v.of_return, v.of_while, v.of_foreach, v.of_form_stmt, v.of_express, at_declare, at_destructure, at_return, at_while, at_foreach, at_form_stmt, at_express)

@@ -1,5 +1,5 @@
 -- What is found behind each part of a body, by its flow.
-use Rattle.std.specs.Prelude.{Bool, true, false, Option, Some, None}
+use Rattle.std.specs.Prelude.{Bool, true, false, List, [], ◌∷◌, Option, Some, None}
 use Rattle.vale_syntax.specs.declared.tree.BinaryOp.{BinaryOp}
 use Rattle.vale_syntax.specs.declared.tree.BinaryOp.TheVariants.{Or, And}
 use Rattle.vale_syntax.specs.declared.tree.NameAt.{NameAt}
@@ -80,6 +80,14 @@ after_else_if (else_if at c b) f = after_side b (after_expr c f)
 
 unfoldable pub ways_of_else_if : ElseIf → Found → Kept → Kept
 ways_of_else_if (else_if at c b) f k = ways_of_side b (after_expr c f) k
+
+abbrev pub after_else_ifs : List ElseIf → Found → Found
+after_else_ifs [] f = f
+after_else_ifs (e ∷ es) f = after_else_ifs es (after_else_if e f)
+
+abbrev pub ways_of_else_ifs : List ElseIf → Found → Kept → Kept
+ways_of_else_ifs [] f k = k
+ways_of_else_ifs (e ∷ es) f k = ways_of_else_ifs es (after_else_if e f) (ways_of_else_if e f k)
 
 -- the sides of an `if` behind those before
 unfoldable pub after_sides : Elses → Found → Kept → Sided

@@ -1,8 +1,8 @@
 // The locals in scope, the last declared last.
-ghost use Rattle.std.specs.Prelude.{◌≡◌, ◌<◌, length, OnSome};
+ghost use Rattle.std.specs.Prelude.{◌≡◌, ◌<◌, length, IfSome};
 ghost use Rattle.vale_ownership.specs.Whole.{are_alike};
 ghost use Rattle.vale_owner.specs.Found.{in_scope};
-ghost use Rattle.vale_owner.specs.Places.{place_of};
+ghost use Rattle.vale_owner.specs.Places.{place_of, same};
 
 use vale_base::Name;
 
@@ -14,9 +14,10 @@ pub struct Local {
 }
 
 /// The place of the local of this name that was declared last.
+#[tactic(auto, using(crate::proofs::LocalLaws::places))]
 pub fn place_of(locals: &[Local], name: Name) -> Option<usize>
     ensures place { result ≡ place_of name.0 locals.now }
-    ensures within { OnSome result (λ at. at < length locals.now) }
+    ensures within { IfSome result (λ at. at < length locals.now) }
 {
     for back in 0..locals.len() {
         let at = locals.len() - 1 - back;
@@ -27,7 +28,14 @@ pub fn place_of(locals: &[Local], name: Name) -> Option<usize>
     None
 }
 
+fn same(one: bool, other: bool) -> bool
+    ensures { result ≡ same one other }
+{
+    if one { other } else { !other }
+}
+
 /// Whether the same locals are whole.
+#[tactic(auto, using(crate::proofs::LocalLaws::likeness))]
 pub fn are_alike(one: &[Local], other: &[Local]) -> bool
     ensures { result ≡ are_alike (in_scope one.now) (in_scope other.now) }
 {
@@ -35,7 +43,7 @@ pub fn are_alike(one: &[Local], other: &[Local]) -> bool
         return false;
     }
     for at in 0..one.len() {
-        if one[at].whole != other[at].whole {
+        if !same(one[at].whole, other[at].whole) {
             return false;
         }
     }

@@ -19,7 +19,7 @@ pub struct SoFar {
 
 impl SoFar {
     /// No fault, and no locals. It takes no memory.
-    #[tactic(auto, unfolding(crate::specs::Found::found, crate::specs::Found::nothing))]
+    #[tactic(auto, unfolding(crate::specs::Found::found, crate::specs::Found::nothing, crate::specs::Found::in_scope))]
     pub fn new(alloc: Global) -> Self
         ensures { found result ≡ nothing }
     {
@@ -81,7 +81,7 @@ impl SoFar {
     }
 
     /// Whether the local that the name stands for is whole. What isn't in scope is.
-    #[tactic(auto, using(crate::proofs::LocalLaws::whole_at), unfolding(crate::specs::Found::found))]
+    #[tactic(auto, using(crate::proofs::LocalLaws::wholes), unfolding(crate::specs::Found::found))]
     pub fn is_whole(&self, name: Name) -> bool
         ensures { result ≡ is_whole name.0 (found self.now).locals }
     {
@@ -92,7 +92,7 @@ impl SoFar {
     }
 
     /// The local is moved.
-    #[tactic(auto, using(crate::proofs::LocalLaws::moved_at), unfolding(crate::specs::Found::found, crate::specs::Found::moving))]
+    #[tactic(auto, using(crate::proofs::LocalLaws::moves), unfolding(crate::specs::Found::found, crate::specs::Found::moving))]
     pub fn move_out(&mut self, name: Name)
         ensures { found self.new ≡ moving name.0 (found self.old) }
     {

@@ -1,7 +1,7 @@
 // What a body does to its locals, in one walk over it.
-ghost use Rattle.std.specs.Prelude.{◌≡◌, map, option_map, OnOk};
-ghost use Rattle.vale_core.specs.View.{view_expr, view_node, view_form, view_step, view_stmt, view_block, view_link, view_else_if, exprs_of, links_of, steps_of, elses_of, else_end, stmts_of, last_end};
-ghost use Rattle.vale_owner.specs.After.{after_expr, after_node, after_exprs, after_link, after_links, after_step, after_steps, after_form, after_block, after_body, after_stmts, after_stmt, after_set, after_iteration, after_side, ways_of_side, after_else_if, ways_of_else_if, after_sides, may_skip};
+ghost use Rattle.std.specs.Prelude.{◌≡◌, None, map, option_map, OnOk};
+ghost use Rattle.vale_core.specs.View.{view_expr, view_node, view_form, view_step, view_stmt, view_block, view_link, view_else_if, exprs_of, links_of, steps_of, else_end, stmts_of, last_end};
+ghost use Rattle.vale_owner.specs.After.{after_expr, after_node, after_exprs, after_link, after_links, after_step, after_steps, after_form, after_block, after_body, after_stmts, after_stmt, after_iteration, after_side, ways_of_side, after_else_if, ways_of_else_if, after_else_ifs, ways_of_else_ifs, after_sides, may_skip};
 ghost use Rattle.vale_owner.specs.Found.{found, kept, sided};
 
 use crate::so_far::SoFar;
@@ -34,15 +34,23 @@ fn walk_node(alloc: Global, node: &Node, so_far: &mut SoFar) -> Result<(), Memor
     ensures { OnOk result (found so_far.new ≡ after_node (view_node node.now) (found so_far.old)) }
 {
     match node {
-        Node::Set(_, place, value) => walk_set(alloc, place.get(), value.get(), so_far),
+        // The value comes before the place, though the place stands first in the tree.
+        Node::Set(_, place, value) => {
+            let before = so_far.exchange(None);
+            walk_expr(alloc, value.get(), so_far)?;
+            let of_value = so_far.exchange(before);
+            walk_expr(alloc, place.get(), so_far)?;
+            so_far.tell(of_value);
+            Ok(())
+        }
         Node::Chain(operand, links) => {
             walk_expr(alloc, operand.get(), so_far)?;
-            walk_links(alloc, links.as_slice(), so_far)
+            walk_links(alloc, links, so_far)
         }
         Node::Unary(_, _, operand) => walk_expr(alloc, operand.get(), so_far),
         Node::Steps(base, steps) => {
             walk_expr(alloc, base.get(), so_far)?;
-            walk_steps(alloc, steps.as_slice(), so_far)
+            walk_steps(alloc, steps, so_far)
         }
         Node::Number(..) | Node::Quote(..) | Node::Truth(..) => Ok(()),
         Node::Name(name, is_moved) => {
@@ -55,25 +63,6 @@ fn walk_node(alloc: Global, node: &Node, so_far: &mut SoFar) -> Result<(), Memor
         Node::Iso(_, block) => walk_block(alloc, block, so_far),
         Node::Form(form) => walk_form(alloc, form.get(), so_far),
     }
-}
-
-// The value comes before the place, though the place stands first in the tree.
-#[cycle(walk)]
-#[tactic(auto, using(crate::proofs::WalkLaws::sets))]
-fn walk_set(
-    alloc: Global,
-    place: &Expr,
-    value: &Expr,
-    so_far: &mut SoFar,
-) -> Result<(), Memory>
-    ensures { OnOk result (found so_far.new ≡ after_set (view_expr place.now) (view_expr value.now) (found so_far.old)) }
-{
-    let before = so_far.exchange(None);
-    walk_expr(alloc, value, so_far)?;
-    let of_value = so_far.exchange(before);
-    walk_expr(alloc, place, so_far)?;
-    so_far.tell(of_value);
-    Ok(())
 }
 
 #[cycle(walk)]
@@ -104,10 +93,11 @@ fn walk_link(alloc: Global, link: &Link, so_far: &mut SoFar) -> Result<(), Memor
 
 #[cycle(walk)]
 #[tactic(auto, using(crate::proofs::WalkLaws::lists))]
-fn walk_links(alloc: Global, links: &[Link], so_far: &mut SoFar) -> Result<(), Memory>
+fn walk_links(alloc: Global, links: &Items<Link>, so_far: &mut SoFar) -> Result<(), Memory>
     ensures { OnOk result (found so_far.new ≡ after_links (links_of (map view_link links.now)) (found so_far.old)) }
 {
-    for link in links {
+    let slice = links.as_slice();
+    for link in slice {
         walk_link(alloc, link, so_far)?;
     }
     Ok(())
@@ -127,10 +117,11 @@ fn walk_step(alloc: Global, step: &Step, so_far: &mut SoFar) -> Result<(), Memor
 
 #[cycle(walk)]
 #[tactic(auto, using(crate::proofs::WalkLaws::lists))]
-fn walk_steps(alloc: Global, steps: &[Step], so_far: &mut SoFar) -> Result<(), Memory>
+fn walk_steps(alloc: Global, steps: &Items<Step>, so_far: &mut SoFar) -> Result<(), Memory>
     ensures { OnOk result (found so_far.new ≡ after_steps (steps_of (map view_step steps.now)) (found so_far.old)) }
 {
-    for step in steps {
+    let slice = steps.as_slice();
+    for step in slice {
         walk_step(alloc, step, so_far)?;
     }
     Ok(())
@@ -147,7 +138,8 @@ fn walk_form(alloc: Global, form: &Form, so_far: &mut SoFar) -> Result<(), Memor
             let mut ways = Ways::none();
             walk_expr(alloc, condition, so_far)?;
             walk_side(alloc, block, so_far, &mut ways)?;
-            walk_sides(alloc, else_ifs, otherwise, so_far, &mut ways)?;
+            walk_else_ifs(alloc, else_ifs, so_far, &mut ways)?;
+            walk_else(alloc, otherwise, so_far, &mut ways)?;
             so_far.end_branch(*at, before, ways);
             Ok(())
         }
@@ -217,20 +209,20 @@ fn walk_else_if(
 
 #[cycle(walk)]
 #[tactic(auto, using(crate::proofs::WalkLaws::else_ifs))]
-fn walk_sides(
+fn walk_else_ifs(
     alloc: Global,
     else_ifs: &Items<ElseIf>,
-    otherwise: &Option<Block>,
     so_far: &mut SoFar,
     ways: &mut Ways,
 ) -> Result<(), Memory>
-    ensures { OnOk result (sided (found so_far.new) (kept ways.new) ≡ after_sides (elses_of (map view_else_if else_ifs.now) (option_map view_block otherwise.now)) (found so_far.old) (kept ways.old)) }
+    ensures found { OnOk result (found so_far.new ≡ after_else_ifs (map view_else_if else_ifs.now) (found so_far.old)) }
+    ensures way { OnOk result (kept ways.new ≡ ways_of_else_ifs (map view_else_if else_ifs.now) (found so_far.old) (kept ways.old)) }
 {
     let slice = else_ifs.as_slice();
     for else_if in slice {
         walk_else_if(alloc, else_if, so_far, ways)?;
     }
-    walk_else(alloc, otherwise, so_far, ways)
+    Ok(())
 }
 
 // What stands behind the last `else`; without it the locals stay as they are.
@@ -261,7 +253,8 @@ fn walk_block(alloc: Global, block: &Block, so_far: &mut SoFar) -> Result<(), Me
     ensures { OnOk result (found so_far.new ≡ after_block (view_block block.now) (found so_far.old)) }
 {
     let outer = so_far.count();
-    walk_stmts(alloc, &block.stmts, &block.last, so_far)?;
+    walk_stmts(alloc, &block.stmts, so_far)?;
+    walk_last(alloc, &block.last, so_far)?;
     so_far.close(outer);
     Ok(())
 }
@@ -279,32 +272,33 @@ fn walk_body(
 {
     let outer = so_far.count();
     so_far.declare(name)?;
-    walk_stmts(alloc, &block.stmts, &block.last, so_far)?;
+    walk_stmts(alloc, &block.stmts, so_far)?;
+    walk_last(alloc, &block.last, so_far)?;
     so_far.close(outer);
     Ok(())
 }
 
-/// The statements of a block, and its last expression.
+/// The statements of a block.
 #[cycle(walk)]
 #[tactic(auto, using(crate::proofs::WalkLaws::lists))]
 pub fn walk_stmts(
     alloc: Global,
     stmts: &Items<Stmt>,
-    last: &Option<Boxed<Expr>>,
     so_far: &mut SoFar,
 ) -> Result<(), Memory>
-    ensures { OnOk result (found so_far.new ≡ after_stmts (stmts_of (map view_stmt stmts.now) (option_map view_expr last.now)) (found so_far.old)) }
+    ensures { OnOk result (found so_far.new ≡ after_stmts (stmts_of (map view_stmt stmts.now) None) (found so_far.old)) }
 {
     let slice = stmts.as_slice();
     for stmt in slice {
         walk_stmt(alloc, stmt, so_far)?;
     }
-    walk_last(alloc, last, so_far)
+    Ok(())
 }
 
+/// The last expression of a block, where there is one.
 #[cycle(walk)]
 #[tactic(auto, using(crate::proofs::WalkLaws::lists))]
-fn walk_last(
+pub fn walk_last(
     alloc: Global,
     last: &Option<Boxed<Expr>>,
     so_far: &mut SoFar,
@@ -331,8 +325,7 @@ fn walk_stmt(alloc: Global, stmt: &Stmt, so_far: &mut SoFar) -> Result<(), Memor
             walk_expr(alloc, value, so_far)?;
             so_far.declare_all(names.as_slice())
         }
-        Stmt::Return(_, None) => Ok(()),
-        Stmt::Return(_, Some(value)) => walk_expr(alloc, value.get(), so_far),
+        Stmt::Return(_, value) => walk_last(alloc, value, so_far),
         Stmt::While(at, condition, block) => {
             let before = so_far.copy(alloc)?;
             walk_expr(alloc, condition, so_far)?;
