@@ -1,4 +1,5 @@
 pub mod FoundLaws
 pub mod ListLaws
 pub mod LocalLaws
+pub mod MoveLaws
 pub mod WalkLaws

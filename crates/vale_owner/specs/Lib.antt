@@ -1,3 +1,4 @@
 pub mod After
 pub mod Found
+pub mod Moves
 pub mod Places

@@ -3,6 +3,7 @@
 #![tactic(auto)]
 
 mod locals;
+mod moves;
 mod so_far;
 mod walk;
 mod ways;
