@@ -1,4 +1,5 @@
 pub mod FoundLaws
+pub mod FunctionLaws
 pub mod ListLaws
 pub mod LocalLaws
 pub mod MoveLaws

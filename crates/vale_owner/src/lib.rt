@@ -7,3 +7,6 @@ mod moves;
 mod so_far;
 mod walk;
 mod ways;
+mod whole;
+
+pub use whole::{OwnFault, own};

@@ -34,10 +34,12 @@ impl SoFar {
     pub fn declare(&mut self, name: NameAt) -> Result<(), Memory>
         ensures { OnOk result (found self.new ≡ declaring name (found self.old)) }
     {
-        Ok(self.locals.push(Local {
-            name: name.name,
-            whole: true,
-        })?)
+        Ok(
+            self.locals.push(Local {
+                name: name.name,
+                whole: true,
+            })?,
+        )
     }
 
     /// New locals, one after another.

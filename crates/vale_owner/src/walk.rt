@@ -262,12 +262,7 @@ fn walk_block(alloc: Global, block: &Block, so_far: &mut SoFar) -> Result<(), Me
 // The body of a loop over a local.
 #[cycle(walk)]
 #[tactic(auto, using(crate::proofs::WalkLaws::blocks))]
-fn walk_body(
-    alloc: Global,
-    name: NameAt,
-    block: &Block,
-    so_far: &mut SoFar,
-) -> Result<(), Memory>
+fn walk_body(alloc: Global, name: NameAt, block: &Block, so_far: &mut SoFar) -> Result<(), Memory>
     ensures { OnOk result (found so_far.new ≡ after_body name (view_block block.now) (found so_far.old)) }
 {
     let outer = so_far.count();
@@ -281,11 +276,7 @@ fn walk_body(
 /// The statements of a block.
 #[cycle(walk)]
 #[tactic(auto, using(crate::proofs::WalkLaws::lists))]
-pub fn walk_stmts(
-    alloc: Global,
-    stmts: &Items<Stmt>,
-    so_far: &mut SoFar,
-) -> Result<(), Memory>
+pub fn walk_stmts(alloc: Global, stmts: &Items<Stmt>, so_far: &mut SoFar) -> Result<(), Memory>
     ensures { OnOk result (found so_far.new ≡ after_stmts (stmts_of (map view_stmt stmts.now) None) (found so_far.old)) }
 {
     let slice = stmts.as_slice();
