@@ -3,7 +3,6 @@ pub mod FunctionLaws
 pub mod ListLaws
 pub mod PlainLaws
 pub mod ProgressLaws
-pub mod ReturnLaws
 pub mod SlotLaws
 pub mod StepLaws
 pub mod WalkLaws

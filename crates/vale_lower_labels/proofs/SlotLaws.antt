@@ -1,18 +1,15 @@
 -- What is known at a place, one slot at a time.
-use Rattle.std.proofs.Common.{◌≡◌, ℕ, zero, suc, ◌+◌, List, [], ◌∷◌, ◌++◌, length, refl, ap, ◌∙◌, arith, rules}
+use Rattle.std.proofs.Common.{◌≡◌, ℕ, zero, suc, ◌+◌, List, [], ◌∷◌, ◌++◌, length, refl, ap, ◌∙◌, arith}
 use Rattle.std.specs.Prelude.{Bool, map}
 use Rattle.vale_syntax.specs.Typed as t
 use Rattle.vale_core.specs.declared.tree.Expr.{Expr, out-Expr}
-use Rattle.vale_core.specs.declared.tree.Form.{the_lemmas}
-use Rattle.vale_core.specs.View.{view_ty, view_seen, view_expr, view_node, exprs_of}
+use Rattle.vale_core.specs.View.{view_ty, view_expr, exprs_of}
 use Rattle.vale_lowering.specs.Scopes.{place_of}
+use Rattle.vale_ownership.proofs.PartLaws.{of_out_expr}
 use Rattle.vale_lower_facts.specs.Slots as s
 use Rattle.vale_lower_facts.specs.Marks.{with_args}
 use Rattle.vale_lower_labels.specs.declared.slots.Local.{Local}
 use Rattle.vale_lower_labels.specs.Standing.{slot_of, framed, waited}
-
-pub of_out_expr : (e : Expr) → view_expr e ≡ t.expr (view_seen (out-Expr e).seen) (view_node (out-Expr e).node)
-of_out_expr e = search (rules, the_lemmas)
 
 pub type_by_parts : (e : Expr) → t.type (view_expr e) ≡ view_ty (out-Expr e).seen.value
 type_by_parts e = ap t.type (of_out_expr e)

@@ -19,8 +19,7 @@ use Rattle.vale_lowering.specs.Scopes.{Scope, Around, place_of, may_be_called}
 use Rattle.vale_lower_facts.specs.Slots.{Stand}
 use Rattle.vale_lower_facts.specs.Marks.{Marks, mark, marked}
 use Rattle.vale_lower_labels.specs.Shapes.{is_found, is_set, sets_local}
-use Rattle.vale_lower_labels.proofs.SlotLaws.{of_out_expr}
-use Rattle.vale_lower_labels.proofs.ReturnLaws.{of_out_block}
+use Rattle.vale_ownership.proofs.PartLaws.{of_out_expr, of_out_block}
 use Rattle.vale_lower_labels.proofs.ProgressLaws.{in_turn, no_marks}
 
 pub place_by_parts : (e : Expr) (s : Scope) → sets_local (view_expr e) s ≡ sets_local (t.expr (view_seen (out-Expr e).seen) (view_node (out-Expr e).node)) s

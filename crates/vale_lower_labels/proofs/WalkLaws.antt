@@ -24,12 +24,9 @@ use Rattle.vale_lower_labels.specs.Progress.{Progress, with_marks}
 use Rattle.vale_lower_labels.specs.Shapes.{is_set}
 use Rattle.vale_lower_labels.specs.Sides.{side_marks, sides_marks, sides_due}
 use Rattle.vale_lower_labels.proofs.ProgressLaws.{in_turn, no_marks}
-use Rattle.vale_lower_labels.proofs.SlotLaws.{of_out_expr, type_by_parts, waited_more, args_are_waited}
-use Rattle.vale_lower_labels.proofs.ReturnLaws.{of_out_block, of_out_else_if}
+use Rattle.vale_ownership.proofs.PartLaws.{of_out_expr, of_out_link, of_out_block, of_out_else_if}
+use Rattle.vale_lower_labels.proofs.SlotLaws.{type_by_parts, waited_more, args_are_waited}
 use Rattle.vale_lower_labels.proofs.StepLaws.{of_store, of_callee}
-
-of_out_link : (l : Link) → view_link l ≡ t.link (view_seen (out-Link l).seen) (out-Link l).at (out-Link l).op (view_expr (out-Link l).operand)
-of_out_link l = search (rules, the_lemmas)
 
 -- ---- expressions
 

@@ -6,13 +6,6 @@ use Rattle.vale_ownership.specs.Returned.{block_returns}
 use Rattle.vale_lower_facts.specs.Slots.{Stand, with_slot, holds, given, behind}
 use Rattle.vale_lower_facts.specs.Marks.{Marks, mark, value_marks, value_due, block_marks, block_due}
 
-abbrev pub else_if_returns : ElseIf → Bool
-else_if_returns (else_if at c b) = block_returns b
-
-abbrev pub each_returns : List ElseIf → Bool
-each_returns [] = true
-each_returns (e ∷ es) = else_if_returns e && each_returns es
-
 -- a test, a block, and a jump
 abbrev pub side_marks : Around → Bool → ElseIf → ℕ → Stand → Bool → Marks
 side_marks around gives (else_if at c b) h s due =

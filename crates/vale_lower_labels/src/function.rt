@@ -14,7 +14,6 @@ ghost use Rattle.vale_lower_labels.specs.Standing.{framed};
 
 use crate::frame::Frame;
 use crate::labels::{Labels, above};
-use crate::returned::block_returns;
 use crate::slots::Slots;
 use crate::walk::walk_block;
 use std::alloc::Global;
@@ -22,6 +21,7 @@ use vale_base::Memory;
 use vale_cert::{FuncFacts, Label};
 use vale_code::{Sequence, Ty as CodeTy};
 use vale_core::{Block, Function};
+use vale_ownership::block_returns;
 use vale_syntax::{Param, TypeExpr};
 use vale_type_rules::type_of;
 

@@ -5,7 +5,6 @@ mod frame;
 mod function;
 mod known;
 mod labels;
-mod returned;
 mod slots;
 mod steps;
 mod walk;

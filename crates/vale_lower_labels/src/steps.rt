@@ -15,11 +15,11 @@ ghost use Rattle.vale_lower_labels.specs.Standing.{stand, slots_of};
 ghost use Rattle.vale_lower_facts.specs.Slots as s;
 
 use crate::labels::Labels;
-use crate::returned::block_returns;
 use crate::slots::{Slots, is_local};
 use std::alloc::Global;
 use vale_base::Memory;
 use vale_core::{Block, Expr, Node, Ty};
+use vale_ownership::block_returns;
 use vale_syntax::UnaryOp;
 
 // Whether what is set is a local.

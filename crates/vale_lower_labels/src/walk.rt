@@ -11,7 +11,6 @@ ghost use Rattle.vale_ownership.specs.Returned.{stmt_returns};
 
 use crate::frame::Frame;
 use crate::labels::{Labels, above};
-use crate::returned::{expr_returns, stmt_returns};
 use crate::slots::{Local, Slots};
 use crate::steps::{
     begin_count, begin_loop, end_count, end_loop, end_side, is_set, put_held, put_return, put_set,
@@ -21,6 +20,7 @@ use sqlite_items::{Boxed, Items};
 use std::alloc::Global;
 use vale_base::{Memory, Name};
 use vale_core::{Block, ElseIf, Expr, Form, Link, Node, Stmt, Ty};
+use vale_ownership::{expr_returns, stmt_returns};
 use vale_syntax::BinaryOp;
 
 // Whether a value is given exactly where one is wanted.

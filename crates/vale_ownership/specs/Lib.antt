@@ -1,3 +1,4 @@
 pub mod Owned
 pub mod Returned
+pub mod Sides
 pub mod Whole

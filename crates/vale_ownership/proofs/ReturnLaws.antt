@@ -1,19 +1,19 @@
 -- Whether a part always returns, by its own parts.
-use Rattle.std.proofs.Common.{◌≡◌, List, [], ◌∷◌, ◌++◌, refl, ap, sym, ◌∙◌, rules}
+use Rattle.std.proofs.Common.{◌≡◌, List, [], ◌∷◌, refl, ap, sym, ◌∙◌}
 use Rattle.std.specs.Prelude.{Bool, true, false, ◌&&◌, ◌||◌, Option, None, map, option_map}
 use Rattle.vale_base.specs.declared.spot.Spot.{Spot}
 use Rattle.vale_core.specs.declared.tree.Expr.{Expr, out-Expr}
 use Rattle.vale_core.specs.declared.tree.Block.{Block, out-Block}
 use Rattle.vale_core.specs.declared.tree.ElseIf.{ElseIf, out-ElseIf}
-use Rattle.vale_core.specs.declared.tree.Form.{Form, the_lemmas}
+use Rattle.vale_core.specs.declared.tree.Form.{Form}
 use Rattle.vale_core.specs.declared.tree.Form.TheVariants as f
 use Rattle.vale_syntax.specs.Typed as t
 use Rattle.vale_syntax.specs.View.{listed}
-use Rattle.vale_core.specs.View.{view_ty, view_seen, view_expr, view_node, view_form, view_stmt, view_block, view_else_if, elses_of, else_end, stmts_of, last_end}
+use Rattle.vale_core.specs.View.{view_expr, view_node, view_form, view_stmt, view_block, view_else_if, elses_of, else_end, stmts_of, last_end}
 use Rattle.vale_core.proofs.ViewLaws as v
 use Rattle.vale_ownership.specs.Returned.{block_returns, stmts_return, stmt_returns, expr_returns, node_returns, form_returns, elses_return}
-use Rattle.vale_lower_labels.specs.Sides.{else_if_returns, each_returns}
-use Rattle.vale_lower_labels.proofs.SlotLaws.{of_out_expr}
+use Rattle.vale_ownership.specs.Sides.{else_if_returns, each_returns}
+use Rattle.vale_ownership.proofs.PartLaws.{of_out_expr, of_out_else_if, of_out_block}
 
 pub or_or : (a b c : Bool) → (a || (b || c)) ≡ ((a || b) || c)
 or_or true b c = refl
@@ -22,12 +22,6 @@ or_or false b c = refl
 and_and : (a b c : Bool) → (a && (b && c)) ≡ ((a && b) && c)
 and_and true b c = refl
 and_and false b c = refl
-
-pub of_out_else_if : (e : ElseIf) → view_else_if e ≡ t.else_if (out-ElseIf e).at (view_expr (out-ElseIf e).condition) (view_block (out-ElseIf e).block)
-of_out_else_if e = search (rules, the_lemmas)
-
-pub of_out_block : (b : Block) → view_block b ≡ t.block (out-Block b).at (out-Block b).end (view_ty (out-Block b).ty) (stmts_of (map view_stmt (out-Block b).stmts) (option_map view_expr (out-Block b).last))
-of_out_block b = search (rules, the_lemmas)
 
 pub expr_by_parts : (e : Expr) → expr_returns (view_expr e) ≡ node_returns (view_node (out-Expr e).node)
 expr_by_parts e = ap expr_returns (of_out_expr e)

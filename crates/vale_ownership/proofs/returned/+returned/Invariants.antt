@@ -1,8 +1,8 @@
 use Rattle.std.proofs.Common.{◌≡◌, map, drop, None}
 use Rattle.vale_core.specs.View.{view_stmt, view_else_if, stmts_of}
 use Rattle.vale_ownership.specs.Returned.{stmts_return}
-use Rattle.vale_lower_labels.specs.Sides.{each_returns}
-use Rattle.vale_lower_labels.proofs.returned.+returned.Given as goal
+use Rattle.vale_ownership.specs.Sides.{each_returns}
+use Rattle.vale_ownership.proofs.returned.+returned.Given as goal
 
 -- it is up to what is left of the list
 

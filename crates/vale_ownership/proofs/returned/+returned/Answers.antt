@@ -2,8 +2,8 @@ use Rattle.std.proofs.Common.{◌≡◌, ◌∙◌, ap}
 use Rattle.std.specs.Prelude.{◌&&◌}
 use Rattle.vale_core.specs.View.{view_block}
 use Rattle.vale_ownership.specs.Returned.{block_returns}
-use Rattle.vale_lower_labels.proofs.ReturnLaws.{by_if}
-use Rattle.vale_lower_labels.proofs.returned.+returned.Goals as goal
+use Rattle.vale_ownership.proofs.ReturnLaws.{by_if}
+use Rattle.vale_ownership.proofs.returned.+returned.Goals as goal
 
 pub form_returns-returns-in-If : goal.form_returns-returns-in-If
 form_returns-returns-in-If t c =

@@ -2,7 +2,7 @@
 ghost use Rattle.std.specs.Prelude.{◌≡◌, ◌&&◌, None, map, option_map};
 ghost use Rattle.vale_core.specs.View.{view_expr, view_node, view_form, view_stmt, view_block, view_else_if, elses_of, else_end, stmts_of, last_end};
 ghost use Rattle.vale_ownership.specs.Returned as r;
-ghost use Rattle.vale_lower_labels.specs.Sides.{else_if_returns, each_returns};
+ghost use Rattle.vale_ownership.specs.Sides.{else_if_returns, each_returns};
 
 use sqlite_items::Boxed;
 use vale_core::{Block, ElseIf, Expr, Form, Node, Stmt};
