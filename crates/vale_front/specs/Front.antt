@@ -3,6 +3,7 @@ use Rattle.std.specs.Prelude.{ℕ, ◌≡◌, ◌≤◌, ◌<◌, true, false, L
 use Rattle.vale_base.specs.Limits.{program_limit}
 use Rattle.vale_base.specs.declared.spot.Spot.{Spot}
 use Rattle.vale_front.specs.Missing.{missing_in}
+use Rattle.vale_ownership.specs.Owned.{owned}
 use Rattle.vale_reading.specs.ItemReading.{all_of}
 use Rattle.vale_parser.specs.Refusal.{IsRefusal}
 use Rattle.vale_syntax.specs.Cut.{start, cut, LexFaultAt}
@@ -38,8 +39,11 @@ pub data Unsound (tree : Tree) (code : ℕ) (at : Spot) : Type 0 where
   ill_typed : (missing_in tree).unjudged ≡ false → (decls : Decls) → IsFine (declared tree) decls
       → (f : Fault) → IsFirstFault (typed tree) f → code ≡ f.code → at ≡ f.at
       → Unsound tree code at
+  ill_owned : (missing_in tree).unjudged ≡ false → (decls : Decls) (program : Typed) → IsFine (declared tree) decls
+      → IsFine (typed tree) program → (f : Fault) → IsFirstFault (owned program) f → code ≡ f.code → at ≡ f.at
+      → Unsound tree code at
   not_served : (missing_in tree).unjudged ≡ false → (decls : Decls) (program : Typed) → IsFine (declared tree) decls
-      → IsFine (typed tree) program → (missing_in tree).unserved ≡ true → code ≡ 5 → at ≡ start
+      → IsFine (typed tree) program → IsFine (owned program) program → (missing_in tree).unserved ≡ true → code ≡ 5 → at ≡ start
       → Unsound tree code at
 
 -- the tree breaks no rule, has this typed tree, and all of it is compiled
@@ -47,6 +51,7 @@ pub record Serves (tree : Tree) (decls : Decls) (program : Typed) : Type 0 where
   pub judged : (missing_in tree).unjudged ≡ false
   pub declares : IsFine (declared tree) decls
   pub types : IsFine (typed tree) program
+  pub owns : IsFine (owned program) program
   pub served : (missing_in tree).unserved ≡ false
 
 -- the text is refused with this code at this spot

@@ -15,6 +15,7 @@ use crate::refusal::Refusal;
 use std::alloc::Global;
 use vale_base::{Fail, Spot};
 use vale_core::Sound;
+use vale_owner::own;
 use vale_syntax::Tree;
 use vale_types::declare;
 use vale_typing::type_all;
@@ -24,7 +25,7 @@ const NOT_SERVED: Refusal = Refusal {
     at: Spot { line: 1, col: 1 },
 };
 
-// The typed tree of a text's tree, or why it is refused (docs/LANGUAGE.md, "Declarations" and "Types"). `Fail::Is` comes
+// The typed tree of a text's tree, or why it is refused (docs/LANGUAGE.md, "Declarations", "Types" and "Ownership"). `Fail::Is` comes
 // where a node breaks a rule, with the first such node of the first phase that finds one, and where the program has
 // something that isn't served yet; `Fail::Memory` may always come.
 pub fn judge(alloc: Global, tree: Tree) -> Result<Sound, Fail<Refusal>>
@@ -47,6 +48,11 @@ pub fn judge(alloc: Global, tree: Tree) -> Result<Sound, Fail<Refusal>>
         Err(Fail::Memory) => return Err(Fail::Memory),
     };
     let core = match type_all(alloc, tree, &decls) {
+        Ok(core) => core,
+        Err(Fail::Is(fault)) => return Err(Fail::Is(Refusal::of(fault))),
+        Err(Fail::Memory) => return Err(Fail::Memory),
+    };
+    let core = match own(alloc, core) {
         Ok(core) => core,
         Err(Fail::Is(fault)) => return Err(Fail::Is(Refusal::of(fault))),
         Err(Fail::Memory) => return Err(Fail::Memory),

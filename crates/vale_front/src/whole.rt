@@ -14,7 +14,7 @@ use std::alloc::Global;
 use vale_base::Fail;
 use vale_core::Sound;
 
-/// The typed tree of a program, or why it is refused: reading, declarations and types, in this order (docs/LANGUAGE.md).
+/// The typed tree of a program, or why it is refused: reading, declarations, types and ownership, in this order (docs/LANGUAGE.md).
 /// `Fail::Is` comes where the text is no well-formed program, and where the program has something that isn't served yet,
 /// as code 5 at 1:1; `Fail::Memory` may always come.
 pub fn front(alloc: Global, text: &[u8]) -> Result<Sound, Fail<Refusal>>

@@ -162,6 +162,30 @@ const TEXTS: &[(&str, Answer)] = &[
         Runs("1\n"),
     ),
     (
+        "struct S { } func main() { a = S(); drop(a); drop(a); }",
+        Refused("E30 at 1:51\n"),
+    ),
+    (
+        "struct S { } func main() { a = S(); if true { drop(a); } }",
+        Refused("E31 at 1:37\n"),
+    ),
+    (
+        "struct S { } func f(s S) bool { drop(s); return true; } func main() { a = S(); x = true and f(a); }",
+        Refused("E31 at 1:89\n"),
+    ),
+    (
+        "struct S { } func main() { a = S(); while true { drop(a); } }",
+        Refused("E32 at 1:37\n"),
+    ),
+    (
+        "struct S { } func drop(self S) { } func main() { }",
+        Refused("E33 at 1:19\n"),
+    ),
+    (
+        "struct S { } func main() { a = S(); if true { drop(a); } else { drop(a); } }",
+        NotServed,
+    ),
+    (
         "struct S { a! int; } func main() { s = S(1); set s.a = 2; println(s.a); }",
         NotServed,
     ),

@@ -1,7 +1,7 @@
 use Rattle.std.proofs.Common.{sym, ap, ◌∙◌, refl}
 use Rattle.std.specs.Prelude.{map}
 use Rattle.vale_core.specs.View.{view_core}
-use Rattle.vale_front.specs.Front.{ill_declared, ill_typed, not_served}
+use Rattle.vale_front.specs.Front.{ill_declared, ill_typed, ill_owned, not_served}
 use Rattle.vale_front.specs.declared.missing.Missing.{Missing}
 use Rattle.vale_front.proofs.MissingLaws.{plain_where_judged}
 use Rattle.vale_syntax.specs.View.{view_item, view_tree}
@@ -29,11 +29,18 @@ returns-in-Err-Is-type_all-clause-refused c =
     ill_typed judged c.in-Ok.decls c.in-Ok.ensures.declared c.in-Err-Is-type_all.fault why
     (rw c.in-Err-Is-type_all.field-0-is at c.of-in-Err-Is-type_all.ensures.code) (rw c.in-Err-Is-type_all.field-0-is at c.of-in-Err-Is-type_all.ensures.at)
 
+pub returns-in-Err-Is-own-clause-refused : goal.returns-in-Err-Is-own-clause-refused
+returns-in-Err-Is-own-clause-refused c =
+    let judged = ap (λ (z : Missing). z.unjudged) (sym c.missing_in-missing.ensures) ∙ c.if-missing.false in
+    let why = rw c.in-Err-Is-own.field-0-is at c.in-Err-Is-own.ensures.fault in
+    ill_owned judged c.in-Ok.decls (view_core c.in-Ok-type_all.core) c.in-Ok.ensures.declared c.in-Ok-type_all.ensures.typed c.in-Err-Is-own.fault why
+    (rw c.in-Err-Is-own.field-0-is at c.of-in-Err-Is-own.ensures.code) (rw c.in-Err-Is-own.field-0-is at c.of-in-Err-Is-own.ensures.at)
+
 pub returns-then-missing-2-clause-refused : goal.returns-then-missing-2-clause-refused
 returns-then-missing-2-clause-refused c =
     let judged = ap (λ (z : Missing). z.unjudged) (sym c.missing_in-missing.ensures) ∙ c.if-missing.false in
     let unserved = ap (λ (z : Missing). z.unserved) (sym c.missing_in-missing.ensures) ∙ c.if-missing-2.true in
-    not_served judged c.in-Ok.decls (view_core c.in-Ok-type_all.core) c.in-Ok.ensures.declared c.in-Ok-type_all.ensures.typed unserved refl refl
+    not_served judged c.in-Ok.decls (view_core c.in-Ok-type_all.core) c.in-Ok.ensures.declared c.in-Ok-type_all.ensures.typed (rw c.in-Ok-own.ensures.same at c.in-Ok-own.ensures.owned) unserved refl refl
 
 pub invariant_of-result : goal.invariant_of-result
 invariant_of-result c =
@@ -46,7 +53,7 @@ invariant_of-result c =
         record {
           reads = c.requires.2;
           declares = c.in-Ok.ensures.declared;
-          types = c.in-Ok-type_all.ensures.typed;
+          types = rw c.in-Ok-own.ensures.same c.in-Ok-type_all.ensures.typed;
         },
       ) ∣₁;
     }
