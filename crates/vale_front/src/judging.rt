@@ -25,9 +25,9 @@ const NOT_SERVED: Refusal = Refusal {
     at: Spot { line: 1, col: 1 },
 };
 
-// The typed tree of a text's tree, or why it is refused (docs/LANGUAGE.md, "Declarations", "Types" and "Ownership"). `Fail::Is` comes
-// where a node breaks a rule, with the first such node of the first phase that finds one, and where the program has
-// something that isn't served yet; `Fail::Memory` may always come.
+// The typed tree of a text's tree, or why it is refused (docs/LANGUAGE.md, "Declarations", "Types" and "Ownership").
+// `Fail::Is` comes where a node breaks a rule, with the first such node of the first phase that finds one, and where the
+// program has something that isn't served yet; `Fail::Memory` may always come.
 pub fn judge(alloc: Global, tree: Tree) -> Result<Sound, Fail<Refusal>>
     // some text of bytes is read as the tree
     requires { (text : List ℕ) × (list_all is_byte text ≡ true) × Reads text (view_tree tree) }
