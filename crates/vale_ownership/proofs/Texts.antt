@@ -9,7 +9,7 @@ use Rattle.vale_syntax.specs.declared.fault.Fault.{Fault}
 use Rattle.vale_syntax.specs.Judged.{Judged, fine, faulty, faults, first_of}
 use Rattle.vale_syntax.specs.Typed.{Typed}
 use Rattle.vale_syntax.specs.Typing.{typed}
-use Rattle.vale_syntax.specs.Tree.{int_type, bool_type, named_type, array_type, set, chain, unary, steps, number, truth, name, call, paren, array, iso, form, no_exprs, more_exprs, link, no_links, more_links, field, index, no_steps, more_steps, branch, pure, else_if, no_else, otherwise, more_elses, block, declare, destructure, return_nothing, return_value, while, foreach, form_stmt, express, no_stmts, last, more_stmts, param, head, function, field_decl, Item, struct_item, function_item, tree}
+use Rattle.vale_syntax.specs.Tree.{int_type, bool_type, named_type, array_type, set, chain, unary, steps, number, truth, name, call, paren, array, iso, form, no_exprs, more_exprs, link, no_links, more_links, field, index, no_steps, more_steps, branch, pure, else_if, no_else, otherwise, more_elses, block, declare, destructure, return_nothing, return_value, while, foreach, form_stmt, express, no_stmts, last, more_stmts, param, head, function, field_decl, Item, struct_item, function_item, tree, iso_type, ref_type, parallel_each, interface_item, impl_item}
 use Rattle.vale_ownership.specs.Owned.{owned}
 
 -- ---- nodes, with their columns in a text of one line
@@ -156,6 +156,18 @@ the_second_operand_of_or_moves = refl
 the_second_operand_moves_a_local_of_its_own : text (codes "S" ∷ codes "f" ∷ codes "s" ∷ codes "drop" ∷ codes "main" ∷ codes "x" ∷ codes "a" ∷ []) (struct_item (n 0 8) [] ∷ function_item (function (head false (n 1 19) (param (n 2 21) (named_type (n 0 23)) ∷ []) (Some (bool_type (at 26)))) (block (at 31) (at 55) (more_stmts (express (call (n 3 33) (more_exprs (name (n 2 38)) no_exprs))) (more_stmts (return_value (at 42) (truth (at 49) true)) no_stmts)))) ∷ function_item (function (head false (n 4 62) [] None) (block (at 69) (at 126) (more_stmts (declare (n 5 71) (chain (truth (at 75) true) (more_links (link (at 80) And (form (branch (at 84) (truth (at 87) true) (block (at 92) (at 108) (more_stmts (declare (n 6 94) (call (n 0 98) no_exprs)) (last (call (n 1 103) (more_exprs (name (n 6 105)) no_exprs))))) (otherwise (block (at 115) (at 123) (last (truth (at 117) false))))))) no_links))) no_stmts))) ∷ []) ≡ None
 the_second_operand_moves_a_local_of_its_own = refl
 
+-- struct S { } func main() { a = S(); b = if true { a } else { S() }; }
+a_value_is_moved_on_one_side : text (codes "S" ∷ codes "main" ∷ codes "a" ∷ codes "b" ∷ []) (struct_item (n 0 8) [] ∷ function_item (function (head false (n 1 19) [] None) (block (at 26) (at 69) (more_stmts (declare (n 2 28) (call (n 0 32) no_exprs)) (more_stmts (declare (n 3 37) (form (branch (at 41) (truth (at 44) true) (block (at 49) (at 53) (last (name (n 2 51)))) (otherwise (block (at 60) (at 66) (last (call (n 0 62) no_exprs))))))) no_stmts)))) ∷ []) ≡ fault 31 41
+a_value_is_moved_on_one_side = refl
+
+-- struct S { } func main() { a = S(); if true { drop(a); drop(a); } }
+a_side_is_told_before_its_if : text (codes "S" ∷ codes "main" ∷ codes "a" ∷ codes "drop" ∷ []) (struct_item (n 0 8) [] ∷ function_item (function (head false (n 1 19) [] None) (block (at 26) (at 67) (more_stmts (declare (n 2 28) (call (n 0 32) no_exprs)) (last (form (branch (at 37) (truth (at 40) true) (block (at 45) (at 65) (more_stmts (express (call (n 3 47) (more_exprs (name (n 2 52)) no_exprs))) (more_stmts (express (call (n 3 56) (more_exprs (name (n 2 61)) no_exprs))) no_stmts))) no_else)))))) ∷ []) ≡ fault 30 61
+a_side_is_told_before_its_if = refl
+
+-- struct S { } func f(s S) bool { drop(s); return true; } func main() { a = S(); x = true and true and f(a); }
+the_third_operand_moves : text (codes "S" ∷ codes "f" ∷ codes "s" ∷ codes "drop" ∷ codes "main" ∷ codes "a" ∷ codes "x" ∷ []) (struct_item (n 0 8) [] ∷ function_item (function (head false (n 1 19) (param (n 2 21) (named_type (n 0 23)) ∷ []) (Some (bool_type (at 26)))) (block (at 31) (at 55) (more_stmts (express (call (n 3 33) (more_exprs (name (n 2 38)) no_exprs))) (more_stmts (return_value (at 42) (truth (at 49) true)) no_stmts)))) ∷ function_item (function (head false (n 4 62) [] None) (block (at 69) (at 108) (more_stmts (declare (n 5 71) (call (n 0 75) no_exprs)) (more_stmts (declare (n 6 80) (chain (truth (at 84) true) (more_links (link (at 89) And (truth (at 93) true)) (more_links (link (at 98) And (call (n 1 102) (more_exprs (name (n 5 104)) no_exprs))) no_links)))) no_stmts)))) ∷ []) ≡ fault 31 98
+the_third_operand_moves = refl
+
 -- ---- loops
 
 -- struct S { } func main() { a = S(); while true { drop(a); } }
@@ -186,6 +198,18 @@ a_bound_of_foreach_moves = refl
 a_bound_of_foreach_moves_what_is_named : text (codes "S" ∷ codes "g" ∷ codes "s" ∷ codes "drop" ∷ codes "main" ∷ codes "a" ∷ codes "i" ∷ []) (struct_item (n 0 8) [] ∷ function_item (function (head false (n 1 19) (param (n 2 21) (named_type (n 0 23)) ∷ []) (Some (int_type (at 26)))) (block (at 30) (at 51) (more_stmts (express (call (n 3 32) (more_exprs (name (n 2 37)) no_exprs))) (more_stmts (return_value (at 41) (number (at 48) (pos 0))) no_stmts)))) ∷ function_item (function (head false (n 4 58) [] None) (block (at 65) (at 110) (more_stmts (declare (n 5 67) (call (n 0 71) no_exprs)) (more_stmts (foreach (at 76) (n 6 84) (number (at 89) (pos 0)) (call (n 1 92) (more_exprs (name (n 5 94)) no_exprs)) (block (at 97) (at 108) (more_stmts (express (call (n 3 99) (more_exprs (name (n 5 104)) no_exprs))) no_stmts))) no_stmts)))) ∷ []) ≡ fault 30 104
 a_bound_of_foreach_moves_what_is_named = refl
 
+-- struct S { } func main() { a = S(); while true { if true { drop(a); return; } } }
+a_body_moves_where_it_returns : text (codes "S" ∷ codes "main" ∷ codes "a" ∷ codes "drop" ∷ []) (struct_item (n 0 8) [] ∷ function_item (function (head false (n 1 19) [] None) (block (at 26) (at 81) (more_stmts (declare (n 2 28) (call (n 0 32) no_exprs)) (more_stmts (while (at 37) (truth (at 43) true) (block (at 48) (at 79) (last (form (branch (at 50) (truth (at 53) true) (block (at 58) (at 77) (more_stmts (express (call (n 3 60) (more_exprs (name (n 2 65)) no_exprs))) (more_stmts (return_nothing (at 69)) no_stmts))) no_else))))) no_stmts)))) ∷ []) ≡ None
+a_body_moves_where_it_returns = refl
+
+-- struct S { } func main() { a = []iso S(iso { S() }); parallel foreach x in a { drop(x); } }
+an_iteration_drops_its_isolate : text (codes "S" ∷ codes "main" ∷ codes "a" ∷ codes "x" ∷ codes "drop" ∷ []) (struct_item (n 0 8) [] ∷ function_item (function (head false (n 1 19) [] None) (block (at 26) (at 91) (more_stmts (declare (n 2 28) (array (at 32) (iso_type (at 34) (named_type (n 0 38))) (more_exprs (iso (at 40) (block (at 44) (at 50) (last (call (n 0 46) no_exprs)))) no_exprs))) (last (form (parallel_each (at 54) (n 3 71) (name (n 2 76)) (block (at 78) (at 89) (more_stmts (express (call (n 4 80) (more_exprs (name (n 3 85)) no_exprs))) no_stmts)))))))) ∷ []) ≡ None
+an_iteration_drops_its_isolate = refl
+
+-- struct S { } func main() { a = []iso S(iso { S() }); parallel foreach x in a { drop(x); } drop(a); }
+isolates_are_handed_out_and_dropped : text (codes "S" ∷ codes "main" ∷ codes "a" ∷ codes "x" ∷ codes "drop" ∷ []) (struct_item (n 0 8) [] ∷ function_item (function (head false (n 1 19) [] None) (block (at 26) (at 100) (more_stmts (declare (n 2 28) (array (at 32) (iso_type (at 34) (named_type (n 0 38))) (more_exprs (iso (at 40) (block (at 44) (at 50) (last (call (n 0 46) no_exprs)))) no_exprs))) (more_stmts (form_stmt (parallel_each (at 54) (n 3 71) (name (n 2 76)) (block (at 78) (at 89) (more_stmts (express (call (n 4 80) (more_exprs (name (n 3 85)) no_exprs))) no_stmts)))) (more_stmts (express (call (n 4 91) (more_exprs (name (n 2 96)) no_exprs))) no_stmts))))) ∷ []) ≡ fault 30 96
+isolates_are_handed_out_and_dropped = refl
+
 -- ---- destructors
 
 -- struct S { } func drop(self S) { [] = self; } func main() { }
@@ -215,3 +239,7 @@ a_destructor_takes_apart_on_one_side = refl
 -- struct S { } func drop(self S) { [] = self; [] = self; } func main() { }
 a_destructor_takes_apart_twice : text (codes "S" ∷ codes "drop" ∷ codes "self" ∷ codes "main" ∷ []) (struct_item (n 0 8) [] ∷ function_item (function (head false (n 1 19) (param (n 2 24) (named_type (n 0 29)) ∷ []) None) (block (at 32) (at 56) (more_stmts (destructure (at 34) [] (name (n 2 39))) (more_stmts (destructure (at 45) [] (name (n 2 50))) no_stmts)))) ∷ function_item (function (head false (n 3 63) [] None) (block (at 70) (at 72) no_stmts)) ∷ []) ≡ fault 30 50
 a_destructor_takes_apart_twice = refl
+
+-- interface I { func drop(self &I); } struct S { } impl I for S { func drop(self &S) { } } func main() { }
+a_method_is_no_destructor : text (codes "I" ∷ codes "drop" ∷ codes "self" ∷ codes "S" ∷ codes "main" ∷ []) (interface_item (n 0 11) (head false (n 1 20) (param (n 2 25) (ref_type (at 30) (named_type (n 0 31))) ∷ []) None ∷ []) ∷ struct_item (n 3 44) [] ∷ impl_item (at 50) (n 0 55) (n 3 61) (function (head false (n 1 70) (param (n 2 75) (ref_type (at 80) (named_type (n 3 81))) ∷ []) None) (block (at 84) (at 86) no_stmts) ∷ []) ∷ function_item (function (head false (n 4 95) [] None) (block (at 102) (at 104) no_stmts)) ∷ []) ≡ None
+a_method_is_no_destructor = refl
