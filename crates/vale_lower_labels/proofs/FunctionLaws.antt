@@ -1,16 +1,14 @@
 -- The parameters and the labels of a function.
-use Rattle.std.proofs.Common.{◌≡◌, ℕ, zero, suc, ◌+◌, List, [], ◌∷◌, ◌++◌, length, Option, None, Some, refl, ap, sym, ◌∙◌}
-use Rattle.std.specs.Prelude.{Bool, true, false, map, is_some, if◌then◌else◌, option_map}
+use Rattle.std.proofs.Common.{◌≡◌, ℕ, suc, ◌+◌, List, [], ◌∷◌, ◌++◌, length, Option, None, Some, refl, ap, sym, ◌∙◌}
+use Rattle.std.specs.Prelude.{Bool, true, false, map, is_some, if◌then◌else◌}
 use Rattle.vale_syntax.specs.declared.tree.Param.{Param}
 use Rattle.vale_syntax.specs.Declarations.{head_params}
-use Rattle.vale_syntax.specs.Types.{Ty, is_copy, result_of}
+use Rattle.vale_syntax.specs.Types.{Ty, is_copy}
 use Rattle.vale_syntax.specs.Typed as t
-use Rattle.vale_syntax.specs.View.{view_param, view_type}
+use Rattle.vale_syntax.specs.View.{view_param}
 use Rattle.vale_code.specs.declared.ty.Ty.{Ty as CodeTy}
 use Rattle.vale_cert.specs.declared.facts.Label.{Label}
 use Rattle.vale_cert.specs.declared.facts.FuncFacts.{FuncFacts}
-use Rattle.vale_core.specs.declared.tree.Function.{Function}
-use Rattle.vale_core.specs.View.{view_block, view_function}
 use Rattle.vale_model.specs.Kinds.{head_of, body_of}
 use Rattle.vale_model.specs.Parts.{Parts, param_names}
 use Rattle.vale_lowering.specs.Lowered.{lowered_function, around_of, names_in}

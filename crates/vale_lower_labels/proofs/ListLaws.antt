@@ -1,7 +1,7 @@
 -- One part of a list more.
 use Rattle.std.proofs.Common.{◌≡◌, ℕ, zero, suc, ◌+◌, ◌<◌, ◌≤◌, List, [], ◌∷◌, ◌++◌, length, get_or, drop, take, refl, ap, sym, ◌∙◌, arith}
 use Rattle.std.proofs.lemmas.List.{drop_more, take_more, drop_all}
-use Rattle.std.specs.Prelude.{Bool, true, false, not, ◌||◌, map}
+use Rattle.std.specs.Prelude.{Bool, true, false, ◌||◌, map}
 use Rattle.vale_syntax.specs.Typed as t
 use Rattle.vale_syntax.specs.Types.{Ty}
 use Rattle.vale_syntax.specs.View.{listed}

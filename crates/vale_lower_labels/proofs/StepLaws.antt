@@ -1,21 +1,19 @@
 -- The marks of one node, by cases.
-use Rattle.std.proofs.Common.{◌≡◌, ℕ, zero, suc, List, [], ◌∷◌, ◌++◌, Option, Some, None, refl, ap, ◌∙◌}
-use Rattle.std.specs.Prelude.{Bool, true, false, if◌then◌else◌}
+use Rattle.std.proofs.Common.{◌≡◌, ℕ, zero, suc, [], ◌∷◌, Option, Some, None, refl, ap}
+use Rattle.std.specs.Prelude.{Bool, true, false}
 use Rattle.vale_base.specs.declared.spot.Spot.{Spot}
 use Rattle.vale_syntax.specs.declared.tree.NameAt.{NameAt}
 use Rattle.vale_syntax.specs.declared.built_in.BuiltIn.{BuiltIn}
 use Rattle.vale_syntax.specs.declared.built_in.BuiltIn.TheVariants as b
-use Rattle.vale_syntax.specs.declared.tree.UnaryOp.{UnaryOp}
-use Rattle.vale_syntax.specs.declared.tree.UnaryOp.TheVariants as unary
 use Rattle.vale_syntax.specs.Typed as t
 use Rattle.vale_core.specs.declared.tree.Expr.{Expr, out-Expr}
 use Rattle.vale_core.specs.declared.tree.Block.{Block, out-Block}
 use Rattle.vale_core.specs.View.{view_ty, view_seen, view_expr, view_node, view_block}
 use Rattle.vale_core.proofs.ViewLaws as v
 use Rattle.vale_code.specs.declared.instr.Instr.{Instr}
-use Rattle.vale_lowering.specs.Instructions.{exchange, store, built_in_code, only_if, unary_code}
-use Rattle.vale_lowering.specs.Lowered.{call_code, callee_code, set_code, store_code}
-use Rattle.vale_lowering.specs.Scopes.{Scope, Around, place_of, may_be_called}
+use Rattle.vale_lowering.specs.Instructions.{exchange, store, built_in_code, only_if}
+use Rattle.vale_lowering.specs.Lowered.{callee_code, set_code, store_code}
+use Rattle.vale_lowering.specs.Scopes.{Scope, Around, place_of}
 use Rattle.vale_lower_facts.specs.Slots.{Stand}
 use Rattle.vale_lower_facts.specs.Marks.{Marks, mark, marked}
 use Rattle.vale_lower_labels.specs.Shapes.{is_found, is_set, sets_local}

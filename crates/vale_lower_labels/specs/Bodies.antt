@@ -1,5 +1,5 @@
 -- The marks of a whole body.
-use Rattle.std.specs.Prelude.{ℕ, Bool, false, List, [], ◌∷◌, ◌++◌}
+use Rattle.std.specs.Prelude.{ℕ, Bool, false, [], ◌∷◌, ◌++◌}
 use Rattle.vale_syntax.specs.Types.{is_copy}
 use Rattle.vale_syntax.specs.Typed.{Block, Function}
 use Rattle.vale_lowering.specs.Scopes.{Around, result_type}

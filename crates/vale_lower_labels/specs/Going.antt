@@ -1,5 +1,5 @@
 -- The next statement of a block, the next operator of a chain, and parts of single statements.
-use Rattle.std.specs.Prelude.{ℕ, ◌+◌, Bool, true, false, List, [], ◌∷◌, ◌++◌}
+use Rattle.std.specs.Prelude.{ℕ, ◌+◌, Bool, true, false, [], ◌∷◌, ◌++◌}
 use Rattle.vale_syntax.specs.declared.tree.BinaryOp.{BinaryOp}
 use Rattle.vale_syntax.specs.Types.{Ty, int}
 use Rattle.vale_syntax.specs.Typed.{Expr, Link, link, Node, set, Stmt, declare, destructure, Block, type}

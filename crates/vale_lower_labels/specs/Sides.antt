@@ -1,5 +1,5 @@
 -- The sides of an `if`, one after another.
-use Rattle.std.specs.Prelude.{ℕ, ◌+◌, Bool, true, false, ◌&&◌, List, [], ◌∷◌, ◌++◌}
+use Rattle.std.specs.Prelude.{ℕ, ◌+◌, Bool, true, false, List, [], ◌∷◌, ◌++◌}
 use Rattle.vale_syntax.specs.Typed.{ElseIf, else_if, type, block_type}
 use Rattle.vale_lowering.specs.Scopes.{Around}
 use Rattle.vale_ownership.specs.Returned.{block_returns}

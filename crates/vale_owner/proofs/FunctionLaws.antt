@@ -1,7 +1,7 @@
 -- Whole functions, one after another.
 use Rattle.std.proofs.Common.{◌≡◌, ℕ, List, [], ◌∷◌, ◌++◌, ◌+◌, ◌<◌, ◌≤◌, length, get_or, drop, refl, ap, sym, ◌∙◌, append-nil}
 use Rattle.std.proofs.lemmas.List.{drop_more, drop_all}
-use Rattle.std.specs.Prelude.{Bool, true, false, ◌&&◌, Option, Some, None, Result, Ok, Err, map, option_map, if◌then◌else◌}
+use Rattle.std.specs.Prelude.{true, false, ◌&&◌, None, Result, Ok, Err, map, option_map, if◌then◌else◌}
 use Rattle.vale_base.specs.declared.spot.Spot.{Spot}
 use Rattle.vale_base.specs.declared.fault.Fail.{Fail}
 use Rattle.vale_base.specs.declared.fault.Fail.TheVariants.{Memory, Is}
@@ -12,17 +12,17 @@ use Rattle.vale_syntax.proofs.JudgedLaws.{stopped_after}
 use Rattle.vale_syntax.specs.Tree as s
 use Rattle.vale_syntax.specs.Typed as t
 use Rattle.vale_syntax.specs.View.{view_head}
-use Rattle.vale_core.specs.declared.tree.Block.{Block, out-Block}
+use Rattle.vale_core.specs.declared.tree.Block.{out-Block}
 use Rattle.vale_core.specs.declared.tree.Function.{Function}
 use Rattle.vale_core.specs.View.{view_expr, view_stmt, view_block, view_function, stmts_of, last_end}
 use Rattle.vale_ownership.proofs.PartLaws.{of_out_block}
 use Rattle.vale_ownership.specs.Whole.{Locals}
-use Rattle.vale_ownership.specs.Owned.{function_flow, function_faults, method_faults, drop_rules, are_taken_apart}
+use Rattle.vale_ownership.specs.Owned.{function_flow, function_faults, method_faults, are_taken_apart}
 use Rattle.vale_owner.specs.After.{after_stmts}
 use Rattle.vale_owner.specs.declared.so_far.SoFar.{SoFar}
-use Rattle.vale_owner.specs.Found.{Found, found, nothing, declaring, judged, earlier}
+use Rattle.vale_owner.specs.Found.{Found, found, nothing, declaring, judged}
 use Rattle.vale_owner.specs.Functions.{declaring_params, at_end, body_faults, is_taken_apart, answer}
-use Rattle.vale_owner.proofs.FoundLaws.{in_turn, first_append}
+use Rattle.vale_owner.proofs.FoundLaws.{first_append}
 use Rattle.vale_owner.proofs.WalkLaws.{stmts_by_parts}
 
 pub no_params : (f : Found) → declaring_params [] f ≡ f

@@ -1,8 +1,7 @@
 -- Whether a part moves a local, by its own parts.
-use Rattle.std.proofs.Common.{◌≡◌, ℕ, List, [], ◌∷◌, refl, ap, sym, ◌∙◌}
-use Rattle.std.specs.Prelude.{Bool, true, false, not, ◌&&◌, ◌||◌, Option, Some, None, map, option_map, if◌then◌else◌}
+use Rattle.std.proofs.Common.{◌≡◌, ℕ, List, [], ◌∷◌, refl, ap, ◌∙◌}
+use Rattle.std.specs.Prelude.{Bool, ◌||◌, Option, Some, None, map, option_map}
 use Rattle.vale_base.specs.declared.spot.Spot.{Spot}
-use Rattle.vale_syntax.specs.declared.tree.NameAt.{NameAt}
 use Rattle.vale_syntax.specs.Types as y
 use Rattle.vale_syntax.specs.Typed as t
 use Rattle.vale_syntax.specs.View.{listed}

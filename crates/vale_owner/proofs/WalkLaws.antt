@@ -19,7 +19,7 @@ use Rattle.vale_core.specs.declared.tree.Block.{Block, out-Block}
 use Rattle.vale_core.specs.View.{view_expr, view_node, view_stmt, view_block, view_else_if, view_link, stmts_of, last_end, return_of}
 use Rattle.vale_core.proofs.ViewLaws as v
 use Rattle.vale_ownership.proofs.PartLaws.{of_out_expr, of_out_link, of_out_block, of_out_else_if}
-use Rattle.vale_ownership.specs.Owned.{Flow, still, ◌then◌, expr_flow, node_flow, exprs_flow, links_flow, step_flow, steps_flow, form_flow, elses_flow, block_flow, body_flow, stmts_flow, stmt_flow, way, agree, behind, loop_rules}
+use Rattle.vale_ownership.specs.Owned.{◌then◌, expr_flow, exprs_flow, links_flow, step_flow, steps_flow, elses_flow, block_flow, body_flow, stmts_flow, stmt_flow, way, agree, behind, loop_rules}
 use Rattle.vale_ownership.specs.Returned.{block_returns}
 use Rattle.vale_ownership.specs.Whole.{Locals, are_alike}
 use Rattle.vale_owner.specs.Found.{Found, earlier, going, naming, judged, told, with_first, back_to, closed, declaring, declaring_all, loop_ended, Kept, no_ways, with_way, with_ways, Sided, sided, branch_ended, or_else}

@@ -1,5 +1,5 @@
 -- What is found behind each part of a body, by its flow.
-use Rattle.std.specs.Prelude.{Bool, true, false, List, [], ◌∷◌, Option, Some, None}
+use Rattle.std.specs.Prelude.{Bool, true, false, List, [], ◌∷◌, None}
 use Rattle.vale_syntax.specs.declared.tree.BinaryOp.{BinaryOp}
 use Rattle.vale_syntax.specs.declared.tree.BinaryOp.TheVariants.{Or, And}
 use Rattle.vale_syntax.specs.declared.tree.NameAt.{NameAt}

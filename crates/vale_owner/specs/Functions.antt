@@ -3,7 +3,7 @@ use Rattle.std.specs.Prelude.{Bool, not, ◌&&◌, List, Option, Some, None, Res
 use Rattle.vale_syntax.specs.declared.fault.Fault.{Fault}
 use Rattle.vale_syntax.specs.Declarations.{param_name}
 use Rattle.vale_syntax.specs.Judged.{first_of}
-use Rattle.vale_syntax.specs.Tree.{Head, Param}
+use Rattle.vale_syntax.specs.Tree.{Param}
 use Rattle.vale_syntax.specs.Typed.{Block, Function, function_body}
 use Rattle.vale_ownership.specs.Owned.{function_flow, block_moves}
 use Rattle.vale_ownership.specs.Whole.{Locals, params_declared, is_whole}

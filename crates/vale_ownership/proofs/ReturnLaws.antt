@@ -9,7 +9,7 @@ use Rattle.vale_core.specs.declared.tree.Form.{Form}
 use Rattle.vale_core.specs.declared.tree.Form.TheVariants as f
 use Rattle.vale_syntax.specs.Typed as t
 use Rattle.vale_syntax.specs.View.{listed}
-use Rattle.vale_core.specs.View.{view_expr, view_node, view_form, view_stmt, view_block, view_else_if, elses_of, else_end, stmts_of, last_end}
+use Rattle.vale_core.specs.View.{view_expr, view_node, view_form, view_stmt, view_block, view_else_if, else_end, stmts_of, last_end}
 use Rattle.vale_core.proofs.ViewLaws as v
 use Rattle.vale_ownership.specs.Returned.{block_returns, stmts_return, stmt_returns, expr_returns, node_returns, form_returns, elses_return}
 use Rattle.vale_ownership.specs.Sides.{else_if_returns, each_returns}

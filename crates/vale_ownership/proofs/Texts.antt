@@ -9,7 +9,7 @@ use Rattle.vale_syntax.specs.declared.fault.Fault.{Fault}
 use Rattle.vale_syntax.specs.Judged.{Judged, fine, faulty, faults, first_of}
 use Rattle.vale_syntax.specs.Typed.{Typed}
 use Rattle.vale_syntax.specs.Typing.{typed}
-use Rattle.vale_syntax.specs.Tree.{int_type, bool_type, named_type, array_type, set, chain, unary, steps, number, truth, name, call, paren, array, iso, form, no_exprs, more_exprs, link, no_links, more_links, field, index, no_steps, more_steps, branch, pure, else_if, no_else, otherwise, more_elses, block, declare, destructure, return_nothing, return_value, while, foreach, form_stmt, express, no_stmts, last, more_stmts, param, head, function, field_decl, Item, struct_item, function_item, tree, iso_type, ref_type, parallel_each, interface_item, impl_item}
+use Rattle.vale_syntax.specs.Tree.{int_type, bool_type, named_type, set, chain, unary, steps, number, truth, name, call, paren, array, iso, form, no_exprs, more_exprs, link, no_links, more_links, field, index, no_steps, more_steps, branch, pure, else_if, no_else, otherwise, more_elses, block, declare, destructure, return_nothing, return_value, while, foreach, form_stmt, express, no_stmts, last, more_stmts, param, head, function, field_decl, Item, struct_item, function_item, tree, iso_type, ref_type, parallel_each, interface_item, impl_item}
 use Rattle.vale_ownership.specs.Owned.{owned}
 
 -- ---- nodes, with their columns in a text of one line

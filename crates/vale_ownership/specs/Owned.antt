@@ -1,7 +1,7 @@
 -- Which locals are whole before and after each part of a program, and where the rules of ownership are broken (docs/LANGUAGE.md,
 -- "Ownership"). Parts stand in the order in which they run. The faults are in post-order of the tree, which differs at a `set` alone:
 -- its value runs before its place. What follows a faulty node is judged as if that node kept its rules.
-use Rattle.std.specs.Prelude.{ℕ, Bool, true, false, not, ◌&&◌, ◌||◌, ◌==◌, List, [], ◌∷◌, ◌++◌, Option, Some, None, if◌then◌else◌}
+use Rattle.std.specs.Prelude.{ℕ, Bool, true, false, not, ◌&&◌, ◌||◌, ◌==◌, List, [], ◌∷◌, ◌++◌, if◌then◌else◌}
 use Rattle.vale_base.specs.declared.spot.Spot.{Spot}
 use Rattle.vale_syntax.specs.declared.fault.Fault.{Fault}
 use Rattle.vale_syntax.specs.declared.tree.BinaryOp.{BinaryOp}
@@ -10,9 +10,9 @@ use Rattle.vale_syntax.specs.declared.tree.NameAt.{NameAt}
 use Rattle.vale_syntax.specs.Declarations.{head_name, head_params, param_name, is_drop}
 use Rattle.vale_syntax.specs.Judged.{Judged, Rules, own, unless}
 use Rattle.vale_syntax.specs.Tree.{Head, Param}
-use Rattle.vale_syntax.specs.Typed.{Expr, expr, Node, set, chain, unary, steps, number, quote, truth, name, call, paren, array, iso, form, Exprs, no_exprs, more_exprs, Link, link, Links, no_links, more_links, Step, field, method, index, Steps, no_steps, more_steps, Form, branch, pure, parallel_range, parallel_each, else_if, Elses, no_else, otherwise, more_elses, Block, block, Stmt, declare, destructure, return_nothing, return_value, while, foreach, form_stmt, express, Stmts, no_stmts, last, more_stmts, Function, function_body, Item, struct_item, interface_item, impl_item, function_item, Typed, typed}
+use Rattle.vale_syntax.specs.Typed.{Expr, expr, Node, set, chain, unary, steps, number, quote, truth, name, call, paren, array, iso, form, Exprs, no_exprs, more_exprs, link, Links, no_links, more_links, Step, field, method, index, Steps, no_steps, more_steps, Form, branch, pure, parallel_range, parallel_each, else_if, Elses, no_else, otherwise, more_elses, Block, block, Stmt, declare, destructure, return_nothing, return_value, while, foreach, form_stmt, express, Stmts, no_stmts, last, more_stmts, Function, function_body, Item, struct_item, interface_item, impl_item, function_item, Typed, typed}
 use Rattle.vale_ownership.specs.Returned.{block_returns}
-use Rattle.vale_ownership.specs.Whole.{Local, Locals, declared, all_declared, params_declared, is_whole, moved, outer, are_alike}
+use Rattle.vale_ownership.specs.Whole.{Locals, declared, all_declared, params_declared, is_whole, moved, outer, are_alike}
 
 -- the faults of a part, and the locals after it
 pub record Flow : Type 0 where

@@ -1,4 +1,3 @@
-use Rattle.std.proofs.Common.{◌≡◌, ◌∙◌}
 use Rattle.vale_core.specs.View.{view_function}
 use Rattle.vale_lower_labels.proofs.FunctionLaws.{facts_by_parts}
 use Rattle.vale_lower_labels.proofs.function.function_facts.Goals as goal

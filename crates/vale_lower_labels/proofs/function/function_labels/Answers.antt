@@ -1,4 +1,4 @@
-use Rattle.std.proofs.Common.{◌≡◌, [], ◌∙◌}
+use Rattle.std.proofs.Common.{[], ◌∙◌}
 use Rattle.vale_core.specs.View.{view_function}
 use Rattle.vale_lower_labels.specs.Standing.{framed}
 use Rattle.vale_lower_labels.proofs.FunctionLaws.{function_by_parts}

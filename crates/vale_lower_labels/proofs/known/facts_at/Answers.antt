@@ -1,4 +1,4 @@
-use Rattle.std.proofs.Common.{◌≡◌, List, ap, ◌∙◌}
+use Rattle.std.proofs.Common.{List, ap, ◌∙◌}
 use Rattle.vale_cert.specs.declared.facts.RegFact.{RegFact}
 use Rattle.vale_lower_labels.specs.Filling.{last_known, slots_known}
 use Rattle.vale_lower_labels.specs.Standing.{stand, slots_of}

@@ -1,4 +1,4 @@
-use Rattle.std.proofs.Common.{◌≡◌, ◌+◌, option_map, refl, sym, ap, ◌∙◌, arith}
+use Rattle.std.proofs.Common.{option_map, refl, sym, ap, ◌∙◌, arith}
 use Rattle.std.proofs.lemmas.Result.{on_ok_weaker}
 use Rattle.vale_core.specs.declared.tree.Block.{out-Block}
 use Rattle.vale_core.specs.View.{view_expr, view_block, last_end}

@@ -1,4 +1,4 @@
-use Rattle.std.proofs.Common.{◌≡◌, sym, ◌∙◌}
+use Rattle.std.proofs.Common.{sym, ◌∙◌}
 use Rattle.vale_owner.proofs.LocalLaws.{alike_differ}
 use Rattle.vale_owner.proofs.locals.are_alike.Goals as goal
 

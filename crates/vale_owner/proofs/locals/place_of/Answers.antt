@@ -1,4 +1,4 @@
-use Rattle.std.proofs.Common.{◌≡◌, ◌+◌, ◌-◌, length, arith}
+use Rattle.std.proofs.Common.{◌+◌, ◌-◌, length, arith}
 use Rattle.vale_owner.proofs.LocalLaws.{place_miss}
 use Rattle.vale_owner.proofs.locals.place_of.Goals as goal
 

@@ -1,8 +1,6 @@
-use Rattle.std.proofs.Common.{◌≡◌, map, refl}
+use Rattle.std.proofs.Common.{map, refl}
 use Rattle.std.specs.Prelude.{None}
 use Rattle.vale_core.specs.View.{view_expr, view_stmt, view_step, view_link, view_else_if, exprs_of, links_of, steps_of, stmts_of}
-use Rattle.vale_syntax.specs.Typed.{no_stmts}
-use Rattle.vale_owner.specs.Found.{found, kept}
 use Rattle.vale_owner.specs.After.{after_expr, after_exprs, after_link, after_links, after_step, after_steps, after_stmt, after_stmts, after_else_if, after_else_ifs, ways_of_else_if, ways_of_else_ifs}
 use Rattle.vale_owner.proofs.ListLaws.{list_next, list_done, ways_next, ways_done}
 use Rattle.vale_owner.proofs.WalkLaws as w

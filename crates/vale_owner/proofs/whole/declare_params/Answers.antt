@@ -1,4 +1,4 @@
-use Rattle.std.proofs.Common.{◌≡◌, map}
+use Rattle.std.proofs.Common.{map}
 use Rattle.vale_syntax.specs.View.{view_param}
 use Rattle.vale_owner.specs.Found.{declaring}
 use Rattle.vale_owner.specs.Functions.{declaring_params}

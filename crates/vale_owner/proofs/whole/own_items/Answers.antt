@@ -1,4 +1,4 @@
-use Rattle.std.proofs.Common.{◌≡◌, map, refl}
+use Rattle.std.proofs.Common.{map, refl}
 use Rattle.std.proofs.lemmas.Result.{err_from_is_err_and}
 use Rattle.vale_core.specs.View.{view_item}
 use Rattle.vale_ownership.specs.Owned.{item_faults, items_faults}

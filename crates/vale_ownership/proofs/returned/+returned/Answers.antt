@@ -1,4 +1,4 @@
-use Rattle.std.proofs.Common.{◌≡◌, ◌∙◌, ap}
+use Rattle.std.proofs.Common.{◌∙◌, ap}
 use Rattle.std.specs.Prelude.{◌&&◌}
 use Rattle.vale_core.specs.View.{view_block}
 use Rattle.vale_ownership.specs.Returned.{block_returns}

@@ -1,5 +1,5 @@
-use Rattle.std.proofs.Common.{◌≡◌, refl}
-use Rattle.vale_owner.specs.Found.{found, declaring, declaring_all}
+use Rattle.std.proofs.Common.{refl}
+use Rattle.vale_owner.specs.Found.{declaring, declaring_all}
 use Rattle.vale_owner.proofs.FoundLaws.{declare_none, declare_more}
 use Rattle.vale_owner.proofs.ListLaws.{list_next, list_done}
 use Rattle.vale_owner.proofs.so_far.SoFar.declare_all.Goals as goal
