@@ -2,10 +2,8 @@
 use Rattle.std.proofs.Common.{◌≡◌, ℕ, List, sym, ap, subst, ◌∙◌}
 use Rattle.vale_syntax.specs.Canon.{canon}
 use Rattle.vale_syntax.specs.Cut.{cut}
-use Rattle.vale_syntax.specs.Grammar.{spells}
 use Rattle.vale_syntax.specs.Round.{IsReadBack}
 use Rattle.vale_syntax.specs.Tree.{Tree}
-use Rattle.vale_syntax.specs.declared.token.Tokens.{Tokens}
 use Rattle.vale_format.specs.Format.{IsFormatOf, IsFixed}
 use Rattle.vale_format.proofs.Round.{read_back}
 

@@ -1,5 +1,5 @@
 -- The canonical text of a token is this token again, and the longest piece where nothing runs on.
-use Rattle.std.proofs.Common.{◌≡◌, ◌<◌, ◌≤◌, ◌^◌, ℕ, ℤ, suc, Bool, true, false, cond, eqb, List, [], ◌∷◌, ◌++◌, length, pos, refl, sym, ap, subst, ◌∙◌, arith, rules, append_assoc}
+use Rattle.std.proofs.Common.{◌≡◌, ◌<◌, ◌≤◌, ◌^◌, ℕ, ℤ, suc, Bool, true, false, eqb, List, [], ◌∷◌, ◌++◌, length, pos, refl, sym, ap, subst, ◌∙◌, arith, rules}
 use Rattle.std.specs.Fmt.{decimal, signed_decimal}
 use Rattle.std.proofs.lemmas.Bool.{eqb-true}
 use Rattle.std.proofs.lemmas.Bool.Decides.{nat_tests}
@@ -7,8 +7,7 @@ use Rattle.std.proofs.lemmas.Fmt.{digits_decimal, digits_value-decimal, decimal_
 use Rattle.std.proofs.lemmas.Str.Parse.{IsNumeralModel, numerals_by_fold}
 use Rattle.vale_syntax.specs.Bytes.{Each, is_letter, is_digit, is_name_byte, is_plain, value, value_behind, word_text, sign_text}
 use Rattle.vale_syntax.specs.Canon.{escaped, all_escaped, text_of}
-use Rattle.vale_syntax.specs.Cut.{IsName, IsNumber, IsQuote, IsLongest, Means, Quoted, empty, plain, escape}
-use Rattle.vale_syntax.specs.declared.token.Word.{Word}
+use Rattle.vale_syntax.specs.Cut.{IsName, IsNumber, IsLongest, Means, Quoted, empty, plain, escape}
 use Rattle.vale_syntax.specs.declared.token.Sign.{Sign}
 use Rattle.vale_syntax.specs.declared.token.Sign.TheVariants as s
 use Rattle.vale_syntax.specs.declared.token.TokenKind.{TokenKind}

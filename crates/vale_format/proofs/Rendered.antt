@@ -1,14 +1,12 @@
 -- Pieces that stand apart are cut into their tokens.
-use Rattle.std.proofs.Common.{◌≡◌, ◌*◌, ℕ, zero, suc, Bool, true, false, eqb, List, [], ◌∷◌, ◌++◌, inl, inr, replicate, refl, sym, ap, subst, ◌∙◌, arith}
+use Rattle.std.proofs.Common.{◌≡◌, ◌*◌, ℕ, zero, suc, true, false, eqb, List, [], ◌∷◌, ◌++◌, inl, replicate, refl, sym, ap, subst, arith}
 use Rattle.std.proofs.lemmas.Bool.Decides.{nat_tests}
 use Rattle.vale_base.specs.declared.spot.Spot.{Spot}
 use Rattle.vale_syntax.specs.Bytes.{is_blank, is_letter, is_digit, is_name_byte, word_text, sign_text}
-use Rattle.vale_syntax.specs.Canon.{text_of, piece_text, rendered}
+use Rattle.vale_syntax.specs.Canon.{text_of, rendered}
 use Rattle.vale_syntax.specs.Cut.{IsName, IsNumber, Means, step, behind, Cuts, none, gap, token}
 use Rattle.vale_syntax.specs.Layout.{Piece, lexeme, space, line}
 use Rattle.vale_syntax.specs.Moved.{kinds}
-use Rattle.vale_syntax.specs.declared.token.Word.{Word}
-use Rattle.vale_syntax.specs.declared.token.Word.TheVariants as w
 use Rattle.vale_syntax.specs.declared.token.Sign.{Sign}
 use Rattle.vale_syntax.specs.declared.token.Sign.TheVariants as s
 use Rattle.vale_syntax.specs.declared.token.Token.{Token}
@@ -16,7 +14,7 @@ use Rattle.vale_syntax.specs.declared.token.TokenKind.{TokenKind}
 use Rattle.vale_syntax.specs.declared.token.TokenKind.TheVariants as k
 use Rattle.vale_lexer.proofs.Sorted.{word_name}
 use Rattle.vale_lexer.proofs.Tells.{blank_longest}
-use Rattle.vale_printer.proofs.Apart.{is_wordy, is_short, begins_wordy, begins_sign, Apart}
+use Rattle.vale_printer.proofs.Apart.{begins_wordy, begins_sign, Apart}
 use Rattle.vale_printer.proofs.Lays.{laid}
 use Rattle.vale_format.proofs.Lexemes.{means_again, StopsAt, NoMore, lexeme_longest}
 

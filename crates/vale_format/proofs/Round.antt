@@ -1,6 +1,5 @@
 -- The canonical text of a tree is read back as the same tree.
-use Rattle.std.proofs.Common.{◌≡◌, ℕ, List, [], refl, sym, ap, subst, ◌∙◌}
-use Rattle.vale_base.specs.declared.spot.Spot.{Spot}
+use Rattle.std.proofs.Common.{◌≡◌, ℕ, List, [], sym, subst, ◌∙◌}
 use Rattle.vale_syntax.specs.Canon.{canon}
 use Rattle.vale_syntax.specs.Cut.{cut, start}
 use Rattle.vale_syntax.specs.Grammar.{spells}
@@ -9,7 +8,6 @@ use Rattle.vale_syntax.specs.Moved.{kinds, nowhere, moved_tokens, moved_tree, ba
 use Rattle.vale_syntax.specs.Round.{IsReadBack}
 use Rattle.vale_syntax.specs.Tree.{Tree, tree}
 use Rattle.vale_syntax.specs.declared.token.Token.{Token}
-use Rattle.vale_syntax.specs.declared.token.TokenKind.{TokenKind}
 use Rattle.vale_syntax.specs.declared.token.Tokens.{Tokens}
 use Rattle.vale_lexer.proofs.OneCut.{one_tokens}
 use Rattle.vale_parser.proofs.ItemAgain.{one_tree}

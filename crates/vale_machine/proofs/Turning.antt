@@ -1,5 +1,5 @@
 -- What a step tells of a turn.
-use Rattle.std.proofs.Common.{◌≡◌, ℕ, suc, ◌+◌, None, true, false, List, ap, ◌∙◌, arith}
+use Rattle.std.proofs.Common.{◌≡◌, suc, None, true, false, List, ap, ◌∙◌, arith}
 use Rattle.vale_base.specs.declared.piece.Piece.{Piece}
 use Rattle.vale_code.specs.Frames.{Next, On}
 use Rattle.vale_code.specs.Parts.{Parts}

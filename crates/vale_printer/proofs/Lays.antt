@@ -1,14 +1,12 @@
 -- The layout of a part has the tokens that spell it.
-use Rattle.std.proofs.Common.{◌≡◌, ℕ, zero, suc, Bool, true, false, List, [], ◌∷◌, ◌++◌, Option, None, Some, refl, sym, ap, subst, ◌∙◌}
-use Rattle.std.specs.Prelude.{map}
+use Rattle.std.proofs.Common.{◌≡◌, ℕ, zero, suc, Bool, true, false, List, [], ◌∷◌, ◌++◌, Option, None, Some, refl, sym, ap, ◌∙◌}
 use Rattle.vale_base.specs.declared.spot.Spot.{Spot}
 use Rattle.vale_syntax.specs.declared.token.Token.{Token}
 use Rattle.vale_syntax.specs.declared.token.TokenKind.{TokenKind}
-use Rattle.vale_syntax.specs.declared.token.TokenKind.TheVariants as k
 use Rattle.vale_syntax.specs.declared.token.Sign.{Sign}
 use Rattle.vale_syntax.specs.declared.token.Sign.TheVariants as s
 use Rattle.vale_syntax.specs.declared.token.Word.{Word}
-use Rattle.vale_syntax.specs.Grammar.{Part, token, one, sign, word, nothing, never, when, optional, each, with_commas, deeper, ◌▸◌, ◌⊳◌}
+use Rattle.vale_syntax.specs.Grammar.{Part, one, sign, word, nothing, when, optional, each, with_commas, deeper, ◌▸◌, ◌⊳◌}
 use Rattle.vale_syntax.specs.Layout as l
 use Rattle.vale_syntax.specs.Layout.{Piece, lexeme, space, line, Layout, put, mark, key, gap, new_line, around}
 use Rattle.vale_syntax.specs.Moved.{kinds}

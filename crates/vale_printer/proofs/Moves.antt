@@ -1,5 +1,5 @@
 -- What tokens spell is spelled, with its spots moved, by the tokens with theirs moved likewise.
-use Rattle.std.proofs.Common.{◌≡◌, ◌≤◌, ℕ, zero, suc, Bool, true, false, List, [], ◌∷◌, Option, None, Some, refl, sym, ap, subst, ◌∙◌}
+use Rattle.std.proofs.Common.{◌≡◌, ◌≤◌, ℕ, zero, suc, Bool, true, false, List, [], ◌∷◌, Option, None, Some, refl, sym, ap, ◌∙◌}
 use Rattle.std.specs.Prelude.{map, option_map}
 use Rattle.vale_base.specs.declared.name.Name.{Name}
 use Rattle.vale_base.specs.declared.spot.Spot.{Spot}
@@ -12,11 +12,8 @@ use Rattle.vale_syntax.specs.declared.token.Sign.TheVariants as s
 use Rattle.vale_syntax.specs.declared.token.Word.{Word}
 use Rattle.vale_syntax.specs.declared.token.Word.TheVariants as w
 use Rattle.vale_syntax.specs.declared.tree.NameAt.{NameAt}
-use Rattle.vale_syntax.specs.declared.tree.BinaryOp.{BinaryOp}
-use Rattle.vale_syntax.specs.declared.tree.UnaryOp.{UnaryOp}
-use Rattle.vale_syntax.specs.Grammar as g
-use Rattle.vale_syntax.specs.Grammar.{Part, token, one, sign, word, nothing, never, when, optional, each, with_commas, deeper, ◌▸◌, ◌⊳◌, number_of, texts_in, names_in, first_seen, whole, postfix, primary, operand, alone, goes_on, IsOfForm, HasLinks, HasSteps, comparison, binary_kind, unary_kind, truth_kind, rank, named, member, IsType, IsExpr, AreArgs, AreMoreArgs, IsLink, AreLinks, IsStep, AreSteps, IsForm, IsElseIf, AreElses, IsBlock, AreStmts, IsStmt, IsParam, IsHead, IsFunction, IsField, IsItem, spells}
-use Rattle.vale_syntax.specs.Moved.{moved_token, moved_tokens, moved_name, moved_type, moved_expr, moved_exprs, moved_link, moved_links, moved_step, moved_steps, moved_form, moved_else_if, moved_elses, moved_block, moved_stmts, moved_stmt, moved_param, moved_head, moved_function, moved_field, moved_item, moved_tree}
+use Rattle.vale_syntax.specs.Grammar.{Part, one, sign, word, nothing, when, optional, each, with_commas, deeper, ◌▸◌, ◌⊳◌, texts_in, first_seen, whole, postfix, primary, operand, alone, goes_on, IsOfForm, HasLinks, HasSteps, binary_kind, unary_kind, truth_kind, rank, named, member, IsType, IsExpr, AreArgs, AreMoreArgs, IsLink, AreLinks, IsStep, AreSteps, IsForm, IsElseIf, AreElses, IsBlock, AreStmts, IsStmt, IsParam, IsHead, IsFunction, IsField, IsItem, spells}
+use Rattle.vale_syntax.specs.Moved.{moved_tokens, moved_name, moved_type, moved_expr, moved_exprs, moved_link, moved_links, moved_step, moved_steps, moved_form, moved_else_if, moved_elses, moved_block, moved_stmts, moved_stmt, moved_param, moved_head, moved_function, moved_field, moved_item, moved_tree}
 use Rattle.vale_syntax.specs.Tree.{TypeExpr, int_type, bool_type, str_type, named_type, array_type, ref_type, imm_ref_type, iso_type, Expr, set, chain, unary, steps, number, quote, truth, name, call, paren, array, iso, form, Exprs, no_exprs, more_exprs, Link, link, Links, no_links, more_links, Step, field, method, index, Steps, no_steps, more_steps, Form, branch, pure, parallel_range, parallel_each, ElseIf, else_if, Elses, no_else, otherwise, more_elses, Block, block, Stmt, declare, destructure, return_nothing, return_value, while, foreach, form_stmt, express, Stmts, no_stmts, last, more_stmts, Param, param, Head, head, Function, function, FieldDecl, field_decl, Item, struct_item, interface_item, impl_item, function_item, Tree, tree}
 
 module _ (to : Spot → Spot) where

@@ -1,7 +1,6 @@
 -- The pieces of a layout stand apart: none runs on into the one behind it.
 use Rattle.std.proofs.Common.{◌≡◌, ℕ, suc, Bool, true, false, List, [], ◌∷◌, ◌++◌, Option, None, Some, refl, sym, subst, ◌∙◌, append_assoc}
 use Rattle.vale_base.specs.declared.name.Name.{Name}
-use Rattle.vale_base.specs.declared.spot.Spot.{Spot}
 use Rattle.vale_syntax.specs.declared.token.TokenKind.{TokenKind}
 use Rattle.vale_syntax.specs.declared.token.TokenKind.TheVariants as k
 use Rattle.vale_syntax.specs.declared.token.Sign.{Sign}
@@ -9,13 +8,11 @@ use Rattle.vale_syntax.specs.declared.token.Sign.TheVariants as s
 use Rattle.vale_syntax.specs.declared.token.Word.{Word}
 use Rattle.vale_syntax.specs.declared.token.Word.TheVariants as w
 use Rattle.vale_syntax.specs.declared.tree.NameAt.{NameAt}
-use Rattle.vale_syntax.specs.declared.tree.BinaryOp.{BinaryOp}
-use Rattle.vale_syntax.specs.declared.tree.UnaryOp.{UnaryOp}
 use Rattle.vale_syntax.specs.declared.tree.UnaryOp.TheVariants as u
-use Rattle.vale_syntax.specs.Grammar.{binary_kind, unary_kind, truth_kind}
-use Rattle.vale_syntax.specs.Layout.{Piece, lexeme, space, line, Layout, put, mark, key, gap, new_line, around, when, optional, each, with_commas, after_word, after_unary, opens, member, named, lay_type, lay_expr, lay_args, lay_more_args, lay_link, lay_links, lay_step, lay_steps, lay_form, lay_else_if, lay_elses, lay_block, lay_stmts, lay_stmt, lay_param, lay_head, lay_function, lay_field, lay_members, lay_item, lay_tree}
+use Rattle.vale_syntax.specs.Grammar.{binary_kind}
+use Rattle.vale_syntax.specs.Layout.{Layout, put, mark, key, gap, new_line, around, when, optional, each, with_commas, after_word, opens, member, named, lay_type, lay_expr, lay_args, lay_more_args, lay_link, lay_links, lay_step, lay_steps, lay_form, lay_else_if, lay_elses, lay_block, lay_stmts, lay_stmt, lay_param, lay_head, lay_function, lay_field, lay_members, lay_item, lay_tree}
 use Rattle.vale_syntax.specs.Tree.{TypeExpr, int_type, bool_type, str_type, named_type, array_type, ref_type, imm_ref_type, iso_type, Expr, set, chain, unary, steps, number, quote, truth, name, call, paren, array, iso, form, Exprs, no_exprs, more_exprs, Link, link, Links, no_links, more_links, Step, field, method, index, Steps, no_steps, more_steps, Form, branch, pure, parallel_range, parallel_each, ElseIf, else_if, Elses, no_else, otherwise, more_elses, Block, block, Stmt, declare, destructure, return_nothing, return_value, while, foreach, form_stmt, express, Stmts, no_stmts, last, more_stmts, Param, param, Head, head, Function, function, FieldDecl, field_decl, Item, struct_item, interface_item, impl_item, function_item, Tree, tree}
-use Rattle.vale_printer.proofs.Apart.{is_wordy, is_short, begins_wordy, begins_sign, Apart}
+use Rattle.vale_printer.proofs.Apart.{is_short, begins_wordy, Apart}
 
 -- ---- how a part stands between others
 

@@ -1,22 +1,19 @@
 -- The layout of a tree has the tokens that spell it.
-use Rattle.std.proofs.Common.{◌≡◌, ◌≤◌, ℕ, zero, suc, Bool, true, false, List, [], ◌∷◌, ◌++◌, Option, None, Some, get_or, refl, sym, ap, subst, ◌∙◌, append_assoc, arith}
-use Rattle.std.specs.Prelude.{map}
+use Rattle.std.proofs.Common.{◌≡◌, ◌≤◌, ℕ, suc, Bool, true, false, List, [], ◌∷◌, ◌++◌, Some, get_or, refl, sym, ap, subst, ◌∙◌, append_assoc, arith}
 use Rattle.vale_base.specs.declared.name.Name.{Name}
 use Rattle.vale_base.specs.Limits.{level_limit}
 use Rattle.vale_syntax.specs.declared.token.Token.{Token}
-use Rattle.vale_syntax.specs.declared.token.TokenKind.{TokenKind}
 use Rattle.vale_syntax.specs.declared.token.TokenKind.TheVariants as k
 use Rattle.vale_syntax.specs.declared.token.Sign.TheVariants as s
 use Rattle.vale_syntax.specs.declared.token.Word.TheVariants as w
 use Rattle.vale_syntax.specs.declared.tree.NameAt.{NameAt}
-use Rattle.vale_syntax.specs.declared.tree.BinaryOp.{BinaryOp}
 use Rattle.vale_syntax.specs.declared.tree.UnaryOp.{UnaryOp}
 use Rattle.vale_syntax.specs.declared.tree.UnaryOp.TheVariants as u
 use Rattle.vale_syntax.specs.Grammar as g
 use Rattle.vale_syntax.specs.Grammar.{Part, token, number_of, whole, postfix, primary, operand, alone, goes_on, binary_kind, unary_kind, truth_kind, IsType, IsExpr, AreArgs, AreMoreArgs, IsLink, AreLinks, IsStep, AreSteps, IsForm, IsElseIf, AreElses, IsBlock, AreStmts, IsStmt, IsParam, IsHead, IsFunction, IsField, IsItem, spells, HasSteps, rank, ◌▸◌, deeper, word, sign, one, names_in}
 use Rattle.vale_syntax.specs.Layout as l
 use Rattle.vale_syntax.specs.Layout.{Layout, mark, key, gap, new_line, around, after_word, after_unary, lay_type, lay_expr, lay_args, lay_more_args, lay_link, lay_links, lay_step, lay_steps, lay_form, lay_else_if, lay_elses, lay_block, lay_stmts, lay_stmt, lay_param, lay_head, lay_function, lay_field, lay_members, lay_item, lay_tree, opens}
-use Rattle.vale_syntax.specs.Tree.{TypeExpr, int_type, bool_type, str_type, named_type, array_type, ref_type, imm_ref_type, iso_type, Expr, set, chain, unary, steps, number, quote, truth, name, call, paren, array, iso, form, Exprs, no_exprs, more_exprs, Link, link, Links, no_links, more_links, Step, field, method, index, Steps, no_steps, more_steps, Form, branch, pure, parallel_range, parallel_each, ElseIf, else_if, Elses, no_else, otherwise, more_elses, Block, block, Stmt, declare, destructure, return_nothing, return_value, while, foreach, form_stmt, express, Stmts, no_stmts, last, more_stmts, Param, param, Head, head, Function, function, FieldDecl, field_decl, Item, struct_item, interface_item, impl_item, function_item, Tree, tree}
+use Rattle.vale_syntax.specs.Tree.{TypeExpr, int_type, bool_type, str_type, named_type, array_type, ref_type, imm_ref_type, iso_type, Expr, set, chain, unary, steps, number, quote, truth, name, call, paren, array, iso, form, Exprs, no_exprs, more_exprs, Link, link, Links, no_links, more_links, Step, field, method, index, Steps, no_steps, more_steps, Form, branch, pure, parallel_range, parallel_each, ElseIf, else_if, Elses, no_else, otherwise, more_elses, Block, block, Stmt, declare, destructure, return_nothing, return_value, while, foreach, form_stmt, express, Stmts, no_stmts, last, more_stmts, Param, param, Head, head, Function, function, FieldDecl, field_decl, Item, struct_item, interface_item, impl_item, function_item}
 use Rattle.vale_syntax.specs.Moved.{kinds}
 use Rattle.vale_printer.proofs.Lays.{laid, Lays, seq, re, Blank, behind, before, no_layout, gaps, lines, puts, marks, keys, nothings, arounds, inner, whens, optionals, eachs, commas, given}
 

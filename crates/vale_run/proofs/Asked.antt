@@ -1,9 +1,9 @@
 -- What is known of a run before it begins.
-use Rattle.std.proofs.Common.{◌≡◌, ◌<◌, ◌≤◌, ◌+◌, ℕ, suc, List, [], ◌∷◌, length, get_or, true, refl, ap, ◌∙◌, arith}
-use Rattle.std.specs.Prelude.{unwrap_or, ◌&&◌}
+use Rattle.std.proofs.Common.{◌<◌, ◌≤◌, ℕ, List, [], ◌∷◌, arith}
+use Rattle.std.specs.Prelude.{unwrap_or}
 use Rattle.vale_base.specs.Limits.{ticks_limit, ticks_default}
 use Rattle.vale_words.specs.FirstFault.{Word}
-use Rattle.vale_words.specs.Words.{Asks, AsksBehind, ChoosesFrom, IsValue, nothing_chosen, with_setting, option_of}
+use Rattle.vale_words.specs.Words.{Asks, AsksBehind, ChoosesFrom, IsValue, nothing_chosen, with_setting}
 use Rattle.vale_words.specs.declared.job.Job.TheVariants as j
 use Rattle.vale_words.specs.declared.job.Options.{Options}
 use Rattle.vale_words.specs.declared.options.Chosen.{Chosen}

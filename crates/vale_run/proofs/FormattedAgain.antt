@@ -1,13 +1,12 @@
 -- `fmt` of what `fmt` printed prints the same.
-use Rattle.std.proofs.Common.{◌≡◌, ◌≤◌, ℕ, List, [], length, refl, sym, ap, subst, ◌∙◌, arith}
+use Rattle.std.proofs.Common.{◌≡◌, ◌≤◌, ℕ, List, length, refl, sym, ap, subst, ◌∙◌, arith}
 use Rattle.vale_base.specs.Limits.{program_limit}
 use Rattle.vale_base.specs.declared.spot.Spot.{Spot}
 use Rattle.vale_syntax.specs.Canon.{canon}
 use Rattle.vale_syntax.specs.Grammar.{spells}
-use Rattle.vale_syntax.specs.Tree.{Tree}
 use Rattle.vale_syntax.specs.declared.token.Tokens.{Tokens}
 use Rattle.vale_lexer.proofs.OneCut.{one_tokens}
-use Rattle.vale_format.specs.Format.{IsFormatOf, IsFixed}
+use Rattle.vale_format.specs.Format.{IsFixed}
 use Rattle.vale_format.proofs.Fixed.{formatted_fixed}
 use Rattle.vale_run.specs.Formatted.{formatted, StaysFormatted}
 use Rattle.vale_front.specs.Front.{Unread, too_long, no_tokens, no_tree}

@@ -1,11 +1,10 @@
 -- What each call of a heap keeps of a heap without isolates, or with one.
-use Rattle.std.proofs.Common.{◌≡◌, ◌≢◌, ℕ, ◌+◌, ◌-◌, ◌<◌, ◌≤◌, Bool, true, false, List, length, get_or, set, replicate, Option, Some, None, cond, refl, sym, ap, subst, ◌∙◌, inl, inr, arith, nat_eq}
+use Rattle.std.proofs.Common.{◌≡◌, ◌≢◌, ℕ, ◌+◌, ◌-◌, ◌<◌, Bool, true, false, length, get_or, set, Option, Some, None, cond, refl, sym, ap, subst, ◌∙◌, inl, inr, arith, nat_eq}
 use Rattle.std.specs.Prelude.{IfSome, IfNone, IfOk, OnErr, Result, Ok, Err, is_some, ◌&&◌}
 use Rattle.std.specs.Option.{option_map, option_or}
-use Rattle.std.proofs.lemmas.Bool.{cases_eq, cases_Bool}
-use Rattle.std.proofs.lemmas.List.{get_or-set_same, get_or-set_other, length-replicate, length-set}
+use Rattle.std.proofs.lemmas.Bool.{cases_eq}
+use Rattle.std.proofs.lemmas.List.{get_or-set_same, get_or-set_other, length-replicate}
 use Rattle.vale_page.specs.PageState.{PageState, body_at, with_body, after_death, live_count}
-use Rattle.vale_table.specs.Lending.{Same, StillOut}
 use Rattle.vale_table.specs.Plain.{Plain, frames_of, out_of, OpensAt}
 use Rattle.vale_heap.specs.declared.body.Place.{Place}
 use Rattle.vale_heap.specs.declared.body.Body.{Body}
@@ -13,7 +12,7 @@ use Rattle.vale_heap.specs.declared.heap.NoPage.{NoPage}
 use Rattle.vale_heap.specs.declared.seat.Seat.{Seat}
 use Rattle.vale_heap.specs.declared.seat.Home.{Home}
 use Rattle.vale_heap.specs.declared.seat.Home.TheVariants.{Spare, Open, Kept}
-use Rattle.vale_heap.specs.HeapState.{HeapState, opened, seat_at, body_in, innermost, Lent, IsMade, IsPut, IsEnded, IsRefused, IsRoot, IsFor, LivesIn, KnowsFrames, KeepsFrames, with_seat, with_spare, with_home, without_region, with_merged, home_after, home_eq, rehomed}
+use Rattle.vale_heap.specs.HeapState.{HeapState, opened, seat_at, body_in, innermost, Lent, IsMade, IsPut, IsEnded, IsRefused, IsRoot, IsFor, LivesIn, KnowsFrames, KeepsFrames, with_seat, with_spare, with_home, without_region, with_merged, home_eq, rehomed}
 use Rattle.vale_heap.specs.Standing.{look_over}
 use Rattle.vale_heap.specs.HeapLends.{changed, with_written}
 use Rattle.vale_heap.proofs.HeapLaws.{set_some, got_lt, open_kept, spare_kept}
