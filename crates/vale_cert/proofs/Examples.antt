@@ -23,22 +23,22 @@ use Rattle.vale_cert.specs.declared.fault.Fault.{Fault}
 
 -- ---- words
 
-abbrev at : Spot
+abbrev pub at : Spot
 at = record { line = 1; col = 1 }
 
-abbrev kind : ℕ → Kind
+abbrev pub kind : ℕ → Kind
 kind n = record { 0 = n }
 
-abbrev function : ℕ → List Ty → Ty → List Instr → Func
+abbrev pub function : ℕ → List Ty → Ty → List Instr → Func
 function form params result body = record { name = 0; form = form; params = params; result = result; registers = 4; body = body }
 
-abbrev plain : List Ty → Ty → List Instr → Func
+abbrev pub plain : List Ty → Ty → List Instr → Func
 plain params result body = function 0 params result body
 
-abbrev code : List KindInfo → List Impl → List Func → Parts
+abbrev pub code : List KindInfo → List Impl → List Func → Parts
 code kinds impls funcs = record { texts = codes "main" ∷ []; kinds = kinds; impls = impls; funcs = funcs; main = 0 }
 
-abbrev facts : List Label → FuncFacts
+abbrev pub facts : List Label → FuncFacts
 facts labels = record { live = []; labels = labels }
 
 abbrev label : ℕ → List RegFact → Label
@@ -50,7 +50,7 @@ number = Held t.Int 0 false
 abbrev owner : RegFact
 owner = Held (t.Own (kind 0)) 0 false
 
-abbrev fails : ℕ → ℕ → Option Fault
+abbrev pub fails : ℕ → ℕ → Option Fault
 fails rule n = Some (record { rule = rule; at = n })
 
 -- only `main`, with these labels

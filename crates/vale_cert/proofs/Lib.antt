@@ -1,5 +1,6 @@
 mod Examples
 mod Fit
+mod ObjectExamples
 pub mod Safe
 pub mod Start
 mod Values

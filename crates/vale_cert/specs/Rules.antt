@@ -3,14 +3,19 @@
 use Rattle.std.specs.Prelude.{ℕ, ◌+◌, List, [], ◌∷◌, length, Option, Some, None, Bool, true, false, not, ◌&&◌, ◌||◌, ◌==◌, nat_lt, nat_le, slice_get, slice_set}
 use Rattle.std.specs.List.{list_all}
 use Rattle.vale_base.specs.Limits.{text_limit}
-use Rattle.vale_code.specs.Kinds.{same_type}
+use Rattle.vale_base.specs.declared.name.Kind.{Kind}
+use Rattle.vale_code.specs.Kinds.{kind_of, same_type}
 use Rattle.vale_code.specs.Parts.{Parts}
 use Rattle.vale_code.specs.declared.func.Func.{Func}
+use Rattle.vale_code.specs.declared.func.Impl.{Impl}
 use Rattle.vale_code.specs.declared.instr.Instr.{Instr}
 use Rattle.vale_code.specs.declared.instr.Instr.TheVariants as i
+use Rattle.vale_code.specs.declared.kind.KindInfo.{KindInfo}
+use Rattle.vale_code.specs.declared.kind.MethodInfo.{MethodInfo}
 use Rattle.vale_code.specs.declared.ty.Ty.{Ty}
 use Rattle.vale_code.specs.declared.ty.Ty.TheVariants as t
-use Rattle.vale_cert.specs.Types.{is_copy, is_owned, is_void}
+use Rattle.vale_cert.specs.Objects.{cells_of, fields_of, has_room, field_of, item_of, cell_by, owner_kind, reference_kind, read_kind, is_through_frozen, found_alive, seen, raised, may_be_raised, method_of}
+use Rattle.vale_cert.specs.Types.{is_copy, is_owned, is_isolate, is_void}
 use Rattle.vale_cert.specs.Known.{fact_of, is_there, has, is_free}
 use Rattle.vale_cert.specs.declared.facts.RegFact.{RegFact}
 use Rattle.vale_cert.specs.declared.facts.RegFact.TheVariants.{Empty, Held}
@@ -182,6 +187,193 @@ abbrev pub calls : ℕ → List RegFact → Option Func → ℕ → List ℕ →
 calls depth regs None to args = refused regs
 calls depth regs (Some callee) to args = call_by_form (callee.form == 0) depth regs callee to args
 
+-- the registers behind a checked instruction on one of them
+abbrev pub finds_alive : ℕ → List RegFact → ℕ → List RegFact
+finds_alive depth regs a = slice_set regs a (found_alive depth (fact_of regs a))
+
+-- a method that isn't pure is called; its first parameter is the receiver
+abbrev pub method_by_purity : Bool → ℕ → List RegFact → MethodInfo → ℕ → ℕ → List ℕ → Row
+method_by_purity true depth regs m to a args = refused regs
+method_by_purity false depth regs m to a args =
+    comes_back depth m.result to (passes_all depth m.params (a ∷ args) (all_fine (finds_alive depth regs a)))
+
+abbrev pub calls_method : ℕ → List RegFact → Option MethodInfo → ℕ → ℕ → List ℕ → Row
+calls_method depth regs None to a args = refused regs
+calls_method depth regs (Some m) to a args = method_by_purity m.is_pure depth regs m to a args
+
+-- ---- owners and isolates
+
+-- a register is read that holds a value of this type, and an owner or an isolate is taken out of it
+abbrev pub taken : ℕ → ℕ → Ty → Row → Row
+taken depth a ty row = record { kept = uses depth row.after a ty row.kept; after = after_passing row.after a ty }
+
+-- each is a value of one of these types
+abbrev pub takes_all : ℕ → List Ty → List ℕ → Row → Row
+takes_all depth [] [] row = row
+takes_all depth [] (a ∷ more) row = too_many_or_few row
+takes_all depth (ty ∷ tys) [] row = too_many_or_few row
+takes_all depth (ty ∷ tys) (a ∷ more) row = takes_all depth tys more (taken depth a ty row)
+
+abbrev pub is_moved : RegFact → Bool
+is_moved Empty = true
+is_moved (Held ty d live) = is_owned ty
+
+-- what a register holds, written now to another
+abbrev pub moved_to : ℕ → RegFact → RegFact
+moved_to depth Empty = Empty
+moved_to depth (Held ty d live) = Held ty depth false
+
+abbrev pub moves : ℕ → List RegFact → ℕ → ℕ → Row
+moves depth regs to a = record {
+  kept = record {
+    types = is_moved (fact_of regs a);
+    present = is_there (fact_of regs a) && is_free (fact_of (slice_set regs a Empty) to);
+    depths = is_usable depth (fact_of regs a);
+  };
+  after = slice_set (slice_set regs a Empty) to (moved_to depth (fact_of regs a));
+}
+
+abbrev pub drops : ℕ → List RegFact → ℕ → Row
+drops depth regs a = record {
+  kept = record { types = is_moved (fact_of regs a); present = is_there (fact_of regs a); depths = is_usable depth (fact_of regs a) };
+  after = slice_set regs a Empty;
+}
+
+-- ---- objects are made, taken apart, lent, and seen as interfaces
+
+-- an owner of a new object comes into a register
+abbrev pub owns : ℕ → Kind → ℕ → Row → Row
+owns depth kind to row = gets depth row.after to (t.Own kind) row.kept
+
+abbrev pub makes_of : ℕ → Option (List Ty) → Kind → ℕ → List ℕ → Row → Row
+makes_of depth None kind to args row = refused row.after
+makes_of depth (Some tys) kind to args row = owns depth kind to (takes_all depth tys args row)
+
+-- an object of a kind is made of values of the types of its cells
+abbrev pub makes : ℕ → List RegFact → Option KindInfo → Kind → ℕ → List ℕ → Row
+makes depth regs info kind to args =
+    makes_of depth (cells_of info (length args)) kind to args (record { kept = if_types (has_room info (length args)); after = regs })
+
+-- each value of a type comes into a register
+abbrev pub puts_all : ℕ → List Ty → List ℕ → Row → Row
+puts_all depth [] [] row = row
+puts_all depth [] (to ∷ more) row = too_many_or_few row
+puts_all depth (ty ∷ tys) [] row = too_many_or_few row
+puts_all depth (ty ∷ tys) (to ∷ more) row = puts_all depth tys more (gets depth row.after to ty row.kept)
+
+abbrev pub fields_by : Parts → Option Kind → Option (List Ty)
+fields_by code None = None
+fields_by code (Some kind) = fields_of (kind_of code kind)
+
+abbrev pub opens_of : ℕ → Option (List Ty) → List ℕ → Row → Row
+opens_of depth None to row = row
+opens_of depth (Some tys) to row = puts_all depth tys to row
+
+abbrev pub is_known : {A : Type 0} → Option A → Bool
+is_known None = false
+is_known (Some a) = true
+
+-- an operand, which leads to an object with such cells
+abbrev pub leads : {A : Type 0} → Bool → RegFact → Option A → Kept
+leads usable fact cells = record { types = not (is_there fact) || is_known cells; present = is_there fact; depths = usable }
+
+-- the object of an owner of a struct is taken apart
+abbrev pub opens : Parts → ℕ → List RegFact → List ℕ → ℕ → Row
+opens code depth regs to a =
+    opens_of depth (fields_by code (owner_kind (fact_of regs a))) to
+    (record { kept = leads (is_usable depth (fact_of regs a)) (fact_of regs a) (fields_by code (owner_kind (fact_of regs a))); after = slice_set regs a Empty })
+
+abbrev pub lent_to : ℕ → RegFact → RegFact
+lent_to depth (Held (t.Own kind) d live) = Held (t.Ref kind) depth false
+lent_to depth fact = Empty
+
+abbrev pub borrows : ℕ → List RegFact → ℕ → ℕ → Row
+borrows depth regs to a = record {
+  kept = overwrites regs to (leads (is_usable depth (fact_of regs a)) (fact_of regs a) (owner_kind (fact_of regs a)));
+  after = slice_set regs to (lent_to depth (fact_of regs a));
+}
+
+abbrev pub is_raised : List Impl → Kind → RegFact → Bool
+is_raised impls interface Empty = true
+is_raised impls interface (Held ty d live) = may_be_raised impls interface ty
+
+abbrev pub raised_to : ℕ → Kind → RegFact → RegFact
+raised_to depth interface Empty = Empty
+raised_to depth interface (Held ty d live) = Held (raised interface ty) depth live
+
+-- an owner or an isolate is taken out of its register
+abbrev pub after_taking : List RegFact → ℕ → RegFact → List RegFact
+after_taking regs a Empty = regs
+after_taking regs a (Held ty d live) = after_passing regs a ty
+
+abbrev pub upcasts : List Impl → ℕ → List RegFact → ℕ → ℕ → Kind → Row
+upcasts impls depth regs to a interface = record {
+  kept = overwrites (after_taking regs a (fact_of regs a)) to (record {
+    types = is_raised impls interface (fact_of regs a);
+    present = is_there (fact_of regs a);
+    depths = is_usable depth (fact_of regs a);
+  });
+  after = slice_set (after_taking regs a (fact_of regs a)) to (raised_to depth interface (fact_of regs a));
+}
+
+-- ---- fields and elements
+
+-- a reference is read through at its own depth, or as `&imm` at a greater one
+abbrev pub is_readable : ℕ → RegFact → Bool
+is_readable depth Empty = true
+is_readable depth (Held ty d live) = not (is_bound ty) || nat_le d depth
+
+-- an owner of this depth, a reference `&X` of this depth, and what is only read
+abbrev pub leads_as_owner : (Kind → Option Ty) → ℕ → RegFact → Kept
+leads_as_owner cell depth fact = leads (is_usable depth fact) fact (cell_by cell (owner_kind fact))
+
+abbrev pub leads_as_reference : (Kind → Option Ty) → ℕ → RegFact → Kept
+leads_as_reference cell depth fact = leads (is_usable depth fact) fact (cell_by cell (reference_kind fact))
+
+abbrev pub leads_to_read : (Kind → Option Ty) → ℕ → RegFact → Kept
+leads_to_read cell depth fact = leads (is_readable depth fact) fact (cell_by cell (read_kind depth fact))
+
+-- what is read of a cell comes into a register: an isolate only through `&imm`
+abbrev pub reads_cell : ℕ → Bool → Option Ty → ℕ → Row → Row
+reads_cell depth frozen None to row = row
+reads_cell depth frozen (Some ty) to row = record {
+  kept = overwrites row.after to (record row.kept { types = row.kept.types && (frozen || not (is_isolate ty)) });
+  after = slice_set row.after to (Held (seen frozen ty) depth (frozen && is_owned ty));
+}
+
+-- the same of an owner's object, and of one that was found alive
+abbrev pub reads_own : (Kind → Option Ty) → ℕ → List RegFact → ℕ → ℕ → Kept → Row
+reads_own cell depth regs to a kept = reads_cell depth false (cell_by cell (owner_kind (fact_of regs a))) to (record { kept = kept; after = regs })
+
+abbrev pub reads_found : (Kind → Option Ty) → ℕ → List RegFact → ℕ → ℕ → Kept → Row
+reads_found cell depth regs to a kept =
+    reads_cell depth (is_through_frozen depth (fact_of regs a)) (cell_by cell (read_kind depth (fact_of regs a))) to
+    (record { kept = kept; after = finds_alive depth regs a })
+
+-- the length of an array that is found alive
+abbrev pub measures : Parts → ℕ → List RegFact → ℕ → ℕ → Row
+measures code depth regs to a = gets depth (finds_alive depth regs a) to t.Int (leads_to_read (item_of code) depth (fact_of regs a))
+
+-- a value goes into a cell
+abbrev pub fills : ℕ → Option Ty → ℕ → Row → Row
+fills depth None v row = row
+fills depth (Some ty) v row = taken depth v ty row
+
+-- what was in a cell comes into a register
+abbrev pub gives_back : ℕ → Option Ty → ℕ → Row → Row
+gives_back depth None to row = row
+gives_back depth (Some ty) to row = gets depth row.after to ty row.kept
+
+-- of an operand of which it is asked that it leads to a cell of this type
+abbrev pub swaps : ℕ → List RegFact → Option Ty → ℕ → ℕ → Kept → Row
+swaps depth regs cell to v kept = gives_back depth cell to (fills depth cell v (record { kept = kept; after = regs }))
+
+abbrev pub pushes : ℕ → List RegFact → Option Ty → ℕ → Kept → Row
+pushes depth regs cell v kept = fills depth cell v (record { kept = kept; after = regs })
+
+abbrev pub pops : ℕ → List RegFact → Option Ty → ℕ → Kept → Row
+pops depth regs cell to kept = gives_back depth cell to (record { kept = kept; after = regs })
+
 -- ---- leaving: at depth 0, and with no owner and no isolate left behind
 
 abbrev pub leaves : ℕ → List RegFact → Kept → Kept
@@ -202,6 +394,32 @@ returns_nothing depth regs ty = record { kept = leaves depth regs (if_types (is_
 
 -- of an instruction in a function with this result
 module _ (code : Parts) (result_type : Ty) (depth : ℕ) (regs : List RegFact) where
+  -- of the instructions on objects
+  abbrev pub object_row : Instr → Row
+  object_row (i.Move to a) = moves depth regs to a
+  object_row (i.CallM to interface method a args at) = calls_method depth regs (method_of code interface method) to a args
+  object_row (i.Make to kind args) = makes depth regs (kind_of code kind) kind to args
+  object_row (i.Borrow to a) = borrows depth regs to a
+  object_row (i.LoadOwn to a field) = reads_own (field_of code field) depth regs to a (leads_as_owner (field_of code field) depth (fact_of regs a))
+  object_row (i.Load to a field at) = reads_found (field_of code field) depth regs to a (leads_to_read (field_of code field) depth (fact_of regs a))
+  object_row (i.ElemOwn to a x at) = reads_own (item_of code) depth regs to a (reads regs x t.Int (leads_as_owner (item_of code) depth (fact_of regs a)))
+  object_row (i.Elem to a x at) = reads_found (item_of code) depth regs to a (reads regs x t.Int (leads_to_read (item_of code) depth (fact_of regs a)))
+  object_row (i.Len to a at) = measures code depth regs to a
+  object_row (i.SwapOwn to a field v) =
+      swaps depth regs (cell_by (field_of code field) (owner_kind (fact_of regs a))) to v (leads_as_owner (field_of code field) depth (fact_of regs a))
+  object_row (i.Swap to a field v at) =
+      swaps depth regs (cell_by (field_of code field) (reference_kind (fact_of regs a))) to v (leads_as_reference (field_of code field) depth (fact_of regs a))
+  object_row (i.SwapElOwn to a x v at) =
+      swaps depth regs (cell_by (item_of code) (owner_kind (fact_of regs a))) to v (reads regs x t.Int (leads_as_owner (item_of code) depth (fact_of regs a)))
+  object_row (i.SwapEl to a x v at) =
+      swaps depth regs (cell_by (item_of code) (reference_kind (fact_of regs a))) to v (reads regs x t.Int (leads_as_reference (item_of code) depth (fact_of regs a)))
+  object_row (i.Push a v at) = pushes depth regs (cell_by (item_of code) (reference_kind (fact_of regs a))) v (leads_as_reference (item_of code) depth (fact_of regs a))
+  object_row (i.Pop to a at) = pops depth regs (cell_by (item_of code) (reference_kind (fact_of regs a))) to (leads_as_reference (item_of code) depth (fact_of regs a))
+  object_row (i.Open to a) = opens code depth regs to a
+  object_row (i.Destroy a at) = drops depth regs a
+  object_row (i.Upcast to a kind) = upcasts code.impls depth regs to a kind
+  object_row _ = refused regs
+
   abbrev pub control_row : Instr → Row
   control_row (i.Print a choice) = record { kept = prints regs a; after = regs }
   control_row (i.Jump target) = all_fine regs
@@ -210,7 +428,7 @@ module _ (code : Parts) (result_type : Ty) (depth : ℕ) (regs : List RegFact) w
   control_row (i.Call to func args at) = calls depth regs (slice_get code.funcs func) to args
   control_row (i.Ret a) = returns depth regs a result_type
   control_row i.RetVoid = returns_nothing depth regs result_type
-  control_row _ = refused regs
+  control_row instr = object_row instr
 
   abbrev pub row : Instr → Row
   row (i.Int to n) = gets depth regs to t.Int fine
