@@ -1,5 +1,8 @@
+mod Cells
 mod Examples
 mod Fit
+mod Heap
+mod KindLaws
 mod ObjectExamples
 pub mod Safe
 pub mod Start

@@ -2,35 +2,42 @@
 use Rattle.std.proofs.Common.{◌≡◌, ◌≢◌, ℕ, zero, suc, ◌+◌, ◌<◌, ◌≤◌, ℤ, List, [], ◌∷◌, ◌++◌, length, Option, Some, None, Bool, true, false, not, ◌&&◌, ◌||◌, ◌==◌, if◌then◌else◌, nat_lt, refl, sym, ap, ◌∙◌, subst, ⊎_elim, arith, length-append, append_assoc}
 use Rattle.std.specs.Prelude.{slice_get, slice_set}
 use Rattle.std.specs.List.{list_all}
-use Rattle.std.proofs.lemmas.Bool.{and_parts}
+use Rattle.std.proofs.lemmas.Bool.{and_parts, eq-eqb}
 use Rattle.std.proofs.lemmas.Option.{slice_get-get_or}
 use Rattle.std.proofs.Math.Seq.{get_or-append_seam}
 use Rattle.vale_base.specs.Outcome.{End, Done, Cut, Wrong, Trap}
 use Rattle.vale_base.specs.State.{State, Answer, gives, traps, fails, Given, no_input, numbers as number_lines, lines, given, begin, born, function_frame, spend, spend_of, has_depth, print}
-use Rattle.vale_base.specs.World.{Value, Int, Truth, Text, Own, Ref, Iso, next_name}
+use Rattle.vale_base.specs.State.{Looked, object_of, look, look_up, found_or_dead, on_object, name_of, dies, join_isolate, drop_frame}
+use Rattle.vale_base.specs.World.{Value, Int, Truth, Text, Own, Ref, Iso, Region, Freeze, Isolate, Object, World, next_name, died, relabelled}
+use Rattle.vale_base.specs.declared.name.Kind.{Kind}
 use Rattle.vale_base.specs.declared.spot.Spot.{Spot}
 use Rattle.vale_base.specs.declared.trap.FrameAt.{FrameAt}
 use Rattle.vale_base.specs.declared.trap.TrapKind.{TrapKind}
 use Rattle.vale_text.specs.Steps as step
 use Rattle.vale_code.specs.Act.{act, act_if, step_of, step_by}
-use Rattle.vale_code.specs.Enter.{Form, Plain, form_of, function, with_func, with_form, enter, if_called, leave_function}
-use Rattle.vale_code.specs.Frames.{Active, Frame, Running, Dropping, Looping, Alone, Config, Next, On, Over, on, wrong, trap, under, deeper, ticked, after_tick, resume, leave}
+use Rattle.vale_code.specs.Destroy.{destroy, destroy_by, destroy_object, drop_rest, drop_next, Owned, first_owned}
+use Rattle.vale_code.specs.Enter.{Form, Plain, Pure, Iteration, Destructor, form_of, if_destructor, function, with_func, with_form, enter, if_called, leave_function}
+use Rattle.vale_code.specs.Frames.{Active, Emptying, Frame, Running, Dropping, Looping, Alone, Config, Next, On, Over, on, wrong, trap, under, deeper, ticked, after_tick, resume, leave}
 use Rattle.vale_code.specs.Instructions.{behind, onward, with_value, with_read, with_truth, with_choice, copied, gets, answered, certain, fetch, jump, jump_by, jump_unless, is_free, at_place, truth_of, comparison_of, text_length}
-use Rattle.vale_code.specs.Kinds.{text_at, result_to}
+use Rattle.vale_code.specs.Kinds.{text_at, result_to, kind_of, kind_text, destructor_of, destructor_in}
 use Rattle.vale_code.specs.Parts.{Parts}
-use Rattle.vale_code.specs.Registers.{Registers, Read, read, put, kept, give_all, given_value, after_giving, and_then, as_frozen, registers_for}
+use Rattle.vale_code.specs.Registers.{Registers, Read, read, put, kept, give_all, read_all, given_value, after_giving, after_keeping, and_then, as_frozen, named, registers_for}
 use Rattle.vale_code.specs.Run.{Ending, exec_by, then_go}
 use Rattle.vale_code.specs.declared.func.Func.{Func}
 use Rattle.vale_code.specs.declared.instr.Instr.{Instr}
 use Rattle.vale_code.specs.declared.instr.Instr.TheVariants as i
+use Rattle.vale_code.specs.declared.kind.KindInfo.{KindInfo}
+use Rattle.vale_code.specs.declared.kind.KindInfo.TheVariants as k
 use Rattle.vale_code.specs.declared.ty.Ty.{Ty}
 use Rattle.vale_code.specs.declared.ty.Ty.TheVariants as t
 use Rattle.vale_cert.specs.Certificate.{Certified}
-use Rattle.vale_cert.specs.Known as k
+use Rattle.vale_cert.specs.Known as known
 use Rattle.vale_cert.specs.Known.{Known, entry, label_at, is_label, may_enter, stated, fact_of, has, is_there}
-use Rattle.vale_cert.specs.Numbers.{numbers}
+use Rattle.vale_cert.specs.Numbers.{numbers, is_text}
+use Rattle.vale_cert.specs.Objects.{cells_of, is_implemented}
 use Rattle.vale_cert.specs.Rules as rules
-use Rattle.vale_cert.specs.Rules.{Row, reads, uses, passes, passed, passes_all, all_fine, comes_back, after_passing, gives_frozen, leads_to, copy_of, is_copied, is_comparable, is_ordered, are_alike, is_printable, is_short}
+use Rattle.vale_cert.specs.Rules.{taken, takes_all, Row, reads, uses, passes, passed, passes_all, all_fine, comes_back, after_passing, gives_frozen, leads_to, copy_of, is_copied, is_comparable, is_ordered, are_alike, is_printable, is_short}
+use Rattle.vale_cert.specs.Shape.{destroys, is_destructor_of, takes_owner, field_is_lawful}
 use Rattle.vale_cert.specs.Types.{is_owned, is_void}
 use Rattle.vale_cert.specs.Walk.{row_of, after, enters, has_target, next_of, is_place, known_after, walk, goes_on, target_of}
 use Rattle.vale_cert.specs.declared.facts.FuncFacts.{FuncFacts}
@@ -38,14 +45,21 @@ use Rattle.vale_cert.specs.declared.facts.Label.{Label}
 use Rattle.vale_cert.specs.declared.facts.RegFact.{RegFact}
 use Rattle.vale_cert.specs.declared.facts.RegFact.TheVariants.{Empty, Held}
 use Rattle.vale_cert.specs.declared.rules.Kept.{Kept}
-use Rattle.vale_cert.proofs.Fit.{value_has, Holds, RegsFit, same_has, put_fits, agree_fits, reg_value, ArgsFit, entry_fits}
+use Rattle.vale_cert.proofs.Cells.{leading, died_fits, object_later}
+use Rattle.vale_cert.proofs.Fit.{value_has, kind_seen, kind_is, type_is, kind_fits, NameFits, Has, Holds, RegsFit, ObjectFits, WorldFits, has_later, regs_later, has_plain, owns_nothing, put_fits, agree_fits, reg_value, ArgsFit, entry_fits}
+use Rattle.vale_cert.proofs.Heap.{object_at, Later, later_same, later_later, later_died, later_relabelled, relabelled_each, same, same_self, own, own_in, in_regs, in_values, in_object, in_world, in_frame, in_frames, alive, living_is, put_owns, begun_owns, world_set, alive_died, world_relabelled, alive_relabelled, resume_owns}
+use Rattle.vale_cert.proofs.KindLaws.{kind_lawful}
 use Rattle.vale_cert.proofs.Values.{Answers, Surely, SurelyNothing, add_answers, sub_answers, mul_answers, div_answers, rem_answers, opposite_answers, compare_answers, truth_is, comparison_is, join_answers, slice_answers, byte_answers, number_answers, length_answers, text_of_answers, is_number_answers, print_answers, as_truth}
-use Rattle.vale_cert.proofs.Walks.{Keeps, Stepped, stepped, Comes, comes, Judged, judged, main_is_there, main_lawful}
+use Rattle.vale_cert.proofs.Walks.{reaches, Keeps, Stepped, stepped, Comes, comes, Judged, judged, main_is_there, main_lawful}
 
 -- a value of a result's type, or nothing where that is void
-abbrev pub Returns : Ty → Option Value → Type 0
-Returns t.Void o = o ≡ None
-Returns ty o = (v : Value) × (o ≡ Some v) × (value_has ty v ≡ true)
+abbrev pub Returns : Parts → World → Ty → Option Value → Type 0
+Returns code w t.Void o = o ≡ None
+Returns code w ty o = (v : Value) × (o ≡ Some v) × Has code w ty v
+
+returns_later : (code : Parts) (w u : World) (ty : Ty) (o : Option Value) → Later w u → Returns code w ty o → Returns code u ty o
+returns_later code w u t.Void o l h = h
+returns_later code w u ty o l h = (h.0, h.1, has_later code w u ty h.0 l h.2)
 
 abbrev dest_of : Frame → Option ℕ
 dest_of (Running f) = f.dest
@@ -55,123 +69,195 @@ dest_of (Alone v) = None
 
 -- ---- arguments
 
--- what a parameter gets is of its type, and what stays fits
-record Passed (ty : Ty) (known : List RegFact) (a : ℕ) (regs : Registers) : Type 0 where
-  value : Value
-  given : given_value ty (read regs a) ≡ Some value
-  has : value_has ty value ≡ true
-  fits : RegsFit (after_passing known a ty) (after_giving ty a (read regs a) regs)
+-- what a parameter gets is of its type, and what stays fits; nothing is owned twice
+pub record Passed (code : Parts) (w : World) (ty : Ty) (known : List RegFact) (a : ℕ) (regs : Registers) : Type 0 where
+  pub value : Value
+  pub given : given_value ty (read regs a) ≡ Some value
+  pub has : Has code w ty value
+  pub fits : RegsFit code w (after_passing known a ty) (after_giving ty a (read regs a) regs)
+  pub owned : (n : ℕ) → own n value + in_regs n (after_giving ty a (read regs a) regs) ≤ in_regs n regs
 
--- a value that leads somewhere gives a reference
-frozen_from : (n d : ℕ) (kind : _) (fact : RegFact) (o : Option Value) → gives_frozen d n fact ≡ true → is_there fact ≡ true → Holds fact o → (v : Value) × (as_frozen (Rattle.vale_code.specs.Registers.named o) ≡ Some v) × (value_has (t.Frozen kind) v ≡ true)
-frozen_from n d kind Empty o e there h = let x : ⊥ = cc in absurd x
-frozen_from n d kind (Held (t.Frozen q) m l) o e there h = from h.0 h.1 h.2
-  where
-    from : (v : Value) → o ≡ Some v → value_has (t.Frozen q) v ≡ true → (v : Value) × (as_frozen (Rattle.vale_code.specs.Registers.named o) ≡ Some v) × (value_has (t.Frozen kind) v ≡ true)
-    from (Ref x) h g = (Ref x, ap (λ o. as_frozen (Rattle.vale_code.specs.Registers.named o)) h, refl)
-    from _ h g = let x : ⊥ = cc in absurd x
-frozen_from n d kind (Held (t.Own q) m l) o e there h = from h.0 h.1 h.2
-  where
-    from : (v : Value) → o ≡ Some v → value_has (t.Own q) v ≡ true → (v : Value) × (as_frozen (Rattle.vale_code.specs.Registers.named o) ≡ Some v) × (value_has (t.Frozen kind) v ≡ true)
-    from (Own x) h g = (Ref x, ap (λ o. as_frozen (Rattle.vale_code.specs.Registers.named o)) h, refl)
-    from _ h g = let x : ⊥ = cc in absurd x
-frozen_from n d kind (Held (t.Ref q) m l) o e there h = from h.0 h.1 h.2
-  where
-    from : (v : Value) → o ≡ Some v → value_has (t.Ref q) v ≡ true → (v : Value) × (as_frozen (Rattle.vale_code.specs.Registers.named o) ≡ Some v) × (value_has (t.Frozen kind) v ≡ true)
-    from (Ref x) h g = (Ref x, ap (λ o. as_frozen (Rattle.vale_code.specs.Registers.named o)) h, refl)
-    from _ h g = let x : ⊥ = cc in absurd x
-frozen_from n d kind (Held (t.Iso q) m l) o e there h = from h.0 h.1 h.2
-  where
-    from : (v : Value) → o ≡ Some v → value_has (t.Iso q) v ≡ true → (v : Value) × (as_frozen (Rattle.vale_code.specs.Registers.named o) ≡ Some v) × (value_has (t.Frozen kind) v ≡ true)
-    from (Iso x) h g = (Ref x, ap (λ o. as_frozen (Rattle.vale_code.specs.Registers.named o)) h, refl)
-    from _ h g = let x : ⊥ = cc in absurd x
-frozen_from n d kind (Held t.Void m l) o e there h = let x : false ≡ true = (and_parts _ _ e).1 in absurd (let y : ⊥ = cc in y)
-frozen_from n d kind (Held t.Int m l) o e there h = let x : false ≡ true = (and_parts _ _ e).1 in absurd (let y : ⊥ = cc in y)
-frozen_from n d kind (Held t.Truth m l) o e there h = let x : false ≡ true = (and_parts _ _ e).1 in absurd (let y : ⊥ = cc in y)
-frozen_from n d kind (Held t.Text m l) o e there h = let x : false ≡ true = (and_parts _ _ e).1 in absurd (let y : ⊥ = cc in y)
+-- the same of a value that is taken as it is
+pub record Took (code : Parts) (w : World) (ty : Ty) (known : List RegFact) (a : ℕ) (regs : Registers) : Type 0 where
+  pub value : Value
+  pub is : read regs a ≡ Some value
+  pub has : Has code w ty value
+  pub fits : RegsFit code w (after_passing known a ty) (kept a value regs)
+  pub owned : (n : ℕ) → own n value + in_regs n (kept a value regs) ≤ in_regs n regs
 
-module _ (depth : ℕ) where
-  -- what is kept behind an argument was kept before it
-  pass_kept : (a : ℕ) (ty : Ty) (row : Row) → (passed depth a ty row).kept.types ≡ true → (passed depth a ty row).kept.present ≡ true → (row.kept.types ≡ true) × (row.kept.present ≡ true)
-  pass_kept a (t.Frozen k) row e g = ((and_parts _ _ e).0, (and_parts _ _ g).0)
-  pass_kept a t.Void row e g = ((and_parts _ _ e).0, (and_parts _ _ g).0)
-  pass_kept a t.Int row e g = ((and_parts _ _ e).0, (and_parts _ _ g).0)
-  pass_kept a t.Truth row e g = ((and_parts _ _ e).0, (and_parts _ _ g).0)
-  pass_kept a t.Text row e g = ((and_parts _ _ e).0, (and_parts _ _ g).0)
-  pass_kept a (t.Own k) row e g = ((and_parts _ _ e).0, (and_parts _ _ g).0)
-  pass_kept a (t.Ref k) row e g = ((and_parts _ _ e).0, (and_parts _ _ g).0)
-  pass_kept a (t.Iso k) row e g = ((and_parts _ _ e).0, (and_parts _ _ g).0)
+module _ (code : Parts) (w : World) where
+  -- a reference to what a value leads to
+  frozen_ref : (q kind : Kind) (ty : Ty) (v : Value) (x : ℕ) → kind_seen ty ≡ Some q → name_of v ≡ Some x → (q.0 == kind.0) ≡ true → Has code w ty v → Has code w (t.Frozen kind) (Ref x)
+  frozen_ref q kind ty v x e g same_kind h = leading code w (t.Frozen kind) (Ref x) kind x refl refl refl (subst (λ q. NameFits code w q x) (kind_is q kind same_kind) (h.leads q x e g))
 
-  passes_kept : (tys : List Ty) (args : List ℕ) (row : Row) → (passes_all depth tys args row).kept.types ≡ true → (passes_all depth tys args row).kept.present ≡ true → (row.kept.types ≡ true) × (row.kept.present ≡ true)
-  passes_kept [] [] row e g = (e, g)
-  passes_kept [] (a ∷ more) row e g = let x : ⊥ = cc in absurd x
-  passes_kept (ty ∷ tys) [] row e g = let x : ⊥ = cc in absurd x
-  passes_kept (ty ∷ tys) (a ∷ more) row e g = let x = passes_kept tys more (passed depth a ty row) e g in pass_kept a ty row x.0 x.1
+  abbrev Frozen_from : Kind → Option Value → Type 0
+  Frozen_from kind o = (v : Value) × (as_frozen (named o) ≡ Some v) × Has code w (t.Frozen kind) v × ((n : ℕ) → own n v ≡ 0)
+
+  as_ref : (q kind : Kind) (ty : Ty) (v : Value) (x : ℕ) (o : Option Value) → o ≡ Some v → kind_seen ty ≡ Some q → name_of v ≡ Some x → (q.0 == kind.0) ≡ true → Has code w ty v → Frozen_from kind o
+  as_ref q kind ty v x o h e g same_kind has = (Ref x, ap (λ o. as_frozen (named o)) h ∙ ap as_frozen g, frozen_ref q kind ty v x e g same_kind has, λ n. refl)
+
+  -- a value that leads somewhere gives a reference
+  frozen_from : (d : ℕ) (kind : Kind) (fact : RegFact) (o : Option Value) → gives_frozen d kind.0 fact ≡ true → is_there fact ≡ true → Holds code w fact o → Frozen_from kind o
+  frozen_from d kind Empty o e there h = let x : ⊥ = cc in absurd x
+  frozen_from d kind (Held (t.Frozen q) m l) o e there h = from h.0 h.1 h.2 h.2.shape
+    where
+      from : (v : Value) → o ≡ Some v → Has code w (t.Frozen q) v → value_has (t.Frozen q) v ≡ true → Frozen_from kind o
+      from (Ref x) h has g = as_ref q kind (t.Frozen q) (Ref x) x o h refl refl e has
+      from _ h has g = let x : ⊥ = cc in absurd x
+  frozen_from d kind (Held (t.Own q) m l) o e there h = from h.0 h.1 h.2 h.2.shape
+    where
+      from : (v : Value) → o ≡ Some v → Has code w (t.Own q) v → value_has (t.Own q) v ≡ true → Frozen_from kind o
+      from (Own x) h has g = as_ref q kind (t.Own q) (Own x) x o h refl refl (and_parts (nat_lt m d) (q.0 == kind.0) e).1 has
+      from _ h has g = let x : ⊥ = cc in absurd x
+  frozen_from d kind (Held (t.Ref q) m l) o e there h = from h.0 h.1 h.2 h.2.shape
+    where
+      from : (v : Value) → o ≡ Some v → Has code w (t.Ref q) v → value_has (t.Ref q) v ≡ true → Frozen_from kind o
+      from (Ref x) h has g = as_ref q kind (t.Ref q) (Ref x) x o h refl refl (and_parts (nat_lt m d) (q.0 == kind.0) e).1 has
+      from _ h has g = let x : ⊥ = cc in absurd x
+  frozen_from d kind (Held (t.Iso q) m l) o e there h = from h.0 h.1 h.2 h.2.shape
+    where
+      from : (v : Value) → o ≡ Some v → Has code w (t.Iso q) v → value_has (t.Iso q) v ≡ true → Frozen_from kind o
+      from (Iso x) h has g = as_ref q kind (t.Iso q) (Iso x) x o h refl refl (and_parts (nat_lt m d) (q.0 == kind.0) e).1 has
+      from _ h has g = let x : ⊥ = cc in absurd x
+  frozen_from d kind (Held t.Void m l) o e there h = let x : false ≡ true = (and_parts (nat_lt m d) false e).1 in absurd (let y : ⊥ = cc in y)
+  frozen_from d kind (Held t.Int m l) o e there h = let x : false ≡ true = (and_parts (nat_lt m d) false e).1 in absurd (let y : ⊥ = cc in y)
+  frozen_from d kind (Held t.Truth m l) o e there h = let x : false ≡ true = (and_parts (nat_lt m d) false e).1 in absurd (let y : ⊥ = cc in y)
+  frozen_from d kind (Held t.Text m l) o e there h = let x : false ≡ true = (and_parts (nat_lt m d) false e).1 in absurd (let y : ⊥ = cc in y)
 
   -- a copy value or a reference stays, and an owner or an isolate leaves its register
-  stays : (ty : Ty) (known : List RegFact) (a : ℕ) (regs : Registers) (v : Value) → RegsFit known regs → read regs a ≡ Some v → value_has ty v ≡ true → RegsFit (after_passing known a ty) (after_giving ty a (read regs a) regs)
-  stays (t.Frozen k) known a regs v fits h e = fits
-  stays t.Int known a regs (Int z) fits h e = subst (λ o. RegsFit known (after_giving t.Int a o regs)) (sym h) fits
-  stays t.Truth known a regs (Truth b) fits h e = subst (λ o. RegsFit known (after_giving t.Truth a o regs)) (sym h) fits
-  stays t.Text known a regs (Text b) fits h e = subst (λ o. RegsFit known (after_giving t.Text a o regs)) (sym h) fits
-  stays (t.Ref k) known a regs (Ref n) fits h e = subst (λ o. RegsFit known (after_giving (t.Ref k) a o regs)) (sym h) fits
-  stays (t.Own k) known a regs (Own n) fits h e = subst (λ o. RegsFit (slice_set known a Empty) (after_giving (t.Own k) a o regs)) (sym h) (put_fits known regs a Empty None tt fits)
-  stays (t.Iso k) known a regs (Iso n) fits h e = subst (λ o. RegsFit (slice_set known a Empty) (after_giving (t.Iso k) a o regs)) (sym h) (put_fits known regs a Empty None tt fits)
+  stays : (ty : Ty) (known : List RegFact) (a : ℕ) (regs : Registers) (v : Value) → RegsFit code w known regs → read regs a ≡ Some v → value_has ty v ≡ true
+      → RegsFit code w (after_passing known a ty) (kept a v regs) × ((n : ℕ) → own n v + in_regs n (kept a v regs) ≤ in_regs n regs)
+  stays (t.Frozen k) known a regs (Ref m) fits h e = (fits, λ n. omega arith)
+  stays t.Int known a regs (Int z) fits h e = (fits, λ n. omega arith)
+  stays t.Truth known a regs (Truth b) fits h e = (fits, λ n. omega arith)
+  stays t.Text known a regs (Text b) fits h e = (fits, λ n. omega arith)
+  stays (t.Ref k) known a regs (Ref m) fits h e = (fits, λ n. omega arith)
+  stays (t.Own k) known a regs (Own m) fits h e = (put_fits code w known regs a Empty None tt fits, λ n. let x = put_owns n regs a None in let y = ap (λ o. own_in n o) h in omega (arith, x, y))
+  stays (t.Iso k) known a regs (Iso m) fits h e = (put_fits code w known regs a Empty None tt fits, λ n. let x = put_owns n regs a None in let y = ap (λ o. own_in n o) h in omega (arith, x, y))
   stays _ known a regs _ fits h e = let x : ⊥ = cc in absurd x
 
+  pub took : (ty : Ty) (known : List RegFact) (a : ℕ) (regs : Registers) → RegsFit code w known regs → has ty (fact_of known a) ≡ true → is_there (fact_of known a) ≡ true → Took code w ty known a regs
+  took ty known a regs fits e there =
+      let v = reg_value code w known regs a ty fits e there in
+      let st = stays ty known a regs v.0 fits v.1 v.2.shape in
+      record { value = v.0; is = v.1; has = v.2; fits = st.0; owned = st.1 }
+
   -- what is used as it is
-  used : (ty : Ty) (known : List RegFact) (a : ℕ) (regs : Registers) → RegsFit known regs → given_value ty (read regs a) ≡ read regs a → has ty (fact_of known a) ≡ true → is_there (fact_of known a) ≡ true → Passed ty known a regs
-  used ty known a regs fits same e there =
-      let v = reg_value known regs a ty fits e there in
-      record { value = v.0; given = same ∙ v.1; has = v.2; fits = stays ty known a regs v.0 fits v.1 v.2 }
-
-  passing : (a : ℕ) (ty : Ty) (row : Row) (regs : Registers) → RegsFit row.after regs → (passed depth a ty row).kept.types ≡ true → (passed depth a ty row).kept.present ≡ true → Passed ty row.after a regs
-  passing a (t.Frozen kind) row regs fits e g =
-      let v = frozen_from kind.0 depth kind (fact_of row.after a) (read regs a) (and_parts _ _ e).1 (and_parts _ _ g).1 (fits.each a) in
-      record { value = v.0; given = v.1; has = v.2; fits = fits }
-  passing a t.Void row regs fits e g = used t.Void row.after a regs fits refl (and_parts _ _ e).1 (and_parts _ _ g).1
-  passing a t.Int row regs fits e g = used t.Int row.after a regs fits refl (and_parts _ _ e).1 (and_parts _ _ g).1
-  passing a t.Truth row regs fits e g = used t.Truth row.after a regs fits refl (and_parts _ _ e).1 (and_parts _ _ g).1
-  passing a t.Text row regs fits e g = used t.Text row.after a regs fits refl (and_parts _ _ e).1 (and_parts _ _ g).1
-  passing a (t.Own k) row regs fits e g = used (t.Own k) row.after a regs fits refl (and_parts _ _ e).1 (and_parts _ _ g).1
-  passing a (t.Ref k) row regs fits e g = used (t.Ref k) row.after a regs fits refl (and_parts _ _ e).1 (and_parts _ _ g).1
-  passing a (t.Iso k) row regs fits e g = used (t.Iso k) row.after a regs fits refl (and_parts _ _ e).1 (and_parts _ _ g).1
-
-  -- all arguments
-  record AllPassed (tys : List Ty) (args : List ℕ) (row : Row) (regs : Registers) : Type 0 where
-    got : Read
-    given : give_all tys args regs ≡ Some got
-    has : ArgsFit tys got.values
-    fits : RegsFit (passes_all depth tys args row).after got.after
-
-  passing_all : (tys : List Ty) (args : List ℕ) (row : Row) (regs : Registers) → RegsFit row.after regs → (passes_all depth tys args row).kept.types ≡ true → (passes_all depth tys args row).kept.present ≡ true → AllPassed tys args row regs
-  passing_all [] [] row regs fits e g = record { got = record { values = []; after = regs }; given = refl; has = tt; fits = fits }
-  passing_all [] (a ∷ more) row regs fits e g = let x : ⊥ = cc in absurd x
-  passing_all (ty ∷ tys) [] row regs fits e g = let x : ⊥ = cc in absurd x
-  passing_all (ty ∷ tys) (a ∷ more) row regs fits e g =
-      let kept = passes_kept tys more (passed depth a ty row) e g in
-      let p = passing a ty row regs fits kept.0 kept.1 in
-      let r = passing_all tys more (passed depth a ty row) (after_giving ty a (read regs a) regs) p.fits e g in
+  used : (ty : Ty) (known : List RegFact) (a : ℕ) (regs : Registers) → RegsFit code w known regs → given_value ty (read regs a) ≡ read regs a → ((o : Option Value) → after_giving ty a o regs ≡ after_keeping a o regs) → has ty (fact_of known a) ≡ true → is_there (fact_of known a) ≡ true → Passed code w ty known a regs
+  used ty known a regs fits same_value same_regs e there =
+      let v = took ty known a regs fits e there in
+      let after : kept a v.value regs ≡ after_giving ty a (read regs a) regs = sym (same_regs (read regs a) ∙ ap (λ o. after_keeping a o regs) v.is) in
       record {
-        got = record { values = p.value ∷ r.got.values; after = r.got.after };
-        given = ap (λ o. and_then o (give_all tys more (after_giving ty a (read regs a) regs))) p.given ∙ ap (λ o. and_then (Some p.value) o) r.given;
-        has = (p.has, r.has);
-        fits = r.fits;
+        value = v.value;
+        given = same_value ∙ v.is;
+        has = v.has;
+        fits = subst (λ r. RegsFit code w (after_passing known a ty) r) after v.fits;
+        owned = λ n. subst (λ r. own n v.value + in_regs n r ≤ in_regs n regs) after (v.owned n);
       }
+
+  module _ (depth : ℕ) where
+    -- what is kept behind an argument was kept before it
+    pass_kept : (a : ℕ) (ty : Ty) (row : Row) → (passed depth a ty row).kept.types ≡ true → (passed depth a ty row).kept.present ≡ true → (row.kept.types ≡ true) × (row.kept.present ≡ true)
+    pass_kept a (t.Frozen k) row e g = ((and_parts _ _ e).0, (and_parts _ _ g).0)
+    pass_kept a t.Void row e g = ((and_parts _ _ e).0, (and_parts _ _ g).0)
+    pass_kept a t.Int row e g = ((and_parts _ _ e).0, (and_parts _ _ g).0)
+    pass_kept a t.Truth row e g = ((and_parts _ _ e).0, (and_parts _ _ g).0)
+    pass_kept a t.Text row e g = ((and_parts _ _ e).0, (and_parts _ _ g).0)
+    pass_kept a (t.Own k) row e g = ((and_parts _ _ e).0, (and_parts _ _ g).0)
+    pass_kept a (t.Ref k) row e g = ((and_parts _ _ e).0, (and_parts _ _ g).0)
+    pass_kept a (t.Iso k) row e g = ((and_parts _ _ e).0, (and_parts _ _ g).0)
+
+    passes_kept : (tys : List Ty) (args : List ℕ) (row : Row) → (passes_all depth tys args row).kept.types ≡ true → (passes_all depth tys args row).kept.present ≡ true → (row.kept.types ≡ true) × (row.kept.present ≡ true)
+    passes_kept [] [] row e g = (e, g)
+    passes_kept [] (a ∷ more) row e g = let x : ⊥ = cc in absurd x
+    passes_kept (ty ∷ tys) [] row e g = let x : ⊥ = cc in absurd x
+    passes_kept (ty ∷ tys) (a ∷ more) row e g = let x = passes_kept tys more (passed depth a ty row) e g in pass_kept a ty row x.0 x.1
+
+    pub passing : (a : ℕ) (ty : Ty) (row : Row) (regs : Registers) → RegsFit code w row.after regs → (passed depth a ty row).kept.types ≡ true → (passed depth a ty row).kept.present ≡ true → Passed code w ty row.after a regs
+    passing a (t.Frozen kind) row regs fits e g =
+        let v = frozen_from depth kind (fact_of row.after a) (read regs a) (and_parts row.kept.types (gives_frozen depth kind.0 (fact_of row.after a)) e).1 (and_parts row.kept.present (is_there (fact_of row.after a)) g).1 (fits.each a) in
+        record { value = v.0; given = v.1; has = v.2; fits = fits; owned = λ n. let x = v.3 n in omega (arith, x) }
+    passing a t.Void row regs fits e g = used t.Void row.after a regs fits refl (λ o. refl) (and_parts row.kept.types (has t.Void (fact_of row.after a)) e).1 (and_parts row.kept.present (is_there (fact_of row.after a)) g).1
+    passing a t.Int row regs fits e g = used t.Int row.after a regs fits refl (λ o. refl) (and_parts row.kept.types (has t.Int (fact_of row.after a)) e).1 (and_parts row.kept.present (is_there (fact_of row.after a)) g).1
+    passing a t.Truth row regs fits e g = used t.Truth row.after a regs fits refl (λ o. refl) (and_parts row.kept.types (has t.Truth (fact_of row.after a)) e).1 (and_parts row.kept.present (is_there (fact_of row.after a)) g).1
+    passing a t.Text row regs fits e g = used t.Text row.after a regs fits refl (λ o. refl) (and_parts row.kept.types (has t.Text (fact_of row.after a)) e).1 (and_parts row.kept.present (is_there (fact_of row.after a)) g).1
+    passing a (t.Own k) row regs fits e g = used (t.Own k) row.after a regs fits refl (λ o. refl) (and_parts row.kept.types (has (t.Own k) (fact_of row.after a)) e).1 (and_parts row.kept.present (is_there (fact_of row.after a)) g).1
+    passing a (t.Ref k) row regs fits e g = used (t.Ref k) row.after a regs fits refl (λ o. refl) (and_parts row.kept.types (has (t.Ref k) (fact_of row.after a)) e).1 (and_parts row.kept.present (is_there (fact_of row.after a)) g).1
+    passing a (t.Iso k) row regs fits e g = used (t.Iso k) row.after a regs fits refl (λ o. refl) (and_parts row.kept.types (has (t.Iso k) (fact_of row.after a)) e).1 (and_parts row.kept.present (is_there (fact_of row.after a)) g).1
+
+    -- all arguments
+    pub record AllPassed (tys : List Ty) (args : List ℕ) (row : Row) (regs : Registers) : Type 0 where
+      pub got : Read
+      pub given : give_all tys args regs ≡ Some got
+      pub has : ArgsFit code w tys got.values
+      pub fits : RegsFit code w (passes_all depth tys args row).after got.after
+      pub owned : (n : ℕ) → in_values n got.values + in_regs n got.after ≤ in_regs n regs
+
+    pub passing_all : (tys : List Ty) (args : List ℕ) (row : Row) (regs : Registers) → RegsFit code w row.after regs → (passes_all depth tys args row).kept.types ≡ true → (passes_all depth tys args row).kept.present ≡ true → AllPassed tys args row regs
+    passing_all [] [] row regs fits e g = record { got = record { values = []; after = regs }; given = refl; has = tt; fits = fits; owned = λ n. omega arith }
+    passing_all [] (a ∷ more) row regs fits e g = let x : ⊥ = cc in absurd x
+    passing_all (ty ∷ tys) [] row regs fits e g = let x : ⊥ = cc in absurd x
+    passing_all (ty ∷ tys) (a ∷ more) row regs fits e g =
+        let kept = passes_kept tys more (passed depth a ty row) e g in
+        let p = passing a ty row regs fits kept.0 kept.1 in
+        let r = passing_all tys more (passed depth a ty row) (after_giving ty a (read regs a) regs) p.fits e g in
+        record {
+          got = record { values = p.value ∷ r.got.values; after = r.got.after };
+          given = ap (λ o. and_then o (give_all tys more (after_giving ty a (read regs a) regs))) p.given ∙ ap (λ o. and_then (Some p.value) o) r.given;
+          has = (p.has, r.has);
+          fits = r.fits;
+          owned = λ n. let x = p.owned n in let y = r.owned n in omega (arith, x, y);
+        }
+
+    -- all values that are taken
+    takes_kept : (tys : List Ty) (args : List ℕ) (row : Row) → (takes_all depth tys args row).kept.types ≡ true → (takes_all depth tys args row).kept.present ≡ true → (row.kept.types ≡ true) × (row.kept.present ≡ true)
+    takes_kept [] [] row e g = (e, g)
+    takes_kept [] (a ∷ more) row e g = let x : ⊥ = cc in absurd x
+    takes_kept (ty ∷ tys) [] row e g = let x : ⊥ = cc in absurd x
+    takes_kept (ty ∷ tys) (a ∷ more) row e g = let x = takes_kept tys more (taken depth a ty row) e g in ((and_parts _ _ x.0).0, (and_parts _ _ x.1).0)
+
+    pub record AllTaken (tys : List Ty) (args : List ℕ) (row : Row) (regs : Registers) : Type 0 where
+      pub got : Read
+      pub given : read_all args regs ≡ Some got
+      pub has : ArgsFit code w tys got.values
+      pub fits : RegsFit code w (takes_all depth tys args row).after got.after
+      pub owned : (n : ℕ) → in_values n got.values + in_regs n got.after ≤ in_regs n regs
+
+    pub taking_all : (tys : List Ty) (args : List ℕ) (row : Row) (regs : Registers) → RegsFit code w row.after regs → (takes_all depth tys args row).kept.types ≡ true → (takes_all depth tys args row).kept.present ≡ true → AllTaken tys args row regs
+    taking_all [] [] row regs fits e g = record { got = record { values = []; after = regs }; given = refl; has = tt; fits = fits; owned = λ n. omega arith }
+    taking_all [] (a ∷ more) row regs fits e g = let x : ⊥ = cc in absurd x
+    taking_all (ty ∷ tys) [] row regs fits e g = let x : ⊥ = cc in absurd x
+    taking_all (ty ∷ tys) (a ∷ more) row regs fits e g =
+        let ok : ((taken depth a ty row).kept.types ≡ true) × ((taken depth a ty row).kept.present ≡ true) = takes_kept tys more (taken depth a ty row) e g in
+        let v = took ty row.after a regs fits (and_parts row.kept.types (has ty (fact_of row.after a)) ok.0).1 (and_parts row.kept.present (is_there (fact_of row.after a)) ok.1).1 in
+        let r = taking_all tys more (taken depth a ty row) (kept a v.value regs) v.fits e g in
+        record {
+          got = record { values = v.value ∷ r.got.values; after = r.got.after };
+          given = ap (λ o. and_then o (read_all more (after_keeping a o regs))) v.is ∙ ap (λ o. and_then (Some v.value) o) r.given;
+          has = (v.has, r.has);
+          fits = r.fits;
+          owned = λ n. let x = v.owned n in let y = r.owned n in omega (arith, x, y);
+        }
 
 -- ---- frames
 
+-- a function of this form has no freeze of its own
+abbrev pub Quiet : Option Form → Type 0
+Quiet (Some Plain) = Unit {0}
+Quiet (Some Destructor) = Unit {0}
+Quiet _ = ⊥
+
 module _ (code : Parts) (facts : List FuncFacts) where
   -- a function under way, which returns this type: what is known at its place fits its registers
-  pub record ActiveFits (result_type : Ty) (f : Active) : Type 0 where
+  pub record ActiveFits (w : World) (result_type : Ty) (f : Active) : Type 0 where
     pub func : Func
     pub of : FuncFacts
     pub found : slice_get code.funcs f.function ≡ Some func
-    pub plain : func.form ≡ 0
+    pub quiet : Quiet (form_of func.form)
     pub is_judged : Judged code func of
     pub returns : func.result ≡ result_type
     pub known : Known
-    pub fits : RegsFit known.regs f.registers
+    pub fits : RegsFit code w known.regs f.registers
     pub enters_here : may_enter (label_at of.labels f.place) known ≡ true
     pub before : List Instr
     pub rest : List Instr
@@ -181,38 +267,49 @@ module _ (code : Parts) (facts : List FuncFacts) where
     pub came : Bool
     pub walks : walk code func of.labels is_judged.base f.place rest came (Some known) ≡ None
 
-  abbrev FrameFits : Ty → Frame → Type 0
-  FrameFits ty (Running f) = ActiveFits ty f
-  FrameFits ty (Dropping f) = ⊥
-  FrameFits ty (Looping f) = ⊥
-  FrameFits ty (Alone v) = ⊥
+  abbrev FrameFits : World → Ty → Frame → Type 0
+  FrameFits w ty (Running f) = ActiveFits w ty f
+  FrameFits w ty (Dropping f) = ty ≡ t.Void
+  FrameFits w ty (Looping f) = ⊥
+  FrameFits w ty (Alone v) = ⊥
 
-  -- each frame fits once it has the value of the one above it
-  abbrev StackFits : Ty → Option ℕ → List Frame → Type 0
-  StackFits ty dest [] = Unit {0}
-  StackFits ty dest (f ∷ fs) = (j : Ty) × ((o : Option Value) → Returns ty o → FrameFits j (resume dest o f)) × StackFits j (dest_of f) fs
+  -- each frame fits once it has the value of the one above it, over whatever heap is there then
+  abbrev StackFits : World → Ty → Option ℕ → List Frame → Type 0
+  StackFits w ty dest [] = Unit {0}
+  StackFits w ty dest (f ∷ fs) = (j : Ty) × ((u : World) (o : Option Value) → Later w u → Returns code u ty o → FrameFits u j (resume dest o f)) × StackFits w j (dest_of f) fs
+
+  stack_later : (w u : World) (ty : Ty) (dest : Option ℕ) (fs : List Frame) → Later w u → StackFits w ty dest fs → StackFits u ty dest fs
+  stack_later w u ty dest [] l h = tt
+  stack_later w u ty dest (f ∷ fs) l h = (h.0, (λ x o m r. h.1 x o (later_later w u x l m) r), stack_later w u h.0 (dest_of f) fs l h.2)
+
+  -- each name is owned at most once, and while it lives
+  abbrev OwnedOnce : World → List Frame → Type 0
+  OwnedOnce w fs = (n : ℕ) → in_frames n fs + in_world n w ≤ alive n w
+
+  -- the same, with these names owned beside
+  abbrev OwnedBeside : World → (ℕ → ℕ) → List Frame → Type 0
+  OwnedBeside w beside fs = (n : ℕ) → beside n + in_frames n fs + in_world n w ≤ alive n w
 
   pub record ConfigFits (c : Config) : Type 0 where
     pub ty : Ty
-    pub top : FrameFits ty c.top
-    pub below : StackFits ty (dest_of c.top) c.below
+    pub top : FrameFits c.state.world ty c.top
+    pub below : StackFits c.state.world ty (dest_of c.top) c.below
+    pub heap : WorldFits code c.state.world
+    pub owned : OwnedBeside c.state.world (λ n. in_frame n c.top) c.below
 
   abbrev pub NextFits : Next → Type 0
   NextFits (On c) = ConfigFits c
   NextFits (Over end v s) = end ≢ Wrong
 
-  not_wrong : (end : End) (x : Type 0) → Type 0
-  not_wrong end x = x
-
   a_trap : (why : TrapKind) (at : Spot) (frames : List Frame) (s : State) → NextFits (trap why at frames s)
   a_trap why at frames s = λ e. let x : ⊥ = cc in x
 
-  pub with_tick : (s : State) (go : State → Next) → ((u : State) → NextFits (go u)) → NextFits (after_tick s go)
+  pub with_tick : (s : State) (go : State → Next) → ((u : State) → u.world ≡ s.world → NextFits (go u)) → NextFits (after_tick s go)
   with_tick s go each = from s.left
     where
       from : (n : ℕ) → NextFits (ticked (spend_of n s) s go)
       from zero = λ e. let x : ⊥ = cc in x
-      from (suc n) = each _
+      from (suc n) = each (record s { left = n; spent = s.spent + 1 }) refl
 
   with_depth : (more : ℕ) (at : Spot) (frames : List Frame) (s : State) (go : Next) → NextFits go → NextFits (deeper more at frames s go)
   with_depth more at frames s go fits = from (has_depth more (under frames) s)
@@ -222,25 +319,31 @@ module _ (code : Parts) (facts : List FuncFacts) where
       from false = a_trap _ at frames s
 
   -- a function that is entered with arguments of its parameters' types
-  pub entered : Certified code facts → (g : ℕ) (func : Func) (call : FrameAt) (dest : Option ℕ) (vs : List Value) (frames : List Frame) (s : State)
-      → slice_get code.funcs g ≡ Some func → func.form ≡ 0 → ArgsFit func.params vs → StackFits func.result dest frames
-      → NextFits (enter g Plain func call dest vs frames s)
-  entered cert g func call dest vs frames s found plain has below =
-      with_depth 1 call.at frames s _ (with_tick s _ (λ u. record { ty = func.result; top = top; below = below }))
+  begun_fits : Certified code facts → (g : ℕ) (func : Func) (call : FrameAt) (dest : Option ℕ) (vs : List Value) (frames : List Frame) (w : World) (t : State)
+      → t.world ≡ w → slice_get code.funcs g ≡ Some func → Quiet (form_of func.form) → ArgsFit code w func.params vs → StackFits w func.result dest frames
+      → WorldFits code w → OwnedBeside w (λ n. in_values n vs) frames
+      → NextFits (on (Running (record { call = call; function = g; dest = dest; place = 0; registers = registers_for func.registers vs })) frames t)
+  begun_fits cert g func call dest vs frames w t same_world found quiet has below heap owned = record {
+    ty = func.result;
+    top = subst (λ w. ActiveFits w func.result (record { call = call; function = g; dest = dest; place = 0; registers = registers_for func.registers vs })) (sym same_world) top;
+    below = subst (λ w. StackFits w func.result dest frames) (sym same_world) below;
+    heap = subst (λ w. WorldFits code w) (sym same_world) heap;
+    owned = subst (λ w. OwnedBeside w (λ n. in_regs n (registers_for func.registers vs)) frames) (sym same_world) (λ n. let x = owned n in let y = begun_owns n func.registers vs in omega (arith, x, y));
+  }
     where
       is : (of : FuncFacts) × Judged code func of
       is = judged code facts cert g func found
 
-      top : ActiveFits func.result (record { call = call; function = g; dest = dest; place = 0; registers = registers_for func.registers vs })
+      top : ActiveFits w func.result (record { call = call; function = g; dest = dest; place = 0; registers = registers_for func.registers vs })
       top = record {
         func = func;
         of = is.0;
         found = found;
-        plain = plain;
+        quiet = quiet;
         is_judged = is.1;
         returns = refl;
         known = entry func is.0;
-        fits = entry_fits func.registers _ is.0.live func.params vs has;
+        fits = entry_fits code w func.registers _ is.0.live func.params vs has;
         enters_here = is.1.enters;
         before = [];
         rest = func.body;
@@ -250,6 +353,150 @@ module _ (code : Parts) (facts : List FuncFacts) where
         came = is.1.came;
         walks = is.1.walks;
       }
+
+  pub entered : Certified code facts → (g : ℕ) (form : Form) (func : Func) (call : FrameAt) (dest : Option ℕ) (vs : List Value) (frames : List Frame) (s : State)
+      → slice_get code.funcs g ≡ Some func → Quiet (Some form) → Quiet (form_of func.form) → ArgsFit code s.world func.params vs → StackFits s.world func.result dest frames
+      → WorldFits code s.world → OwnedBeside s.world (λ n. in_values n vs) frames
+      → NextFits (enter g form func call dest vs frames s)
+  entered cert g Plain func call dest vs frames s found q quiet has below heap owned =
+      with_depth 1 call.at frames s _ (with_tick s _ (λ u e. begun_fits cert g func call dest vs frames s.world u e found quiet has below heap owned))
+  entered cert g Destructor func call dest vs frames s found q quiet has below heap owned =
+      with_depth 1 call.at frames s _ (with_tick s _ (λ u e. begun_fits cert g func call dest vs frames s.world u e found quiet has below heap owned))
+  entered cert g Pure func call dest vs frames s found q quiet has below heap owned = absurd q
+  entered cert g Iteration func call dest vs frames s found q quiet has below heap owned = absurd q
+
+  -- a frame is left with a value
+  same_dest : (d : Option ℕ) (o : Option Value) (g : Frame) → dest_of g ≡ dest_of (resume d o g)
+  same_dest None o g = refl
+  same_dest (Some to) None g = refl
+  same_dest (Some to) (Some u) (Running x) = refl
+  same_dest (Some to) (Some u) (Dropping x) = refl
+  same_dest (Some to) (Some u) (Looping x) = refl
+  same_dest (Some to) (Some u) (Alone x) = refl
+
+  pub left_fits : (ty : Ty) (dest : Option ℕ) (v : Option Value) (frames : List Frame) (s : State) → StackFits s.world ty dest frames → Returns code s.world ty v → WorldFits code s.world
+      → OwnedBeside s.world (λ n. own_in n v) frames → NextFits (leave frames dest v s)
+  left_fits ty dest v [] s st r heap owned = λ e. let x : ⊥ = cc in x
+  left_fits ty dest v (g ∷ fs) s st r heap owned = record {
+    ty = st.0;
+    top = st.1 s.world v (later_same s.world) r;
+    below = subst (λ d. StackFits s.world st.0 d fs) (same_dest dest v g) st.2;
+    heap = heap;
+    owned = λ n. let x = owned n in let y = resume_owns n dest v g in omega (arith, x, y);
+  }
+
+  -- ---- destruction
+
+  lives_given : (w : World) (n : ℕ) (o : Object) → object_at w n ≡ Some o → n < length w
+  lives_given [] n o e = let x : ⊥ = cc in absurd x
+  lives_given (x ∷ w) zero o e = omega arith
+  lives_given (x ∷ w) (suc n) o e = let y = lives_given w n o e in omega (arith, y)
+
+  pub fits_itself : (kind : Kind) → kind_fits code kind kind ≡ true
+  fits_itself kind = let x : (kind.0 == kind.0) ≡ true = eq-eqb kind.0 kind.0 refl in ap (λ b. b || is_implemented code.impls kind kind) x
+
+  -- a living name fits its object's kind
+  pub names_it : (w : World) (n : ℕ) (o : Object) → object_at w n ≡ Some o → NameFits code w o.kind n
+  names_it w n o e = record {
+    given = lives_given w n o e;
+    fits = λ p h. let is : o ≡ p = cc in subst (λ p. kind_fits code p.kind o.kind ≡ true) is (fits_itself o.kind);
+  }
+
+  void_is : (ty : Ty) → is_void ty ≡ true → ty ≡ t.Void
+  void_is t.Void e = refl
+  void_is _ e = let x : ⊥ = cc in absurd x
+
+  module _ (cert : Certified code facts) (n : ℕ) (o : Object) (at : Spot) (frames : List Frame) (s : State) (lives : object_at s.world n ≡ Some o)
+      (below : StackFits s.world t.Void None frames) (heap : WorldFits code s.world) (owned : OwnedBeside s.world (λ m. same m n) frames) where
+    abbrev call : FrameAt
+    call = drop_frame (kind_text code o.kind) at
+
+    emptying : (u : State) → u.world ≡ died s.world n → NextFits (on (Dropping (record { call = call; rest = o.values })) frames u)
+    emptying u e = record {
+      ty = t.Void;
+      top = refl;
+      below = subst (λ w. StackFits w t.Void None frames) (sym e) (stack_later s.world (died s.world n) t.Void None frames (later_died s.world n) below);
+      heap = subst (λ w. WorldFits code w) (sym e) (died_fits code s.world n (later_died s.world n) heap);
+      owned = subst (λ w. OwnedBeside w (λ m. in_values m o.values) frames) (sym e) (λ m. let a = world_set m s.world n o None lives in let b = alive_died m s.world n o lives in let c = owned m in omega (arith, a, b, c));
+    }
+
+    dies_now : NextFits (destroy_by code None n o at frames s)
+    dies_now = with_depth 1 at frames s _ (with_tick s _ (λ u e. emptying (dies n u) (ap (λ w. died w n) e)))
+
+    takes_it : (ps : List Ty) → takes_owner o.kind.0 ps ≡ true → ArgsFit code s.world ps (Own n ∷ [])
+    takes_it (t.Own kind ∷ []) e = (leading code s.world (t.Own kind) (Own n) kind n refl refl refl (subst (λ k. NameFits code s.world k n) (sym (kind_is kind o.kind e)) (names_it s.world n o lives)), tt)
+    takes_it _ e = let x : ⊥ = cc in absurd x
+
+    abbrev calls_drop : ℕ → Form → Func → Next
+    calls_drop g form func = if_destructor form s (enter g form func call None (Own n ∷ []) frames s)
+
+    by_function : (g : ℕ) (h : Option Func) → slice_get code.funcs g ≡ h → is_destructor_of o.kind.0 h ≡ true → NextFits (with_func h s (calls_drop g))
+    by_function g None q e = let x : ⊥ = cc in absurd x
+    by_function g (Some func) q e =
+        let a = and_parts ((func.form == 3) && takes_owner o.kind.0 func.params) (is_void func.result) e in
+        let b = and_parts (func.form == 3) (takes_owner o.kind.0 func.params) a.0 in
+        let three : func.form ≡ 3 = let x : (func.form == 3) ≡ true = b.0 in grind arith in
+        subst (λ m. NextFits (with_form (form_of m) func s (calls_drop g))) (sym three)
+        (entered cert g Destructor func call None (Own n ∷ []) frames s q tt (subst (λ m. Quiet (form_of m)) (sym three) tt) (takes_it func.params b.1)
+        (subst (λ ty. StackFits s.world ty None frames) (sym (void_is func.result a.1)) below) heap (λ m. let x = owned m in omega (arith, x)))
+
+    by_kind : (info : Option KindInfo) → kind_of code o.kind ≡ info → NextFits (destroy_by code (destructor_in info) n o at frames s)
+    by_kind None q = dies_now
+    by_kind (Some (k.Struct name None fields)) q = dies_now
+    by_kind (Some (k.Interface name methods)) q = dies_now
+    by_kind (Some (k.Array item)) q = dies_now
+    by_kind (Some (k.Struct name (Some g) fields)) q =
+        let a = and_parts (is_text code name && destroys o.kind.0 code.funcs (Some g)) (list_all (field_is_lawful code (reaches code facts cert)) fields) (kind_lawful code facts cert o.kind (k.Struct name (Some g) fields) q) in
+        by_function g (slice_get code.funcs g) refl (and_parts (is_text code name) (destroys o.kind.0 code.funcs (Some g)) a.0).1
+
+    pub destroying : NextFits (destroy_object code (object_of n s) n at frames s)
+    destroying = subst (λ x. NextFits (destroy_object code x n at frames s)) (sym lives) (by_kind (kind_of code o.kind) refl)
+
+  relabelled_fits : (w : World) (from to : Region) → WorldFits code w → WorldFits code (relabelled from to w)
+  relabelled_fits w from to heap n o e =
+      let p = relabelled_each w from to n o e in
+      let f = heap n p.0 p.1 in
+      object_later code w (relabelled from to w) o (later_relabelled w from to)
+      (record {
+        tys = f.tys;
+        cells = ap (λ k. cells_of (kind_of code k) (length o.values)) p.2 ∙ ap (λ vs. cells_of (kind_of code p.0.kind) (length vs)) p.3 ∙ f.cells;
+        values = subst (λ vs. ArgsFit code w f.tys vs) (sym p.3) f.values;
+      })
+
+  abbrev pub is_owner : Value → Bool
+  is_owner (Own n) = true
+  is_owner (Iso n) = true
+  is_owner v = false
+
+  -- an owner or an isolate is destroyed
+  pub destroying_value : Certified code facts → (v : Value) (at : Spot) (frames : List Frame) (s : State) → is_owner v ≡ true → StackFits s.world t.Void None frames → WorldFits code s.world
+      → OwnedBeside s.world (λ m. own m v) frames → NextFits (destroy code v at frames s)
+  destroying_value cert (Own n) at frames s is below heap owned =
+      let one = owned n in let self = same_self n in
+      let o = living_is n s.world (omega (arith, one, self)) in
+      destroying cert n o.0 at frames s o.1 below heap owned
+  destroying_value cert (Iso n) at frames s is below heap owned =
+      let joined = join_isolate n s in
+      let here = Freeze s.regions in
+      let l = later_relabelled s.world (Isolate n) here in
+      let counts : OwnedBeside joined.world (λ m. same m n) frames = λ m. let a = owned m in let b = world_relabelled m s.world (Isolate n) here in let c = alive_relabelled m s.world (Isolate n) here in omega (arith, a, b, c) in
+      let one = counts n in let self = same_self n in
+      let o = living_is n joined.world (omega (arith, one, self)) in
+      destroying cert n o.0 at frames joined o.1 (stack_later s.world joined.world t.Void None frames l below) (relabelled_fits s.world (Isolate n) here heap) counts
+  destroying_value cert _ at frames s is below heap owned = let x : ⊥ = cc in absurd x
+
+  -- the next value of a dead object
+  drops_on : Certified code facts → (vs : List Value) (f : Emptying) (below : List Frame) (s : State) → StackFits s.world t.Void None below → WorldFits code s.world
+      → OwnedBeside s.world (λ m. in_values m vs) below → NextFits (drop_rest code (first_owned vs) f below s)
+  drops_on cert [] f below s st heap owned = left_fits t.Void None None below s st refl heap (λ m. let x = owned m in omega (arith, x))
+  drops_on cert (Own n ∷ vs) f below s st heap owned =
+      destroying_value cert (Own n) f.call.at (Dropping (record f { rest = vs }) ∷ below) s refl (t.Void, (λ u o l r. refl), st) heap (λ m. let x = owned m in omega (arith, x))
+  drops_on cert (Iso n ∷ vs) f below s st heap owned =
+      destroying_value cert (Iso n) f.call.at (Dropping (record f { rest = vs }) ∷ below) s refl (t.Void, (λ u o l r. refl), st) heap (λ m. let x = owned m in omega (arith, x))
+  drops_on cert (Int z ∷ vs) f below s st heap owned = drops_on cert vs f below s st heap (λ m. let x = owned m in omega (arith, x))
+  drops_on cert (Truth b ∷ vs) f below s st heap owned = drops_on cert vs f below s st heap (λ m. let x = owned m in omega (arith, x))
+  drops_on cert (Text b ∷ vs) f below s st heap owned = drops_on cert vs f below s st heap (λ m. let x = owned m in omega (arith, x))
+  drops_on cert (Ref n ∷ vs) f below s st heap owned = drops_on cert vs f below s st heap (λ m. let x = owned m in omega (arith, x))
 
   -- ---- one instruction
 
@@ -452,20 +699,20 @@ module _ (code : Parts) (facts : List FuncFacts) where
       -- ---- one and two operands
 
       unary : goes_on instr ≡ true → (of result : Ty) (to a : ℕ) (at : Spot) (op : Value → Answer) → row.after ≡ slice_set S.known.regs to (Held result S.known.depth false)
-          → has of (fact_of S.known.regs a) ≡ true → (is_there (fact_of S.known.regs a) && k.is_free (fact_of S.known.regs to)) ≡ true
+          → has of (fact_of S.known.regs a) ≡ true → (is_there (fact_of S.known.regs a) && known.is_free (fact_of S.known.regs to)) ≡ true
           → ((v : Value) → value_has of v ≡ true → Answers result (op v))
           → NextFits (with_value (read f.registers a) s (λ v. answered f (Some to) f.registers at below s (op v)))
       unary on of result to a at op e h there each = reading a of _ h (and_parts _ _ there).0 (λ v g. answering on result to S.known.depth at (op v) e (each v g))
 
       sure : goes_on instr ≡ true → (of result : Ty) (to a : ℕ) (op : Value → Answer) → row.after ≡ slice_set S.known.regs to (Held result S.known.depth false)
-          → has of (fact_of S.known.regs a) ≡ true → (is_there (fact_of S.known.regs a) && k.is_free (fact_of S.known.regs to)) ≡ true
+          → has of (fact_of S.known.regs a) ≡ true → (is_there (fact_of S.known.regs a) && known.is_free (fact_of S.known.regs to)) ≡ true
           → ((v : Value) → value_has of v ≡ true → Surely result (op v))
           → NextFits (with_value (read f.registers a) s (λ v. certain f (Some to) f.registers below s (op v)))
       sure on of result to a op e h there each = reading a of _ h (and_parts _ _ there).0 (λ v g. surely on result to S.known.depth (op v) e (each v g))
 
       binary : goes_on instr ≡ true → (of with_it result : Ty) (to a b : ℕ) (at : Spot) (op : Value → Value → Answer) → row.after ≡ slice_set S.known.regs to (Held result S.known.depth false)
           → (has of (fact_of S.known.regs a) && has with_it (fact_of S.known.regs b)) ≡ true
-          → ((is_there (fact_of S.known.regs a) && is_there (fact_of S.known.regs b)) && k.is_free (fact_of S.known.regs to)) ≡ true
+          → ((is_there (fact_of S.known.regs a) && is_there (fact_of S.known.regs b)) && known.is_free (fact_of S.known.regs to)) ≡ true
           → ((v w : Value) → value_has of v ≡ true → value_has with_it w ≡ true → Answers result (op v w))
           → NextFits (with_value (read f.registers a) s (λ v. with_value (read f.registers b) s (λ w. answered f (Some to) f.registers at below s (op v w))))
       binary on of with_it result to a b at op e h there each =

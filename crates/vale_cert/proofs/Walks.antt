@@ -39,7 +39,7 @@ fault_none : (at : ℕ) (a : Option ℕ) → fault_of at a ≡ None → a ≡ No
 fault_none at None e = refl
 fault_none at (Some n) e = let x : ⊥ = cc in absurd x
 
-if_none : {A : Type 0} (b : Bool) (o : Option A) (x : A) → (if b then o else Some x) ≡ None → (b ≡ true) × (o ≡ None)
+pub if_none : {A : Type 0} (b : Bool) (o : Option A) (x : A) → (if b then o else Some x) ≡ None → (b ≡ true) × (o ≡ None)
 if_none true o x e = (refl, e)
 if_none false o x e = let y : ⊥ = cc in absurd y
 
@@ -202,7 +202,7 @@ walked code base zero (g ∷ fs) (o ∷ facts) f of e h k =
 walked code base (suc n) (g ∷ fs) (o ∷ facts) f of e h k = walked code (base + length g.body) n fs facts f of (or_else_none (function_fault code base g o) (functions_fault code (base + length g.body) fs facts) e).1 h k
 
 module _ (code : Parts) (facts : List FuncFacts) (cert : Certified code facts) where
-  abbrev reaches : ℕ → Bool
+  abbrev pub reaches : ℕ → Bool
   reaches = reaches_isolate code
 
   parts : (shape_fault code facts ≡ None) × (functions_fault code 0 code.funcs facts ≡ None)
@@ -216,6 +216,20 @@ module _ (code : Parts) (facts : List FuncFacts) (cert : Certified code facts) w
       let middle = counted_after (length code.kinds) (impls_fault code 0 [] code.impls) in
       counted_none (length code.kinds + length code.impls) (funcs_fault code reaches 0 code.funcs facts)
       (or_number_none middle last (or_number_none (kinds_fault code reaches 0 code.kinds) (or_number middle last) parts.0).1).1
+
+  -- each kind and each implementation is as it must be
+  pub kinds_lawful : kinds_fault code reaches 0 code.kinds ≡ None
+  kinds_lawful =
+      let last = counted_after (length code.kinds + length code.impls) (funcs_fault code reaches 0 code.funcs facts) in
+      let middle = counted_after (length code.kinds) (impls_fault code 0 [] code.impls) in
+      (or_number_none (kinds_fault code reaches 0 code.kinds) (or_number middle last) parts.0).0
+
+  pub impls_lawful : impls_fault code 0 [] code.impls ≡ None
+  impls_lawful =
+      let last = counted_after (length code.kinds + length code.impls) (funcs_fault code reaches 0 code.funcs facts) in
+      let middle = counted_after (length code.kinds) (impls_fault code 0 [] code.impls) in
+      counted_none (length code.kinds) (impls_fault code 0 [] code.impls)
+      (or_number_none middle last (or_number_none (kinds_fault code reaches 0 code.kinds) (or_number middle last) parts.0).1).0
 
   pub main_is_there : code.main < length code.funcs
   main_is_there = let x : code.main < 0 + length code.funcs = main_within code reaches 0 code.funcs facts functions_lawful in omega arith
