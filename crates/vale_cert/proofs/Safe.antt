@@ -7,8 +7,8 @@ use Rattle.std.proofs.lemmas.Option.{slice_get-get_or}
 use Rattle.std.proofs.Math.Seq.{get_or-append_seam}
 use Rattle.vale_base.specs.Outcome.{End, Done, Cut, Wrong, Trap}
 use Rattle.vale_base.specs.State.{State, Answer, gives, traps, fails, Given, no_input, numbers as number_lines, lines, given, begin, born, function_frame, spend, spend_of, has_depth, print}
-use Rattle.vale_base.specs.State.{Looked, object_of, look, look_up, found_or_dead, on_object, name_of, dies, join_isolate, drop_frame}
-use Rattle.vale_base.specs.World.{Value, Int, Truth, Text, Own, Ref, Iso, Region, Freeze, Isolate, Object, World, next_name, died, relabelled}
+use Rattle.vale_base.specs.State.{changed, lent, load, field_in, Looked, object_of, look, look_up, found_or_dead, on_object, name_of, dies, join_isolate, drop_frame}
+use Rattle.vale_base.specs.World.{Value, Int, Truth, Text, Own, Ref, Iso, Region, Freeze, Isolate, Object, World, next_name, died, written, relabelled}
 use Rattle.vale_base.specs.declared.name.Kind.{Kind}
 use Rattle.vale_base.specs.declared.spot.Spot.{Spot}
 use Rattle.vale_base.specs.declared.trap.FrameAt.{FrameAt}
@@ -18,7 +18,7 @@ use Rattle.vale_code.specs.Act.{act, act_if, step_of, step_by}
 use Rattle.vale_code.specs.Destroy.{destroy, destroy_by, destroy_object, drop_rest, drop_next, Owned, first_owned}
 use Rattle.vale_code.specs.Enter.{Form, Plain, Pure, Iteration, Destructor, form_of, if_destructor, function, with_func, with_form, enter, if_called, leave_function}
 use Rattle.vale_code.specs.Frames.{Active, Emptying, Frame, Running, Dropping, Looping, Alone, Config, Next, On, Over, on, wrong, trap, under, deeper, ticked, after_tick, resume, leave}
-use Rattle.vale_code.specs.Instructions.{behind, onward, with_value, with_read, with_truth, with_choice, copied, gets, answered, certain, fetch, jump, jump_by, jump_unless, is_free, at_place, truth_of, comparison_of, text_length}
+use Rattle.vale_code.specs.Instructions.{behind, onward, with_value, with_owner, with_read, with_truth, with_choice, copied, gets, answered, certain, fetch, jump, jump_by, jump_unless, is_free, at_place, truth_of, comparison_of, text_length}
 use Rattle.vale_code.specs.Kinds.{text_at, result_to, kind_of, kind_text, destructor_of, destructor_in}
 use Rattle.vale_code.specs.Parts.{Parts}
 use Rattle.vale_code.specs.Registers.{Registers, Read, read, put, kept, give_all, read_all, given_value, after_giving, after_keeping, and_then, as_frozen, named, registers_for}
@@ -34,20 +34,20 @@ use Rattle.vale_cert.specs.Certificate.{Certified}
 use Rattle.vale_cert.specs.Known as known
 use Rattle.vale_cert.specs.Known.{Known, entry, label_at, is_label, may_enter, stated, fact_of, has, is_there}
 use Rattle.vale_cert.specs.Numbers.{numbers, is_text}
-use Rattle.vale_cert.specs.Objects.{cells_of, is_implemented}
+use Rattle.vale_cert.specs.Objects.{cells_of, is_implemented, field_of, item_of, cell_by, owner_kind, reference_kind, read_kind, is_through_frozen, found_alive, seen}
 use Rattle.vale_cert.specs.Rules as rules
-use Rattle.vale_cert.specs.Rules.{taken, takes_all, Row, reads, uses, passes, passed, passes_all, all_fine, comes_back, after_passing, gives_frozen, leads_to, copy_of, is_copied, is_comparable, is_ordered, are_alike, is_printable, is_short}
+use Rattle.vale_cert.specs.Rules.{reads_own, reads_found, reads_cell, finds_alive, leads, leads_as_owner, leads_as_reference, leads_to_read, is_usable, is_readable, taken, takes_all, Row, reads, uses, passes, passed, passes_all, all_fine, comes_back, after_passing, gives_frozen, leads_to, copy_of, is_copied, is_comparable, is_ordered, are_alike, is_printable, is_short}
 use Rattle.vale_cert.specs.Shape.{destroys, is_destructor_of, takes_owner, field_is_lawful}
-use Rattle.vale_cert.specs.Types.{is_owned, is_void}
+use Rattle.vale_cert.specs.Types.{is_owned, is_isolate, is_void}
 use Rattle.vale_cert.specs.Walk.{row_of, after, enters, has_target, next_of, is_place, known_after, walk, goes_on, target_of}
 use Rattle.vale_cert.specs.declared.facts.FuncFacts.{FuncFacts}
 use Rattle.vale_cert.specs.declared.facts.Label.{Label}
 use Rattle.vale_cert.specs.declared.facts.RegFact.{RegFact}
 use Rattle.vale_cert.specs.declared.facts.RegFact.TheVariants.{Empty, Held}
 use Rattle.vale_cert.specs.declared.rules.Kept.{Kept}
-use Rattle.vale_cert.proofs.Cells.{leading, died_fits, object_later}
+use Rattle.vale_cert.proofs.Cells.{leading, seen_has, cell_there, cell_set, Each, to_each, each_at, each_set, each_append, each_front, front_owns, StructAt, ArrayAt, struct_at, array_at, written_fits, died_fits, object_later, Led, led, follows_owner, follows_reference, follows_read}
 use Rattle.vale_cert.proofs.Fit.{value_has, kind_seen, kind_is, type_is, kind_fits, NameFits, Has, Holds, RegsFit, ObjectFits, WorldFits, has_later, regs_later, has_plain, owns_nothing, put_fits, agree_fits, reg_value, ArgsFit, entry_fits}
-use Rattle.vale_cert.proofs.Heap.{object_at, Later, later_same, later_later, later_died, later_relabelled, relabelled_each, same, same_self, own, own_in, in_regs, in_values, in_object, in_world, in_frame, in_frames, alive, living_is, put_owns, begun_owns, world_set, alive_died, world_relabelled, alive_relabelled, resume_owns}
+use Rattle.vale_cert.proofs.Heap.{object_at, Later, later_same, later_later, later_died, later_written, later_born, later_relabelled, relabelled_each, same, same_self, own, own_in, in_regs, in_values, in_object, in_world, in_frame, in_frames, alive, living_is, put_owns, begun_owns, values_set, values_append, world_set, world_born, alive_born, alive_written, alive_died, world_relabelled, alive_relabelled, resume_owns}
 use Rattle.vale_cert.proofs.KindLaws.{kind_lawful}
 use Rattle.vale_cert.proofs.Values.{Answers, Surely, SurelyNothing, add_answers, sub_answers, mul_answers, div_answers, rem_answers, opposite_answers, compare_answers, truth_is, comparison_is, join_answers, slice_answers, byte_answers, number_answers, length_answers, text_of_answers, is_number_answers, print_answers, as_truth}
 use Rattle.vale_cert.proofs.Walks.{reaches, Keeps, Stepped, stepped, Comes, comes, Judged, judged, main_is_there, main_lawful}
@@ -238,6 +238,18 @@ module _ (code : Parts) (w : World) where
           fits = r.fits;
           owned = λ n. let x = v.owned n in let y = r.owned n in omega (arith, x, y);
         }
+
+pub not_is : (b : Bool) → not b ≡ true → b ≡ false
+not_is false e = refl
+not_is true e = let x : ⊥ = cc in absurd x
+
+-- what leads nowhere is no owner's type
+pub not_owned : (ty : Ty) → kind_seen ty ≡ None → is_owned ty ≡ false
+not_owned t.Void e = refl
+not_owned t.Int e = refl
+not_owned t.Truth e = refl
+not_owned t.Text e = refl
+not_owned _ e = let x : ⊥ = cc in absurd x
 
 -- ---- frames
 
@@ -500,28 +512,29 @@ module _ (code : Parts) (facts : List FuncFacts) where
 
   -- ---- one instruction
 
-  module _ (last : Config → State) (ty : Ty) (f : Active) (below : List Frame) (s : State) (F : ActiveFits ty f) (under_it : StackFits ty f.dest below) where
+  module _ (last : Config → State) (ty : Ty) (f : Active) (below : List Frame) (s : State) (F : ActiveFits s.world ty f) (under_it : StackFits s.world ty f.dest below)
+      (heap : WorldFits code s.world) (owned : OwnedBeside s.world (λ n. in_regs n f.registers) below) where
     module _ (instr : Instr) (instrs : List Instr) (here : F.rest ≡ instr ∷ instrs) (S : Stepped code F.func F.of.labels F.is_judged.base f.place instr instrs (Some F.known)) where
       abbrev row : Row
       row = row_of code F.func F.of.labels F.is_judged.base instr S.known
 
       -- the registers fit what is known, where a label stands too
-      fits_here : RegsFit S.known.regs f.registers
+      fits_here : RegsFit code s.world S.known.regs f.registers
       fits_here = from (label_at F.of.labels f.place) F.enters_here S.is
         where
-          from : (o : Option Label) → may_enter o F.known ≡ true → stated o (Some F.known) ≡ Some S.known → RegsFit S.known.regs f.registers
-          from None e q = let same : F.known ≡ S.known = cc in subst (λ x. RegsFit x.regs f.registers) same F.fits
+          from : (o : Option Label) → may_enter o F.known ≡ true → stated o (Some F.known) ≡ Some S.known → RegsFit code s.world S.known.regs f.registers
+          from None e q = let same : F.known ≡ S.known = cc in subst (λ x. RegsFit code s.world x.regs f.registers) same F.fits
           from (Some l) e q =
               let same : record { depth = l.depth; regs = l.regs } ≡ S.known = cc in
-              subst (λ x. RegsFit x.regs f.registers) same (agree_fits l.regs F.known.regs f.registers (and_parts _ _ e).1 F.fits)
+              subst (λ x. RegsFit code s.world x.regs f.registers) same (agree_fits code s.world l.regs F.known.regs f.registers (and_parts _ _ e).1 F.fits)
 
       -- the next instruction of the same function
-      next_active : goes_on instr ≡ true → (regs : Registers) → RegsFit row.after regs → ActiveFits ty (record f { place = f.place + 1; registers = regs })
-      next_active on regs fits = record {
+      next_active : goes_on instr ≡ true → (w : World) (regs : Registers) → RegsFit code w row.after regs → ActiveFits w ty (record f { place = f.place + 1; registers = regs })
+      next_active on w regs fits = record {
         func = F.func;
         of = F.of;
         found = F.found;
-        plain = F.plain;
+        quiet = F.quiet;
         is_judged = F.is_judged;
         returns = F.returns;
         known = after code F.func F.of.labels F.is_judged.base instr S.known;
@@ -542,39 +555,60 @@ module _ (code : Parts) (facts : List FuncFacts) where
           known_next : known_after code F.func F.of.labels F.is_judged.base instr S.known ≡ Some (after code F.func F.of.labels F.is_judged.base instr S.known)
           known_next = ap (λ b. if b then Some (after code F.func F.of.labels F.is_judged.base instr S.known) else None) on
 
-      goes : goes_on instr ≡ true → (regs : Registers) (t : State) → RegsFit row.after regs → NextFits (onward f regs below t)
-      goes on regs t fits = record { ty = ty; top = next_active on regs fits; below = under_it }
+      -- on over a later heap
+      goes : goes_on instr ≡ true → (regs : Registers) (u : State) → RegsFit code u.world row.after regs → Later s.world u.world → WorldFits code u.world → OwnedBeside u.world (λ n. in_regs n regs) below → NextFits (onward f regs below u)
+      goes on regs u fits later heap owned = record { ty = ty; top = next_active on u.world regs fits; below = stack_later s.world u.world ty f.dest below later under_it; heap = heap; owned = owned }
 
-      answering : goes_on instr ≡ true → (result : Ty) (to depth : ℕ) (at : Spot) (a : Answer) → row.after ≡ slice_set S.known.regs to (Held result depth false) → Answers result a → NextFits (answered f (Some to) f.registers at below s a)
-      answering on result to depth at (gives None t) e h = absurd h
-      answering on result to depth at (gives (Some v) t) e h = goes on _ t (subst (λ k. RegsFit k (put f.registers to (Some v))) (sym e) (put_fits S.known.regs f.registers to (Held result depth false) (Some v) (v, refl, h) fits_here))
-      answering on result to depth at (traps why) e h = a_trap why at (Running f ∷ below) s
-      answering on result to depth at fails e h = absurd h
+      -- on over the same heap, with nothing owned that wasn't
+      stays_on : goes_on instr ≡ true → (regs : Registers) (u : State) → u.world ≡ s.world → RegsFit code s.world row.after regs → ((n : ℕ) → in_regs n regs ≤ in_regs n f.registers) → NextFits (onward f regs below u)
+      stays_on on regs u e fits fewer =
+          goes on regs u (subst (λ w. RegsFit code w row.after regs) (sym e) fits) (subst (λ w. Later s.world w) (sym e) (later_same s.world)) (subst (λ w. WorldFits code w) (sym e) heap)
+          (subst (λ w. OwnedBeside w (λ n. in_regs n regs) below) (sym e) (λ n. let x = owned n in let y = fewer n in omega (arith, x, y)))
 
-      surely : goes_on instr ≡ true → (result : Ty) (to depth : ℕ) (a : Answer) → row.after ≡ slice_set S.known.regs to (Held result depth false) → Surely result a → NextFits (certain f (Some to) f.registers below s a)
-      surely on result to depth (gives None t) e h = absurd h
-      surely on result to depth (gives (Some v) t) e h = goes on _ t (subst (λ k. RegsFit k (put f.registers to (Some v))) (sym e) (put_fits S.known.regs f.registers to (Held result depth false) (Some v) (v, refl, h) fits_here))
-      surely on result to depth (traps why) e h = absurd h
-      surely on result to depth fails e h = absurd h
+      -- a value that owns nothing comes into a register, over these known registers
+      results : goes_on instr ≡ true → (K : List RegFact) → RegsFit code s.world K f.registers → (result : Ty) (to depth : ℕ) (live : Bool) (v : Value) (u : State) → row.after ≡ slice_set K to (Held result depth live)
+          → Has code s.world result v → ((n : ℕ) → own n v ≡ 0) → u.world ≡ s.world → NextFits (onward f (put f.registers to (Some v)) below u)
+      results on K fits result to depth live v u e has none same_world =
+          stays_on on (put f.registers to (Some v)) u same_world
+          (subst (λ x. RegsFit code s.world x (put f.registers to (Some v))) (sym e) (put_fits code s.world K f.registers to (Held result depth live) (Some v) (v, refl, has) fits))
+          (λ n. let x = put_owns n f.registers to (Some v) in let y = none n in omega (arith, x, y))
 
-      setting : goes_on instr ≡ true → (result : Ty) (to depth : ℕ) (v : Value) → row.after ≡ slice_set S.known.regs to (Held result depth false) → value_has result v ≡ true → NextFits (onward f (put f.registers to (Some v)) below s)
-      setting on result to depth v e h = goes on _ s (subst (λ k. RegsFit k (put f.registers to (Some v))) (sym e) (put_fits S.known.regs f.registers to (Held result depth false) (Some v) (v, refl, h) fits_here))
+      -- the same of a number, a truth or a text
+      plain_result : goes_on instr ≡ true → (result : Ty) (to depth : ℕ) (v : Value) (u : State) → row.after ≡ slice_set S.known.regs to (Held result depth false) → kind_seen result ≡ None → value_has result v ≡ true → u.world ≡ s.world
+          → NextFits (onward f (put f.registers to (Some v)) below u)
+      plain_result on result to depth v u e none h same_world =
+          results on S.known.regs fits_here result to depth false v u e (has_plain code s.world result v none h) (λ n. owns_nothing n result v (not_owned result none) h) same_world
 
-      nothing : goes_on instr ≡ true → (a : Answer) → row.after ≡ S.known.regs → SurelyNothing a → NextFits (certain f None f.registers below s a)
-      nothing on (gives None t) e h = goes on f.registers t (subst (λ k. RegsFit k f.registers) (sym e) fits_here)
-      nothing on (gives (Some v) t) e h = absurd h
+      answering : goes_on instr ≡ true → (result : Ty) (to depth : ℕ) (at : Spot) (a : Answer) → row.after ≡ slice_set S.known.regs to (Held result depth false) → kind_seen result ≡ None → Answers s.world result a → NextFits (answered f (Some to) f.registers at below s a)
+      answering on result to depth at (gives None u) e none h = absurd h
+      answering on result to depth at (gives (Some v) u) e none h = plain_result on result to depth v u e none h.0 h.1
+      answering on result to depth at (traps why) e none h = a_trap why at (Running f ∷ below) s
+      answering on result to depth at fails e none h = absurd h
+
+      surely : goes_on instr ≡ true → (result : Ty) (to depth : ℕ) (a : Answer) → row.after ≡ slice_set S.known.regs to (Held result depth false) → kind_seen result ≡ None → Surely s.world result a → NextFits (certain f (Some to) f.registers below s a)
+      surely on result to depth (gives None u) e none h = absurd h
+      surely on result to depth (gives (Some v) u) e none h = plain_result on result to depth v u e none h.0 h.1
+      surely on result to depth (traps why) e none h = absurd h
+      surely on result to depth fails e none h = absurd h
+
+      setting : goes_on instr ≡ true → (result : Ty) (to depth : ℕ) (v : Value) → row.after ≡ slice_set S.known.regs to (Held result depth false) → kind_seen result ≡ None → value_has result v ≡ true → NextFits (onward f (put f.registers to (Some v)) below s)
+      setting on result to depth v e none h = plain_result on result to depth v s e none h refl
+
+      nothing : goes_on instr ≡ true → (a : Answer) → row.after ≡ S.known.regs → SurelyNothing s.world a → NextFits (certain f None f.registers below s a)
+      nothing on (gives None u) e h = stays_on on f.registers u h (subst (λ x. RegsFit code s.world x f.registers) (sym e) fits_here) (λ n. omega arith)
+      nothing on (gives (Some v) u) e h = absurd h
       nothing on (traps why) e h = absurd h
       nothing on fails e h = absurd h
 
       -- a value that is read
-      reading : (a : ℕ) (of : Ty) (go : Value → Next) → has of (fact_of S.known.regs a) ≡ true → is_there (fact_of S.known.regs a) ≡ true → ((v : Value) → value_has of v ≡ true → NextFits (go v)) → NextFits (with_value (read f.registers a) s go)
+      reading : (a : ℕ) (of : Ty) (go : Value → Next) → has of (fact_of S.known.regs a) ≡ true → is_there (fact_of S.known.regs a) ≡ true → ((v : Value) → Has code s.world of v → NextFits (go v)) → NextFits (with_value (read f.registers a) s go)
       reading a of go e there each =
-          let v = reg_value S.known.regs f.registers a of fits_here e there in
+          let v = reg_value code s.world S.known.regs f.registers a of fits_here e there in
           subst (λ o. NextFits (with_value o s go)) (sym v.1) (each v.0 v.2)
 
       -- a jump to a label
-      landing : (q : ℕ) (t : State) → target_of instr ≡ Some q → row.after ≡ S.known.regs → NextFits (at_place f q below t)
-      landing q t target e = from (label_at F.of.labels q) refl
+      landing : (q : ℕ) (u : State) → u.world ≡ s.world → target_of instr ≡ Some q → row.after ≡ S.known.regs → NextFits (at_place f q below u)
+      landing q u same_world target e = from (label_at F.of.labels q) refl
         where
           is_there_label : is_label (label_at F.of.labels q) ≡ true
           is_there_label = subst (λ o. has_target code F.func F.of.labels F.is_judged.base o ≡ true) target S.keeps.target
@@ -589,7 +623,7 @@ module _ (code : Parts) (facts : List FuncFacts) where
               subst (λ x. Rattle.vale_cert.specs.Walk.if_known code F.func F.of.labels F.is_judged.base q x (λ known. Rattle.vale_cert.specs.Walk.or_else (Rattle.vale_cert.specs.Walk.fault_of (F.is_judged.base + q) (Rattle.vale_cert.specs.Walk.broken (Rattle.vale_cert.specs.Walk.rules code F.func F.of.labels F.is_judged.base q came i known))) (walk code F.func F.of.labels F.is_judged.base (q + 1) is true (known_after code F.func F.of.labels F.is_judged.base i known))) ≡ None)
               (ap (λ x. stated x o) g ∙ sym (ap (λ x. stated x (Some (after code F.func F.of.labels F.is_judged.base instr S.known))) g)) w
 
-          from : (o : Option Label) → label_at F.of.labels q ≡ o → NextFits (at_place f q below t)
+          from : (o : Option Label) → label_at F.of.labels q ≡ o → NextFits (at_place f q below u)
           from None g = absurd (let x : is_label None ≡ true = subst (λ o. is_label o ≡ true) g is_there_label in let y : ⊥ = cc in y)
           from (Some l) g =
               let inside = F.is_judged.within q l g in
@@ -600,11 +634,11 @@ module _ (code : Parts) (facts : List FuncFacts) where
                   func = F.func;
                   of = F.of;
                   found = F.found;
-                  plain = F.plain;
+                  quiet = F.quiet;
                   is_judged = F.is_judged;
                   returns = F.returns;
                   known = after code F.func F.of.labels F.is_judged.base instr S.known;
-                  fits = subst (λ k. RegsFit k f.registers) (sym e) fits_here;
+                  fits = subst (λ x. RegsFit code u.world x f.registers) (sym e) (subst (λ w. RegsFit code w S.known.regs f.registers) (sym same_world) fits_here);
                   enters_here = may;
                   before = c.before;
                   rest = c.rest;
@@ -614,37 +648,31 @@ module _ (code : Parts) (facts : List FuncFacts) where
                   came = c.came;
                   walks = again c.rest c.came c.known c.walks l g;
                 };
-                below = under_it;
+                below = subst (λ w. StackFits w ty f.dest below) (sym same_world) under_it;
+                heap = subst (λ w. WorldFits code w) (sym same_world) heap;
+                owned = subst (λ w. OwnedBeside w (λ n. in_regs n f.registers) below) (sym same_world) owned;
               }
 
       jumping : (q : ℕ) → target_of instr ≡ Some q → row.after ≡ S.known.regs → NextFits (jump code f q below s)
       jumping q target e = from (is_free code f q)
         where
           from : (b : Bool) → NextFits (jump_by b f q below s)
-          from true = landing q s target e
-          from false = with_tick s _ (λ u. landing q u target e)
+          from true = landing q s refl target e
+          from false = with_tick s _ (λ u same_world. landing q u same_world target e)
 
       -- leaving the function
-      leaving : (v : Option Value) → Returns F.func.result v → NextFits (function code f.function s (λ form func. leave_function form f.dest v below s))
-      leaving v h =
-          subst (λ o. NextFits (with_func o s (λ form func. leave_function form f.dest v below s))) (sym F.found)
-          (subst (λ n. NextFits (with_form (form_of n) F.func s (λ form func. leave_function form f.dest v below s))) (sym F.plain)
-          (onto below under_it))
+      leaving : (v : Option Value) → Returns code s.world F.func.result v → ((n : ℕ) → own_in n v ≤ in_regs n f.registers) → NextFits (function code f.function s (λ form func. leave_function form f.dest v below s))
+      leaving v h fewer = subst (λ o. NextFits (with_func o s (λ form func. leave_function form f.dest v below s))) (sym F.found) (by_form (form_of F.func.form) F.quiet)
         where
-          same_dest : (d : Option ℕ) (o : Option Value) (g : Frame) → dest_of g ≡ dest_of (resume d o g)
-          same_dest None o g = refl
-          same_dest (Some to) None g = refl
-          same_dest (Some to) (Some u) (Running x) = refl
-          same_dest (Some to) (Some u) (Dropping x) = refl
-          same_dest (Some to) (Some u) (Looping x) = refl
-          same_dest (Some to) (Some u) (Alone x) = refl
+          left : NextFits (leave below f.dest v s)
+          left = left_fits ty f.dest v below s under_it (subst (λ r. Returns code s.world r v) F.returns h) heap (λ n. let x = owned n in let y = fewer n in omega (arith, x, y))
 
-          resumed : (g : Frame) (fs : List Frame) (j : Ty) → FrameFits j (resume f.dest v g) → StackFits j (dest_of g) fs → NextFits (on (resume f.dest v g) fs s)
-          resumed g fs j top st = record { ty = j; top = top; below = subst (λ d. StackFits j d fs) (same_dest f.dest v g) st }
-
-          onto : (fs : List Frame) → StackFits ty f.dest fs → NextFits (leave fs f.dest v s)
-          onto [] st = λ e. let x : ⊥ = cc in x
-          onto (g ∷ fs) st = resumed g fs st.0 (st.1 v (subst (λ r. Returns r v) F.returns h)) st.2
+          by_form : (o : Option Form) → Quiet o → NextFits (with_form o F.func s (λ form func. leave_function form f.dest v below s))
+          by_form (Some Plain) q = left
+          by_form (Some Destructor) q = left
+          by_form (Some Pure) q = absurd q
+          by_form (Some Iteration) q = absurd q
+          by_form None q = absurd q
 
       -- a function is called
       module _ (cert : Certified code facts) (on_to : goes_on instr ≡ true) (to g : ℕ) (args : List ℕ) (at : Spot) where
@@ -657,11 +685,15 @@ module _ (code : Parts) (facts : List FuncFacts) where
             enter g form callee (frame_of callee) (result_to callee.result to) vs (behind f regs ∷ below) s))
 
         -- the result of the callee comes back
-        back : (rt : Ty) (R : Row) (regs : Registers) (o : Option Value) → row.after ≡ (comes_back S.known.depth rt to R).after → RegsFit R.after regs → Returns rt o → FrameFits ty (resume (result_to rt to) o (behind f regs))
-        back t.Void R regs o e fits h = next_active on_to regs (subst (λ k. RegsFit k regs) (sym e) fits)
-        back rt R regs o e fits h =
-            subst (λ o. FrameFits ty (resume (Some to) o (behind f regs))) (sym h.1)
-            (next_active on_to (put regs to (Some h.0)) (subst (λ k. RegsFit k (put regs to (Some h.0))) (sym e) (put_fits R.after regs to (Held rt S.known.depth false) (Some h.0) (h.0, refl, h.2) fits)))
+        back : (rt : Ty) (R : Row) (regs : Registers) (w : World) (o : Option Value) → row.after ≡ (comes_back S.known.depth rt to R).after → RegsFit code w R.after regs → Returns code w rt o → FrameFits w ty (resume (result_to rt to) o (behind f regs))
+        back t.Void R regs w o e fits h = next_active on_to w regs (subst (λ x. RegsFit code w x regs) (sym e) fits)
+        back rt R regs w o e fits h =
+            subst (λ o. FrameFits w ty (resume (Some to) o (behind f regs))) (sym h.1)
+            (next_active on_to w (put regs to (Some h.0)) (subst (λ x. RegsFit code w x (put regs to (Some h.0))) (sym e) (put_fits code w R.after regs to (Held rt S.known.depth false) (Some h.0) (h.0, refl, h.2) fits)))
+
+        -- the frame that waits for it
+        waiting : (rt : Ty) (R : Row) (regs : Registers) → row.after ≡ (comes_back S.known.depth rt to R).after → RegsFit code s.world R.after regs → StackFits s.world rt (result_to rt to) (behind f regs ∷ below)
+        waiting rt R regs e fits = (ty, (λ w o l h. back rt R regs w o e (regs_later code s.world w R.after regs l fits) h), under_it)
 
         back_kept : (rt : Ty) (R : Row) → (comes_back S.known.depth rt to R).kept.types ≡ true → (comes_back S.known.depth rt to R).kept.present ≡ true → (R.kept.types ≡ true) × (R.kept.present ≡ true)
         back_kept t.Void R e h = (e, h)
@@ -674,11 +706,11 @@ module _ (code : Parts) (facts : List FuncFacts) where
             → NextFits (with_form (form_of callee.form) callee s calls_it)
         called_plain callee found plain e h same =
             let kept = back_kept callee.result (passes_all S.known.depth callee.params args (all_fine S.known.regs)) e h in
-            let p = passing_all S.known.depth callee.params args (all_fine S.known.regs) f.registers fits_here kept.0 kept.1 in
+            let p = passing_all code s.world S.known.depth callee.params args (all_fine S.known.regs) f.registers fits_here kept.0 kept.1 in
             subst (λ n. NextFits (with_form (form_of n) callee s calls_it)) (sym plain)
             (subst (λ o. NextFits (with_read o s (λ vs regs. enter g Plain callee (frame_of callee) (result_to callee.result to) vs (behind f regs ∷ below) s))) (sym p.given)
-            (entered cert g callee (frame_of callee) (result_to callee.result to) p.got.values (behind f p.got.after ∷ below) s found plain p.has
-            (ty, (λ o r. back callee.result (passes_all S.known.depth callee.params args (all_fine S.known.regs)) p.got.after o same p.fits r), under_it)))
+            (entered cert g Plain callee (frame_of callee) (result_to callee.result to) p.got.values (behind f p.got.after ∷ below) s found tt (subst (λ n. Quiet (form_of n)) (sym plain) tt) p.has
+            (waiting callee.result (passes_all S.known.depth callee.params args (all_fine S.known.regs)) p.got.after same p.fits) heap (λ n. let x = p.owned n in let y = owned n in omega (arith, x, y))))
 
         by_form : (callee : Func) (b : Bool) → (callee.form == 0) ≡ b → slice_get code.funcs g ≡ Some callee
             → (rules.call_by_form b S.known.depth S.known.regs callee to args).kept.types ≡ true
@@ -696,28 +728,123 @@ module _ (code : Parts) (facts : List FuncFacts) where
         calling None found e h same = let x : ⊥ = cc in absurd x
         calling (Some callee) found e h same = by_form callee (callee.form == 0) refl found e h same
 
+      -- ---- objects
+
+      -- a register of which nothing else is known than that it leads to what lives
+      set_holds : (K : List RegFact) (regs : Registers) (a r : ℕ) (fact : RegFact) → Holds code s.world fact (read regs a) → ((q : ℕ) → Holds code s.world (fact_of K q) (read regs q)) → Holds code s.world (fact_of (slice_set K a fact) r) (read regs r)
+      set_holds [] regs a r fact h fits = tt
+      set_holds (x ∷ K) regs zero zero fact h fits = h
+      set_holds (x ∷ K) regs zero (suc r) fact h fits = fits (suc r)
+      set_holds (x ∷ K) regs (suc a) zero fact h fits = fits zero
+      set_holds (x ∷ K) [] (suc a) (suc r) fact h fits = set_holds K [] a r fact h (λ q. fits (suc q))
+      set_holds (x ∷ K) (y ∷ regs) (suc a) (suc r) fact h fits = set_holds K regs a r fact h (λ q. fits (suc q))
+
+      found_holds : (depth : ℕ) (fact : RegFact) (o : Option Value) → Holds code s.world fact o → Holds code s.world (found_alive depth fact) o
+      found_holds depth Empty o h = tt
+      found_holds depth (Held u d l) o h = h
+
+      found_fits : (a : ℕ) → RegsFit code s.world (finds_alive S.known.depth S.known.regs a) f.registers
+      found_fits a = record { each = λ r. set_holds S.known.regs f.registers a r (found_alive S.known.depth (fact_of S.known.regs a)) (found_holds S.known.depth (fact_of S.known.regs a) (read f.registers a) (fits_here.each a)) fits_here.each }
+
+      owner_operand : (fact : RegFact) (o : Option Value) (kind : Kind) → owner_kind fact ≡ Some kind → Holds code s.world fact o → (n : ℕ) × (o ≡ Some (Own n)) × Has code s.world (t.Own kind) (Own n)
+      owner_operand (Held (t.Own q) d l) o kind e h = from h.0 h.1 h.2 h.2.shape
+        where
+          from : (v : Value) → o ≡ Some v → Has code s.world (t.Own q) v → value_has (t.Own q) v ≡ true → (n : ℕ) × (o ≡ Some (Own n)) × Has code s.world (t.Own kind) (Own n)
+          from (Own n) g has y = let same_kind : q ≡ kind = cc in (n, g, subst (λ k. Has code s.world (t.Own k) (Own n)) same_kind has)
+          from _ g has y = let x : ⊥ = cc in absurd x
+      owner_operand _ o kind e h = let x : ⊥ = cc in absurd x
+
+      -- an owner in a register leads to a living object
+      lives_there : (a n : ℕ) → read f.registers a ≡ Some (Own n) → (o : Object) × (object_at s.world n ≡ Some o)
+      lives_there a n e = let x = owned n in let y = put_owns n f.registers a None in let z = ap (λ o. own_in n o) e in let one = same_self n in living_is n s.world (omega (arith, x, y, z, one))
+
+      -- the owner that an operand is, with the type of a cell of its object
+      record OwnerFound {A : Type 0} (cells : Option Kind → Option A) (a : ℕ) : Type 0 where
+        kind : Kind
+        name : ℕ
+        object : Object
+        cell : A
+        is : read f.registers a ≡ Some (Own name)
+        names : NameFits code s.world kind name
+        lives : object_at s.world name ≡ Some object
+        via : owner_kind (fact_of S.known.regs a) ≡ Some kind
+        cell_of : cells (Some kind) ≡ Some cell
+        cell_is : cells (owner_kind (fact_of S.known.regs a)) ≡ Some cell
+
+      owner_found : {A : Type 0} (cells : Option Kind → Option A) (a : ℕ) (usable : Bool) → cells None ≡ None → (leads usable (fact_of S.known.regs a) (cells (owner_kind (fact_of S.known.regs a)))).types ≡ true → is_there (fact_of S.known.regs a) ≡ true → OwnerFound cells a
+      owner_found cells a usable none e there =
+          let l = led code s.world owner_kind cells (fact_of S.known.regs a) (read f.registers a) follows_owner none e there (fits_here.each a) in
+          let v = owner_operand (fact_of S.known.regs a) (read f.registers a) l.kind l.via_kind (fits_here.each a) in
+          let o = lives_there a v.0 v.1 in
+          record { kind = l.kind; name = v.0; object = o.0; cell = l.cell; is = v.1; names = v.2.leads l.kind v.0 refl refl; lives = o.1; via = l.via_kind; cell_of = l.cell_of; cell_is = l.cell_is }
+
+      -- what was written of an object that lives
+      writes : goes_on instr ≡ true → (n : ℕ) (o : Object) (vs : List Value) (regs : Registers) → object_at s.world n ≡ Some o → ObjectFits code s.world (record o { values = vs }) → RegsFit code s.world row.after regs
+          → ((m : ℕ) → in_regs m regs + in_values m vs ≤ in_regs m f.registers + in_values m o.values) → NextFits (onward f regs below (changed n o vs s))
+      writes on n o vs regs lives new fits fewer =
+          let later = later_written s.world n o vs lives in
+          goes on regs (changed n o vs s) (regs_later code s.world (written s.world n (record o { values = vs })) row.after regs later fits) later
+          (written_fits code s.world n o vs later heap new)
+          (λ m. let x = fewer m in let y = owned m in let z = world_set m s.world n o (Some (record o { values = vs })) lives in let q = alive_written m s.world n o (record o { values = vs }) lives in omega (arith, x, y, z, q))
+
+      -- ---- what is read of a cell
+
+      cell_types : (depth : ℕ) (frozen : Bool) (c : Option Ty) (to : ℕ) (R : Row) → (reads_cell depth frozen c to R).kept.types ≡ true → R.kept.types ≡ true
+      cell_types depth frozen None to R e = e
+      cell_types depth frozen (Some u) to R e = (and_parts R.kept.types (frozen || not (is_isolate u)) e).0
+
+      cell_present : (depth : ℕ) (frozen : Bool) (c : Option Ty) (to : ℕ) (R : Row) → (reads_cell depth frozen c to R).kept.present ≡ true → R.kept.present ≡ true
+      cell_present depth frozen None to R e = e
+      cell_present depth frozen (Some u) to R e = (and_parts R.kept.present (known.is_free (fact_of R.after to)) e).0
+
+      -- a value that was read of a cell
+      sees : goes_on instr ≡ true → (K : List RegFact) → RegsFit code s.world K f.registers → (frozen : Bool) (c : Option Ty) (u : Ty) (to : ℕ) (kept : Kept) (v : Value) → c ≡ Some u
+          → (reads_cell S.known.depth frozen c to (record { kept = kept; after = K })).kept.types ≡ true → row.after ≡ (reads_cell S.known.depth frozen c to (record { kept = kept; after = K })).after
+          → Has code s.world u v → NextFits (onward f (put f.registers to (Some (lent v))) below s)
+      sees on K fits frozen c u to kept v is e after has =
+          let ok : (reads_cell S.known.depth frozen (Some u) to (record { kept = kept; after = K })).kept.types ≡ true = subst (λ c. (reads_cell S.known.depth frozen c to (record { kept = kept; after = K })).kept.types ≡ true) is e in
+          let seen_it = seen_has code s.world frozen u v (and_parts kept.types (frozen || not (is_isolate u)) ok).1 has in
+          results on K fits (seen frozen u) to S.known.depth (frozen && is_owned u) (lent v) s (after ∙ ap (λ c. (reads_cell S.known.depth frozen c to (record { kept = kept; after = K })).after) is) seen_it.0 seen_it.1 refl
+
+      load_own : Certified code facts → goes_on instr ≡ true → (to a field : ℕ)
+          → (reads_own (field_of code field) S.known.depth S.known.regs to a (leads_as_owner (field_of code field) S.known.depth (fact_of S.known.regs a))).kept.types ≡ true
+          → (reads_own (field_of code field) S.known.depth S.known.regs to a (leads_as_owner (field_of code field) S.known.depth (fact_of S.known.regs a))).kept.present ≡ true
+          → row.after ≡ (reads_own (field_of code field) S.known.depth S.known.regs to a (leads_as_owner (field_of code field) S.known.depth (fact_of S.known.regs a))).after
+          → NextFits (with_owner (read f.registers a) s (λ n. certain f (Some to) f.registers below s (load field (Own n) s)))
+      load_own cert on to a field e g after =
+          let K = leads_as_owner (field_of code field) S.known.depth (fact_of S.known.regs a) in
+          let c = cell_by (field_of code field) (owner_kind (fact_of S.known.regs a)) in
+          let R : Row = record { kept = K; after = S.known.regs } in
+          let w = owner_found (cell_by (field_of code field)) a (is_usable S.known.depth (fact_of S.known.regs a)) refl (cell_types S.known.depth false c to R e) (cell_present S.known.depth false c to R g) in
+          let at = struct_at code facts cert s.world heap field w.kind w.cell w.name w.object w.cell_of w.names w.lives in
+          let v = cell_there code s.world at.tys w.object.values field w.cell at.values at.at_field in
+          subst (λ o. NextFits (with_owner o s (λ n. certain f (Some to) f.registers below s (load field (Own n) s)))) (sym w.is)
+          (subst (λ x. NextFits (certain f (Some to) f.registers below s (on_object (found_or_dead w.name x) (λ n o. field_in (slice_get o.values field) s)))) (sym w.lives)
+          (subst (λ x. NextFits (certain f (Some to) f.registers below s (field_in x s))) (sym v.1)
+          (sees on S.known.regs fits_here false c w.cell to K v.0 w.cell_is e after v.2)))
+
       -- ---- one and two operands
 
       unary : goes_on instr ≡ true → (of result : Ty) (to a : ℕ) (at : Spot) (op : Value → Answer) → row.after ≡ slice_set S.known.regs to (Held result S.known.depth false)
           → has of (fact_of S.known.regs a) ≡ true → (is_there (fact_of S.known.regs a) && known.is_free (fact_of S.known.regs to)) ≡ true
-          → ((v : Value) → value_has of v ≡ true → Answers result (op v))
+          → kind_seen result ≡ None → ((v : Value) → value_has of v ≡ true → Answers s.world result (op v))
           → NextFits (with_value (read f.registers a) s (λ v. answered f (Some to) f.registers at below s (op v)))
-      unary on of result to a at op e h there each = reading a of _ h (and_parts _ _ there).0 (λ v g. answering on result to S.known.depth at (op v) e (each v g))
+      unary on of result to a at op e h there none each = reading a of _ h (and_parts _ _ there).0 (λ v g. answering on result to S.known.depth at (op v) e none (each v g.shape))
 
       sure : goes_on instr ≡ true → (of result : Ty) (to a : ℕ) (op : Value → Answer) → row.after ≡ slice_set S.known.regs to (Held result S.known.depth false)
           → has of (fact_of S.known.regs a) ≡ true → (is_there (fact_of S.known.regs a) && known.is_free (fact_of S.known.regs to)) ≡ true
-          → ((v : Value) → value_has of v ≡ true → Surely result (op v))
+          → kind_seen result ≡ None → ((v : Value) → value_has of v ≡ true → Surely s.world result (op v))
           → NextFits (with_value (read f.registers a) s (λ v. certain f (Some to) f.registers below s (op v)))
-      sure on of result to a op e h there each = reading a of _ h (and_parts _ _ there).0 (λ v g. surely on result to S.known.depth (op v) e (each v g))
+      sure on of result to a op e h there none each = reading a of _ h (and_parts _ _ there).0 (λ v g. surely on result to S.known.depth (op v) e none (each v g.shape))
 
       binary : goes_on instr ≡ true → (of with_it result : Ty) (to a b : ℕ) (at : Spot) (op : Value → Value → Answer) → row.after ≡ slice_set S.known.regs to (Held result S.known.depth false)
           → (has of (fact_of S.known.regs a) && has with_it (fact_of S.known.regs b)) ≡ true
           → ((is_there (fact_of S.known.regs a) && is_there (fact_of S.known.regs b)) && known.is_free (fact_of S.known.regs to)) ≡ true
-          → ((v w : Value) → value_has of v ≡ true → value_has with_it w ≡ true → Answers result (op v w))
+          → kind_seen result ≡ None → ((v w : Value) → value_has of v ≡ true → value_has with_it w ≡ true → Answers s.world result (op v w))
           → NextFits (with_value (read f.registers a) s (λ v. with_value (read f.registers b) s (λ w. answered f (Some to) f.registers at below s (op v w))))
-      binary on of with_it result to a b at op e h there each =
+      binary on of with_it result to a b at op e h there none each =
           let x = and_parts _ _ h in let y = and_parts _ _ (and_parts _ _ there).0 in
-          reading a of _ x.0 y.0 (λ v g. reading b with_it _ x.1 y.1 (λ w q. answering on result to S.known.depth at (op v w) e (each v w g q)))
+          reading a of _ x.0 y.0 (λ v g. reading b with_it _ x.1 y.1 (λ w q. answering on result to S.known.depth at (op v w) e none (each v w g.shape q.shape)))
 
     -- ---- copies, what is printed, comparisons
 
@@ -729,13 +856,13 @@ module _ (code : Parts) (facts : List FuncFacts) where
     copied_same (t.Frozen kind) (Ref n) e h = refl
     copied_same _ _ e h = let x : ⊥ = cc in absurd x
 
-    a_copy : (depth : ℕ) (fact : RegFact) (o : Option Value) → is_copied fact ≡ true → is_there fact ≡ true → Holds fact o → (v : Value) × (o ≡ Some v) × (copied v ≡ Some v) × Holds (copy_of depth fact) (Some v)
+    a_copy : (depth : ℕ) (fact : RegFact) (o : Option Value) → is_copied fact ≡ true → is_there fact ≡ true → Holds code s.world fact o → (v : Value) × (o ≡ Some v) × (copied v ≡ Some v) × Holds code s.world (copy_of depth fact) (Some v) × ((n : ℕ) → own n v ≡ 0)
     a_copy depth Empty o e there h = let x : ⊥ = cc in absurd x
-    a_copy depth (Held u d l) o e there h = (h.0, h.1, copied_same u h.0 e h.2, (h.0, refl, h.2))
+    a_copy depth (Held u d l) o e there h = (h.0, h.1, copied_same u h.0 e h.2.shape, (h.0, refl, h.2), λ n. owns_nothing n u h.0 (not_is (is_owned u) e) h.2.shape)
 
-    printable : (fact : RegFact) (o : Option Value) → is_printable fact ≡ true → is_there fact ≡ true → Holds fact o → (u : Ty) × ((v : Value) × (o ≡ Some v) × (Rattle.vale_cert.specs.Types.is_copy u ≡ true) × (value_has u v ≡ true))
+    printable : (fact : RegFact) (o : Option Value) → is_printable fact ≡ true → is_there fact ≡ true → Holds code s.world fact o → (u : Ty) × ((v : Value) × (o ≡ Some v) × (Rattle.vale_cert.specs.Types.is_copy u ≡ true) × (value_has u v ≡ true))
     printable Empty o e there h = let x : ⊥ = cc in absurd x
-    printable (Held u d l) o e there h = (u, (h.0, h.1, e, h.2))
+    printable (Held u d l) o e there h = (u, (h.0, h.1, e, h.2.shape))
 
     record Compared (choice : ℕ) (o p : Option Value) : Type 0 where
       of : Ty
@@ -747,43 +874,44 @@ module _ (code : Parts) (facts : List FuncFacts) where
       left_has : value_has of left ≡ true
       right_has : value_has of right ≡ true
 
-    compared : (choice : ℕ) (x y : RegFact) (o p : Option Value) → is_comparable choice x ≡ true → are_alike x y ≡ true → is_there x ≡ true → is_there y ≡ true → Holds x o → Holds y p → Compared choice o p
+    compared : (choice : ℕ) (x y : RegFact) (o p : Option Value) → is_comparable choice x ≡ true → are_alike x y ≡ true → is_there x ≡ true → is_there y ≡ true → Holds code s.world x o → Holds code s.world y p → Compared choice o p
     compared choice Empty y o p e alike there too h g = let x : ⊥ = cc in absurd x
     compared choice (Held u d l) Empty o p e alike there too h g = let x : ⊥ = cc in absurd x
     compared choice (Held u d l) (Held w m n) o p e alike there too h g =
-        record { of = u; left = h.0; right = g.0; left_is = h.1; right_is = g.1; ordered = e; left_has = h.2; right_has = same_has w u alike g.0 ∙ g.2 }
+        record { of = u; left = h.0; right = g.0; left_is = h.1; right_is = g.1; ordered = e; left_has = h.2.shape; right_has = subst (λ x. value_has x g.0 ≡ true) (type_is w u alike) g.2.shape }
 
-    returned : (rt : Ty) (v : Value) → value_has rt v ≡ true → Returns rt (Some v)
-    returned t.Void v h = let x : ⊥ = cc in absurd x
+    returned : (rt : Ty) (v : Value) → Has code s.world rt v → Returns code s.world rt (Some v)
+    returned t.Void v h = let y = h.shape in let x : ⊥ = cc in absurd x
     returned rt v h = (v, refl, h)
 
-    returned_nothing : (rt : Ty) → is_void rt ≡ true → Returns rt None
+    returned_nothing : (rt : Ty) → is_void rt ≡ true → Returns code s.world rt None
     returned_nothing t.Void h = refl
     returned_nothing _ h = let x : ⊥ = cc in absurd x
 
     -- ---- the instructions
 
     acts : Certified code facts → (instr : Instr) (instrs : List Instr) → F.rest ≡ instr ∷ instrs → Stepped code F.func F.of.labels F.is_judged.base f.place instr instrs (Some F.known) → numbers code F.func.registers instr ≡ true → NextFits (act code last f below s instr)
-    acts cert (i.Int to n) is e S num = setting (i.Int to n) is e S refl t.Int to S.known.depth (Int n) refl refl
+    acts cert (i.Int to n) is e S num = setting (i.Int to n) is e S refl t.Int to S.known.depth (Int n) refl refl refl
     acts cert (i.Truth to choice) is e S num =
         let b = truth_is choice (and_parts _ _ num).1 in
         subst (λ o. NextFits (with_choice o s (λ b. onward f (put f.registers to (Some (Truth b))) below s))) (sym b.1)
-        (setting (i.Truth to choice) is e S refl t.Truth to S.known.depth (Truth b.0) refl refl)
+        (setting (i.Truth to choice) is e S refl t.Truth to S.known.depth (Truth b.0) refl refl refl)
     acts cert (i.Text to n) is e S num = from (slice_get code.texts n) S.keeps.types
       where
         from : (o : Option (List ℕ)) → is_short o ≡ true → NextFits (with_choice o s (λ t. onward f (put f.registers to (Some (Text t))) below s))
         from None h = let x : ⊥ = cc in absurd x
-        from (Some text) h = setting (i.Text to n) is e S refl t.Text to S.known.depth (Text text) refl refl
+        from (Some text) h = setting (i.Text to n) is e S refl t.Text to S.known.depth (Text text) refl refl refl
     acts cert (i.Copy to a) is e S num =
         let c = a_copy S.known.depth (fact_of S.known.regs a) (read f.registers a) S.keeps.types (and_parts _ _ S.keeps.present).0 ((fits_here (i.Copy to a) is e S).each a) in
         subst (λ o. NextFits (with_value o s (λ v. gets f to (copied v) f.registers below s))) (sym c.1)
         (subst (λ o. NextFits (gets f to o f.registers below s)) (sym c.2)
-        (goes (i.Copy to a) is e S refl (put f.registers to (Some c.0)) s (put_fits S.known.regs f.registers to (copy_of S.known.depth (fact_of S.known.regs a)) (Some c.0) c.3 (fits_here (i.Copy to a) is e S))))
-    acts cert (i.Add to a b at) is e S num = binary (i.Add to a b at) is e S refl t.Int t.Int t.Int to a b at (λ v w. step.add v w s) refl S.keeps.types S.keeps.present (λ v w. add_answers v w s)
-    acts cert (i.Sub to a b at) is e S num = binary (i.Sub to a b at) is e S refl t.Int t.Int t.Int to a b at (λ v w. step.sub v w s) refl S.keeps.types S.keeps.present (λ v w. sub_answers v w s)
-    acts cert (i.Mul to a b at) is e S num = binary (i.Mul to a b at) is e S refl t.Int t.Int t.Int to a b at (λ v w. step.mul v w s) refl S.keeps.types S.keeps.present (λ v w. mul_answers v w s)
-    acts cert (i.Div to a b at) is e S num = binary (i.Div to a b at) is e S refl t.Int t.Int t.Int to a b at (λ v w. step.div v w s) refl S.keeps.types S.keeps.present (λ v w. div_answers v w s)
-    acts cert (i.Rem to a b at) is e S num = binary (i.Rem to a b at) is e S refl t.Int t.Int t.Int to a b at (λ v w. step.rem v w s) refl S.keeps.types S.keeps.present (λ v w. rem_answers v w s)
+        (stays_on (i.Copy to a) is e S refl (put f.registers to (Some c.0)) s refl (put_fits code s.world S.known.regs f.registers to (copy_of S.known.depth (fact_of S.known.regs a)) (Some c.0) c.3 (fits_here (i.Copy to a) is e S))
+        (λ n. let x = put_owns n f.registers to (Some c.0) in let y = c.4 n in omega (arith, x, y))))
+    acts cert (i.Add to a b at) is e S num = binary (i.Add to a b at) is e S refl t.Int t.Int t.Int to a b at (λ v w. step.add v w s) refl S.keeps.types S.keeps.present refl (λ v w. add_answers v w s)
+    acts cert (i.Sub to a b at) is e S num = binary (i.Sub to a b at) is e S refl t.Int t.Int t.Int to a b at (λ v w. step.sub v w s) refl S.keeps.types S.keeps.present refl (λ v w. sub_answers v w s)
+    acts cert (i.Mul to a b at) is e S num = binary (i.Mul to a b at) is e S refl t.Int t.Int t.Int to a b at (λ v w. step.mul v w s) refl S.keeps.types S.keeps.present refl (λ v w. mul_answers v w s)
+    acts cert (i.Div to a b at) is e S num = binary (i.Div to a b at) is e S refl t.Int t.Int t.Int to a b at (λ v w. step.div v w s) refl S.keeps.types S.keeps.present refl (λ v w. div_answers v w s)
+    acts cert (i.Rem to a b at) is e S num = binary (i.Rem to a b at) is e S refl t.Int t.Int t.Int to a b at (λ v w. step.rem v w s) refl S.keeps.types S.keeps.present refl (λ v w. rem_answers v w s)
     acts cert (i.Cmp to choice a b) is e S num =
         let q = comparison_is choice (and_parts _ _ num).1 in
         let types = and_parts _ _ S.keeps.types in let each = and_parts _ _ types.0 in let there = and_parts _ _ (and_parts _ _ S.keeps.present).0 in
@@ -792,21 +920,21 @@ module _ (code : Parts) (facts : List FuncFacts) where
         subst (λ o. NextFits (with_choice o s (λ c. with_value (read f.registers a) s (λ v. with_value (read f.registers b) s (λ w. certain f (Some to) f.registers below s (step.compare c v w s)))))) (sym q.1)
         (subst (λ o. NextFits (with_value o s (λ v. with_value (read f.registers b) s (λ w. certain f (Some to) f.registers below s (step.compare q.0 v w s))))) (sym c.left_is)
         (subst (λ o. NextFits (with_value o s (λ w. certain f (Some to) f.registers below s (step.compare q.0 c.left w s)))) (sym c.right_is)
-        (surely (i.Cmp to choice a b) is e S refl t.Truth to S.known.depth (step.compare q.0 c.left c.right s) refl (compare_answers choice q.0 c.of c.left c.right s q.1 c.ordered c.left_has c.right_has))))
-    acts cert (i.Not to a) is e S num = sure (i.Not to a) is e S refl t.Truth t.Truth to a (λ v. step.opposite v s) refl S.keeps.types S.keeps.present (λ v. opposite_answers v s)
-    acts cert (i.Join to a b at) is e S num = binary (i.Join to a b at) is e S refl t.Text t.Text t.Text to a b at (λ v w. step.join v w s) refl S.keeps.types S.keeps.present (λ v w. join_answers v w s)
-    acts cert (i.TextLen to a) is e S num = sure (i.TextLen to a) is e S refl t.Text t.Int to a (λ v. text_length v s) refl S.keeps.types S.keeps.present (λ v. length_answers v s)
+        (surely (i.Cmp to choice a b) is e S refl t.Truth to S.known.depth (step.compare q.0 c.left c.right s) refl refl (compare_answers choice q.0 c.of c.left c.right s q.1 c.ordered c.left_has c.right_has))))
+    acts cert (i.Not to a) is e S num = sure (i.Not to a) is e S refl t.Truth t.Truth to a (λ v. step.opposite v s) refl S.keeps.types S.keeps.present refl (λ v. opposite_answers v s)
+    acts cert (i.Join to a b at) is e S num = binary (i.Join to a b at) is e S refl t.Text t.Text t.Text to a b at (λ v w. step.join v w s) refl S.keeps.types S.keeps.present refl (λ v w. join_answers v w s)
+    acts cert (i.TextLen to a) is e S num = sure (i.TextLen to a) is e S refl t.Text t.Int to a (λ v. text_length v s) refl S.keeps.types S.keeps.present refl (λ v. length_answers v s)
     acts cert (i.Slice to a x y at) is e S num =
         let types = and_parts _ _ S.keeps.types in let first = and_parts _ _ types.0 in
         let present = and_parts _ _ (and_parts _ _ S.keeps.present).0 in let there = and_parts _ _ present.0 in
         reading (i.Slice to a x y at) is e S a t.Text _ first.0 there.0 (λ v g.
         reading (i.Slice to a x y at) is e S x t.Int _ first.1 there.1 (λ u q.
         reading (i.Slice to a x y at) is e S y t.Int _ types.1 present.1 (λ w r.
-        answering (i.Slice to a x y at) is e S refl t.Text to S.known.depth at (step.slice v u w s) refl (slice_answers v u w s g q r))))
-    acts cert (i.Byte to a x at) is e S num = binary (i.Byte to a x at) is e S refl t.Text t.Int t.Int to a x at (λ v w. step.byte v w s) refl S.keeps.types S.keeps.present (λ v w. byte_answers v w s)
-    acts cert (i.TextOf to a) is e S num = sure (i.TextOf to a) is e S refl t.Int t.Text to a (λ v. step.text_of v s) refl S.keeps.types S.keeps.present (λ v. text_of_answers v s)
-    acts cert (i.IsNum to a) is e S num = sure (i.IsNum to a) is e S refl t.Text t.Truth to a (λ v. step.is_number v s) refl S.keeps.types S.keeps.present (λ v. is_number_answers v s)
-    acts cert (i.Num to a at) is e S num = unary (i.Num to a at) is e S refl t.Text t.Int to a at (λ v. step.number v s) refl S.keeps.types S.keeps.present (λ v. number_answers v s)
+        answering (i.Slice to a x y at) is e S refl t.Text to S.known.depth at (step.slice v u w s) refl refl (slice_answers v u w s g.shape q.shape r.shape))))
+    acts cert (i.Byte to a x at) is e S num = binary (i.Byte to a x at) is e S refl t.Text t.Int t.Int to a x at (λ v w. step.byte v w s) refl S.keeps.types S.keeps.present refl (λ v w. byte_answers v w s)
+    acts cert (i.TextOf to a) is e S num = sure (i.TextOf to a) is e S refl t.Int t.Text to a (λ v. step.text_of v s) refl S.keeps.types S.keeps.present refl (λ v. text_of_answers v s)
+    acts cert (i.IsNum to a) is e S num = sure (i.IsNum to a) is e S refl t.Text t.Truth to a (λ v. step.is_number v s) refl S.keeps.types S.keeps.present refl (λ v. is_number_answers v s)
+    acts cert (i.Num to a at) is e S num = unary (i.Num to a at) is e S refl t.Text t.Int to a at (λ v. step.number v s) refl S.keeps.types S.keeps.present refl (λ v. number_answers v s)
     acts cert (i.Print a choice) is e S num =
         let b = truth_is choice (and_parts _ _ num).1 in
         let p = printable (fact_of S.known.regs a) (read f.registers a) S.keeps.types S.keeps.present ((fits_here (i.Print a choice) is e S).each a) in
@@ -815,20 +943,20 @@ module _ (code : Parts) (facts : List FuncFacts) where
         (nothing (i.Print a choice) is e S refl (print b.0 p.1.0 s) refl (print_answers b.0 p.0 p.1.0 s p.1.2 p.1.3)))
     acts cert (i.Jump q) is e S num = jumping (i.Jump q) is e S q refl refl
     acts cert (i.Unless a q) is e S num =
-        let v = reg_value S.known.regs f.registers a t.Truth (fits_here (i.Unless a q) is e S) S.keeps.types S.keeps.present in
+        let v = reg_value code s.world S.known.regs f.registers a t.Truth (fits_here (i.Unless a q) is e S) S.keeps.types S.keeps.present in
         subst (λ o. NextFits (with_truth o s (jump_unless code f q below s))) (sym v.1)
-        (as_truth v.0 (λ v. NextFits (with_truth (Some v) s (jump_unless code f q below s))) v.2 from)
+        (as_truth v.0 (λ v. NextFits (with_truth (Some v) s (jump_unless code f q below s))) v.2.shape from)
       where
         from : (b : Bool) → NextFits (jump_unless code f q below s b)
-        from true = goes (i.Unless a q) is e S refl f.registers s (fits_here (i.Unless a q) is e S)
+        from true = stays_on (i.Unless a q) is e S refl f.registers s refl (fits_here (i.Unless a q) is e S) (λ n. omega arith)
         from false = jumping (i.Unless a q) is e S q refl refl
-    acts cert i.Tick is e S num = with_tick s _ (λ u. goes i.Tick is e S refl f.registers u (fits_here i.Tick is e S))
+    acts cert i.Tick is e S num = with_tick s _ (λ u same_world. stays_on i.Tick is e S refl f.registers u same_world (fits_here i.Tick is e S) (λ n. omega arith))
     acts cert (i.Call to g args at) is e S num = calling (i.Call to g args at) is e S cert refl to g args at (slice_get code.funcs g) refl S.keeps.types S.keeps.present refl
     acts cert (i.Ret a) is e S num =
-        let v = reg_value S.known.regs f.registers a F.func.result (fits_here (i.Ret a) is e S) S.keeps.types (and_parts _ _ S.keeps.present).0 in
+        let v = reg_value code s.world S.known.regs f.registers a F.func.result (fits_here (i.Ret a) is e S) S.keeps.types (and_parts _ _ S.keeps.present).0 in
         subst (λ o. NextFits (with_value o s (λ v. function code f.function s (λ form func. leave_function form f.dest (Some v) below s)))) (sym v.1)
-        (leaving (i.Ret a) is e S (Some v.0) (returned F.func.result v.0 v.2))
-    acts cert i.RetVoid is e S num = leaving i.RetVoid is e S None (returned_nothing F.func.result S.keeps.types)
+        (leaving (i.Ret a) is e S (Some v.0) (returned F.func.result v.0 v.2) (λ n. let x = put_owns n f.registers a None in let y = ap (λ o. own_in n o) v.1 in omega (arith, x, y)))
+    acts cert i.RetVoid is e S num = leaving i.RetVoid is e S None (returned_nothing F.func.result S.keeps.types) (λ n. omega arith)
     acts cert _ is e S num = let x : false ≡ true = S.keeps.types in absurd (let y : ⊥ = cc in y)
 
     numbers_at : (before : List Instr) (instr : Instr) (instrs : List Instr) → list_all (numbers code F.func.registers) (before ++ instr ∷ instrs) ≡ true → numbers code F.func.registers instr ≡ true
@@ -854,16 +982,17 @@ module _ (code : Parts) (facts : List FuncFacts) where
             (acts cert instr instrs e (stepped code F.func F.of.labels F.is_judged.base f.place instr instrs F.came (Some F.known) w)
             (numbers_at F.before instr instrs (subst (λ l. list_all (numbers code F.func.registers) l ≡ true) whole F.is_judged.numbered)))
 
-  config_step : Certified code facts → (last : Config → State) (ty : Ty) (top : Frame) (below : List Frame) (s : State) → FrameFits ty top → StackFits ty (dest_of top) below → NextFits (step_of code last top below s)
-  config_step cert last ty (Running f) below s fits st = step_fits last ty f below s fits st cert
-  config_step cert last ty (Dropping f) below s fits st = absurd fits
-  config_step cert last ty (Looping f) below s fits st = absurd fits
-  config_step cert last ty (Alone v) below s fits st = absurd fits
+  config_step : Certified code facts → (last : Config → State) (ty : Ty) (top : Frame) (below : List Frame) (s : State) → FrameFits s.world ty top → StackFits s.world ty (dest_of top) below → WorldFits code s.world
+      → OwnedBeside s.world (λ n. in_frame n top) below → NextFits (step_of code last top below s)
+  config_step cert last ty (Running f) below s fits st heap owned = step_fits last ty f below s fits st heap owned cert
+  config_step cert last ty (Dropping f) below s fits st heap owned = drops_on cert f.rest f below s (subst (λ ty. StackFits s.world ty None below) fits st) heap owned
+  config_step cert last ty (Looping f) below s fits st heap owned = absurd fits
+  config_step cert last ty (Alone v) below s fits st heap owned = absurd fits
 
   pub never_wrong : Certified code facts → (last : Config → State) (n : ℕ) (c : Config) (e : Ending) → ConfigFits c → exec_by code last n c ≡ Some e → e.end ≢ Wrong
   never_wrong cert last zero c e fits h = let x : ⊥ = cc in absurd x
-  never_wrong cert last (suc n) c e fits h = from (step_by code last c) (config_step cert last fits.ty c.top c.below c.state fits.top fits.below) h (λ d g q. never_wrong cert last n d e g q)
+  never_wrong cert last (suc n) c e fits h = from (step_by code last c) (config_step cert last fits.ty c.top c.below c.state fits.top fits.below fits.heap fits.owned) h (λ d g q. never_wrong cert last n d e g q)
     where
       from : (x : Next) → NextFits x → then_go x (exec_by code last n) ≡ Some e → ((d : Config) → ConfigFits d → exec_by code last n d ≡ Some e → e.end ≢ Wrong) → e.end ≢ Wrong
       from (On d) g q rest = rest d g q
-      from (Over end v t) g q rest = λ w. g (let x : end ≡ Wrong = cc in x)
+      from (Over end v u) g q rest = λ w. g (let x : end ≡ Wrong = cc in x)
