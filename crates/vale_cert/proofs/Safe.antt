@@ -1,5 +1,5 @@
 -- Certified code never goes wrong.
-use Rattle.std.proofs.Common.{◌≡◌, ◌≢◌, ℕ, zero, suc, ◌+◌, ◌<◌, ◌≤◌, ℤ, List, [], ◌∷◌, ◌++◌, length, Option, Some, None, Bool, true, false, not, ◌&&◌, ◌||◌, ◌==◌, if◌then◌else◌, nat_lt, refl, sym, ap, ◌∙◌, subst, ⊎_elim, arith, length-append, append_assoc}
+use Rattle.std.proofs.Common.{◌≡◌, ◌≢◌, ℕ, zero, suc, ◌+◌, ◌<◌, ◌≤◌, ℤ, pos, negsuc, List, [], ◌∷◌, ◌++◌, length, Option, Some, None, Bool, true, false, not, ◌&&◌, ◌||◌, ◌==◌, if◌then◌else◌, nat_lt, refl, sym, ap, ◌∙◌, subst, ⊎_elim, arith, length-append, append_assoc}
 use Rattle.std.specs.Prelude.{slice_get, slice_set}
 use Rattle.std.specs.List.{list_all}
 use Rattle.std.proofs.lemmas.Bool.{and_parts, eq-eqb}
@@ -7,18 +7,19 @@ use Rattle.std.proofs.lemmas.Option.{slice_get-get_or}
 use Rattle.std.proofs.Math.Seq.{get_or-append_seam}
 use Rattle.vale_base.specs.Outcome.{End, Done, Cut, Wrong, Trap}
 use Rattle.vale_base.specs.State.{State, Answer, gives, traps, fails, Given, no_input, numbers as number_lines, lines, given, begin, born, function_frame, spend, spend_of, has_depth, print}
-use Rattle.vale_base.specs.State.{changed, lent, load, field_in, Looked, object_of, look, look_up, found_or_dead, on_object, name_of, dies, join_isolate, drop_frame}
+use Rattle.vale_base.specs.State.{with_object, element, element_at, element_in, changed, lent, load, field_in, Looked, object_of, look, look_up, found_or_dead, on_object, name_of, dies, join_isolate, drop_frame}
 use Rattle.vale_base.specs.World.{Value, Int, Truth, Text, Own, Ref, Iso, Region, Freeze, Isolate, Object, World, next_name, died, written, relabelled}
 use Rattle.vale_base.specs.declared.name.Kind.{Kind}
 use Rattle.vale_base.specs.declared.spot.Spot.{Spot}
 use Rattle.vale_base.specs.declared.trap.FrameAt.{FrameAt}
 use Rattle.vale_base.specs.declared.trap.TrapKind.{TrapKind}
+use Rattle.vale_base.specs.declared.trap.TrapKind.TheVariants.{IndexOutOfRange, ArrayTooLong, EmptyPop}
 use Rattle.vale_text.specs.Steps as step
 use Rattle.vale_code.specs.Act.{act, act_if, step_of, step_by}
 use Rattle.vale_code.specs.Destroy.{destroy, destroy_by, destroy_object, drop_rest, drop_next, Owned, first_owned}
 use Rattle.vale_code.specs.Enter.{Form, Plain, Pure, Iteration, Destructor, form_of, if_destructor, function, with_func, with_form, enter, if_called, leave_function}
 use Rattle.vale_code.specs.Frames.{Active, Emptying, Frame, Running, Dropping, Looping, Alone, Config, Next, On, Over, on, wrong, trap, under, deeper, ticked, after_tick, resume, leave}
-use Rattle.vale_code.specs.Instructions.{behind, onward, with_value, with_owner, with_read, with_truth, with_choice, copied, gets, answered, certain, fetch, jump, jump_by, jump_unless, is_free, at_place, truth_of, comparison_of, text_length}
+use Rattle.vale_code.specs.Instructions.{behind, onward, with_value, with_owner, with_read, with_truth, with_choice, moved, borrowed, of_living, array_length, copied, gets, answered, certain, fetch, jump, jump_by, jump_unless, is_free, at_place, truth_of, comparison_of, text_length}
 use Rattle.vale_code.specs.Kinds.{text_at, result_to, kind_of, kind_text, destructor_of, destructor_in}
 use Rattle.vale_code.specs.Parts.{Parts}
 use Rattle.vale_code.specs.Registers.{Registers, Read, read, put, kept, give_all, read_all, given_value, after_giving, after_keeping, and_then, as_frozen, named, registers_for}
@@ -36,7 +37,7 @@ use Rattle.vale_cert.specs.Known.{Known, entry, label_at, is_label, may_enter, s
 use Rattle.vale_cert.specs.Numbers.{numbers, is_text}
 use Rattle.vale_cert.specs.Objects.{cells_of, is_implemented, field_of, item_of, cell_by, owner_kind, reference_kind, read_kind, is_through_frozen, found_alive, seen}
 use Rattle.vale_cert.specs.Rules as rules
-use Rattle.vale_cert.specs.Rules.{reads_own, reads_found, reads_cell, finds_alive, leads, leads_as_owner, leads_as_reference, leads_to_read, is_usable, is_readable, taken, takes_all, Row, reads, uses, passes, passed, passes_all, all_fine, comes_back, after_passing, gives_frozen, leads_to, copy_of, is_copied, is_comparable, is_ordered, are_alike, is_printable, is_short}
+use Rattle.vale_cert.specs.Rules.{moves, is_moved, moved_to, borrows, lent_to, drops, reads_own, reads_found, reads_cell, finds_alive, leads, leads_as_owner, leads_as_reference, leads_to_read, is_usable, is_readable, taken, takes_all, Row, reads, uses, passes, passed, passes_all, all_fine, comes_back, after_passing, gives_frozen, leads_to, copy_of, is_copied, is_comparable, is_ordered, are_alike, is_printable, is_short}
 use Rattle.vale_cert.specs.Shape.{destroys, is_destructor_of, takes_owner, field_is_lawful}
 use Rattle.vale_cert.specs.Types.{is_owned, is_isolate, is_void}
 use Rattle.vale_cert.specs.Walk.{row_of, after, enters, has_target, next_of, is_place, known_after, walk, goes_on, target_of}
@@ -45,7 +46,7 @@ use Rattle.vale_cert.specs.declared.facts.Label.{Label}
 use Rattle.vale_cert.specs.declared.facts.RegFact.{RegFact}
 use Rattle.vale_cert.specs.declared.facts.RegFact.TheVariants.{Empty, Held}
 use Rattle.vale_cert.specs.declared.rules.Kept.{Kept}
-use Rattle.vale_cert.proofs.Cells.{leading, seen_has, cell_there, cell_set, Each, to_each, each_at, each_set, each_append, each_front, front_owns, StructAt, ArrayAt, struct_at, array_at, written_fits, died_fits, object_later, Led, led, follows_owner, follows_reference, follows_read}
+use Rattle.vale_cert.proofs.Cells.{leading, seen_has, cell_there, cell_set, Each, to_each, each_at, each_set, each_append, each_front, front_owns, StructAt, ArrayAt, struct_at, array_at, written_fits, died_fits, object_later, Follows, Led, led, follows_owner, follows_reference, follows_read}
 use Rattle.vale_cert.proofs.Fit.{value_has, kind_seen, kind_is, type_is, kind_fits, NameFits, Has, Holds, RegsFit, ObjectFits, WorldFits, has_later, regs_later, has_plain, owns_nothing, put_fits, agree_fits, reg_value, ArgsFit, entry_fits}
 use Rattle.vale_cert.proofs.Heap.{object_at, Later, later_same, later_later, later_died, later_written, later_born, later_relabelled, relabelled_each, same, same_self, own, own_in, in_regs, in_values, in_object, in_world, in_frame, in_frames, alive, living_is, put_owns, begun_owns, values_set, values_append, world_set, world_born, alive_born, alive_written, alive_died, world_relabelled, alive_relabelled, resume_owns}
 use Rattle.vale_cert.proofs.KindLaws.{kind_lawful}
@@ -823,6 +824,156 @@ module _ (code : Parts) (facts : List FuncFacts) where
           (subst (λ x. NextFits (certain f (Some to) f.registers below s (field_in x s))) (sym v.1)
           (sees on S.known.regs fits_here false c w.cell to K v.0 w.cell_is e after v.2)))
 
+      -- ---- what is read through a reference
+
+      read_found : {A : Type 0} (via : RegFact → Option Kind) (cells : Option Kind → Option A) (a : ℕ) (usable : Bool) → Follows via → cells None ≡ None → (leads usable (fact_of S.known.regs a) (cells (via (fact_of S.known.regs a)))).types ≡ true → is_there (fact_of S.known.regs a) ≡ true → Led code s.world via cells (fact_of S.known.regs a) (read f.registers a)
+      read_found via cells a usable follows none e there = led code s.world via cells (fact_of S.known.regs a) (read f.registers a) follows none e there (fits_here.each a)
+
+      -- a step on an object that may be dead
+      on_name : (to : Option ℕ) (regs : Registers) (at : Spot) (v : Value) (n : ℕ) (go : ℕ → Object → Answer) → name_of v ≡ Some n → ((o : Object) → object_at s.world n ≡ Some o → NextFits (answered f to regs at below s (go n o)))
+          → NextFits (answered f to regs at below s (with_object v s go))
+      on_name to regs at v n go e each = subst (λ x. NextFits (answered f to regs at below s (on_object (look_up x s) go))) (sym e) (from (object_at s.world n) refl)
+        where
+          from : (x : Option Object) → object_at s.world n ≡ x → NextFits (answered f to regs at below s (on_object (found_or_dead n x) go))
+          from None q = a_trap _ at (Running f ∷ below) s
+          from (Some o) q = each o q
+
+      load_found : Certified code facts → goes_on instr ≡ true → (to a field : ℕ) (at : Spot)
+          → (reads_found (field_of code field) S.known.depth S.known.regs to a (leads_to_read (field_of code field) S.known.depth (fact_of S.known.regs a))).kept.types ≡ true
+          → (reads_found (field_of code field) S.known.depth S.known.regs to a (leads_to_read (field_of code field) S.known.depth (fact_of S.known.regs a))).kept.present ≡ true
+          → row.after ≡ (reads_found (field_of code field) S.known.depth S.known.regs to a (leads_to_read (field_of code field) S.known.depth (fact_of S.known.regs a))).after
+          → NextFits (with_value (read f.registers a) s (λ v. answered f (Some to) f.registers at below s (load field v s)))
+      load_found cert on to a field at e g after =
+          let fact = fact_of S.known.regs a in
+          let frozen = is_through_frozen S.known.depth fact in
+          let K = leads_to_read (field_of code field) S.known.depth fact in
+          let c = cell_by (field_of code field) (read_kind S.known.depth fact) in
+          let R : Row = record { kept = K; after = finds_alive S.known.depth S.known.regs a } in
+          let w = read_found (read_kind S.known.depth) (cell_by (field_of code field)) a (is_readable S.known.depth fact) (follows_read S.known.depth) refl (cell_types S.known.depth frozen c to R e) (cell_present S.known.depth frozen c to R g) in
+          subst (λ o. NextFits (with_value o s (λ v. answered f (Some to) f.registers at below s (load field v s)))) (sym w.reads)
+          (on_name (Some to) f.registers at w.value w.name (λ n o. field_in (slice_get o.values field) s) w.named (λ o lives.
+          let st = struct_at code facts cert s.world heap field w.kind w.cell w.name o w.cell_of w.names lives in
+          let v = cell_there code s.world st.tys o.values field w.cell st.values st.at_field in
+          subst (λ x. NextFits (answered f (Some to) f.registers at below s (field_in x s))) (sym v.1)
+          (sees on (finds_alive S.known.depth S.known.regs a) (found_fits a) frozen c w.cell to K v.0 w.cell_is e after v.2)))
+
+      len_found : Certified code facts → goes_on instr ≡ true → (to a : ℕ) (at : Spot) → (leads_to_read (item_of code) S.known.depth (fact_of S.known.regs a)).types ≡ true → is_there (fact_of S.known.regs a) ≡ true
+          → row.after ≡ slice_set (finds_alive S.known.depth S.known.regs a) to (Held t.Int S.known.depth false)
+          → NextFits (with_value (read f.registers a) s (λ v. answered f (Some to) f.registers at below s (array_length v s)))
+      len_found cert on to a at e there after =
+          let fact = fact_of S.known.regs a in
+          let w = read_found (read_kind S.known.depth) (cell_by (item_of code)) a (is_readable S.known.depth fact) (follows_read S.known.depth) refl e there in
+          subst (λ o. NextFits (with_value o s (λ v. answered f (Some to) f.registers at below s (array_length v s)))) (sym w.reads)
+          (on_name (Some to) f.registers at w.value w.name (λ n o. gives (Some (Int (pos (length o.values)))) s) w.named (λ o lives.
+          results on (finds_alive S.known.depth S.known.regs a) (found_fits a) t.Int to S.known.depth false (Int (pos (length o.values))) s after (has_plain code s.world t.Int (Int (pos (length o.values))) refl refl) (λ n. refl) refl))
+
+      -- an element at an index: it is there, or the run traps
+      element_fits : (through : Answer → Answer) → ((v : Value) (u : State) → through (gives (Some v) u) ≡ gives (Some v) u) → through (traps IndexOutOfRange) ≡ traps IndexOutOfRange
+          → (to : ℕ) (at : Spot) (u : Value) (o : Object) → value_has t.Int u ≡ true → ((i : ℕ) (v : Value) → slice_get o.values i ≡ Some v → NextFits (onward f (put f.registers to (Some (lent v))) below s))
+          → NextFits (answered f (Some to) f.registers at below s (through (element_at u o s)))
+      element_fits through gives_same traps_same to at (Int (pos i)) o e each = from (slice_get o.values i) refl
+        where
+          from : (x : Option Value) → slice_get o.values i ≡ x → NextFits (answered f (Some to) f.registers at below s (through (element_in x s)))
+          from None q = subst (λ x. NextFits (answered f (Some to) f.registers at below s x)) (sym traps_same) (a_trap IndexOutOfRange at (Running f ∷ below) s)
+          from (Some v) q = subst (λ x. NextFits (answered f (Some to) f.registers at below s x)) (sym (gives_same (lent v) s)) (each i v q)
+      element_fits through gives_same traps_same to at (Int (negsuc i)) o e each = subst (λ x. NextFits (answered f (Some to) f.registers at below s x)) (sym traps_same) (a_trap IndexOutOfRange at (Running f ∷ below) s)
+      element_fits through gives_same traps_same to at _ o e each = let x : ⊥ = cc in absurd x
+
+      elem_own : Certified code facts → goes_on instr ≡ true → (to a x : ℕ) (at : Spot)
+          → (reads_own (item_of code) S.known.depth S.known.regs to a (reads S.known.regs x t.Int (leads_as_owner (item_of code) S.known.depth (fact_of S.known.regs a)))).kept.types ≡ true
+          → (reads_own (item_of code) S.known.depth S.known.regs to a (reads S.known.regs x t.Int (leads_as_owner (item_of code) S.known.depth (fact_of S.known.regs a)))).kept.present ≡ true
+          → row.after ≡ (reads_own (item_of code) S.known.depth S.known.regs to a (reads S.known.regs x t.Int (leads_as_owner (item_of code) S.known.depth (fact_of S.known.regs a)))).after
+          → NextFits (with_owner (read f.registers a) s (λ n. with_value (read f.registers x) s (λ u. answered f (Some to) f.registers at below s (of_living (element (Own n) u s)))))
+      elem_own cert on to a x at e g after =
+          let fact = fact_of S.known.regs a in
+          let L = leads_as_owner (item_of code) S.known.depth fact in
+          let K = reads S.known.regs x t.Int L in
+          let c = cell_by (item_of code) (owner_kind fact) in
+          let R : Row = record { kept = K; after = S.known.regs } in
+          let types = and_parts L.types (has t.Int (fact_of S.known.regs x)) (cell_types S.known.depth false c to R e) in
+          let there = and_parts L.present (is_there (fact_of S.known.regs x)) (cell_present S.known.depth false c to R g) in
+          let w = owner_found (cell_by (item_of code)) a (is_usable S.known.depth fact) refl types.0 there.0 in
+          let ar = array_at code facts cert s.world heap w.kind w.cell w.name w.object w.cell_of w.names w.lives in
+          subst (λ o. NextFits (with_owner o s (λ n. with_value (read f.registers x) s (λ u. answered f (Some to) f.registers at below s (of_living (element (Own n) u s)))))) (sym w.is)
+          (reading x t.Int _ types.1 there.1 (λ u h.
+          subst (λ y. NextFits (answered f (Some to) f.registers at below s (of_living (on_object (found_or_dead w.name y) (λ n o. element_at u o s))))) (sym w.lives)
+          (element_fits of_living (λ v u. refl) refl to at u w.object h.shape (λ i v q.
+          sees on S.known.regs fits_here false c w.cell to K v w.cell_is e after (each_at code s.world w.cell w.object.values i v ar.values q)))))
+
+      elem_found : Certified code facts → goes_on instr ≡ true → (to a x : ℕ) (at : Spot)
+          → (reads_found (item_of code) S.known.depth S.known.regs to a (reads S.known.regs x t.Int (leads_to_read (item_of code) S.known.depth (fact_of S.known.regs a)))).kept.types ≡ true
+          → (reads_found (item_of code) S.known.depth S.known.regs to a (reads S.known.regs x t.Int (leads_to_read (item_of code) S.known.depth (fact_of S.known.regs a)))).kept.present ≡ true
+          → row.after ≡ (reads_found (item_of code) S.known.depth S.known.regs to a (reads S.known.regs x t.Int (leads_to_read (item_of code) S.known.depth (fact_of S.known.regs a)))).after
+          → NextFits (with_value (read f.registers a) s (λ v. with_value (read f.registers x) s (λ u. answered f (Some to) f.registers at below s (element v u s))))
+      elem_found cert on to a x at e g after =
+          let fact = fact_of S.known.regs a in
+          let frozen = is_through_frozen S.known.depth fact in
+          let L = leads_to_read (item_of code) S.known.depth fact in
+          let K = reads S.known.regs x t.Int L in
+          let c = cell_by (item_of code) (read_kind S.known.depth fact) in
+          let R : Row = record { kept = K; after = finds_alive S.known.depth S.known.regs a } in
+          let types = and_parts L.types (has t.Int (fact_of S.known.regs x)) (cell_types S.known.depth frozen c to R e) in
+          let there = and_parts L.present (is_there (fact_of S.known.regs x)) (cell_present S.known.depth frozen c to R g) in
+          let w = read_found (read_kind S.known.depth) (cell_by (item_of code)) a (is_readable S.known.depth fact) (follows_read S.known.depth) refl types.0 there.0 in
+          subst (λ o. NextFits (with_value o s (λ v. with_value (read f.registers x) s (λ u. answered f (Some to) f.registers at below s (element v u s))))) (sym w.reads)
+          (reading x t.Int _ types.1 there.1 (λ u h.
+          on_name (Some to) f.registers at w.value w.name (λ n o. element_at u o s) w.named (λ o lives.
+          let ar = array_at code facts cert s.world heap w.kind w.cell w.name o w.cell_of w.names lives in
+          element_fits (λ x. x) (λ v u. refl) refl to at u o h.shape (λ i v q.
+          sees on (finds_alive S.known.depth S.known.regs a) (found_fits a) frozen c w.cell to K v w.cell_is e after (each_at code s.world w.cell o.values i v ar.values q)))))
+
+      -- ---- owners and references in registers
+
+      moved_same : (u : Ty) (v : Value) → is_owned u ≡ true → value_has u v ≡ true → moved v ≡ Some v
+      moved_same (t.Own q) (Own n) e h = refl
+      moved_same (t.Iso q) (Iso n) e h = refl
+      moved_same _ _ e h = let x : ⊥ = cc in absurd x
+
+      owner_value : (u : Ty) (v : Value) → is_owned u ≡ true → value_has u v ≡ true → is_owner v ≡ true
+      owner_value (t.Own q) (Own n) e h = refl
+      owner_value (t.Iso q) (Iso n) e h = refl
+      owner_value _ _ e h = let x : ⊥ = cc in absurd x
+
+      a_move : (depth : ℕ) (fact : RegFact) (o : Option Value) → is_moved fact ≡ true → is_there fact ≡ true → Holds code s.world fact o → (v : Value) × (o ≡ Some v) × (moved v ≡ Some v) × (is_owner v ≡ true) × Holds code s.world (moved_to depth fact) (Some v)
+      a_move depth Empty o e there h = let x : ⊥ = cc in absurd x
+      a_move depth (Held u d l) o e there h = (h.0, h.1, moved_same u h.0 e h.2.shape, owner_value u h.0 e h.2.shape, (h.0, refl, h.2))
+
+      moving : goes_on instr ≡ true → (to a : ℕ) → (moves S.known.depth S.known.regs to a).kept.types ≡ true → (moves S.known.depth S.known.regs to a).kept.present ≡ true → row.after ≡ (moves S.known.depth S.known.regs to a).after
+          → NextFits (with_value (read f.registers a) s (λ v. gets f to (moved v) (put f.registers a None) below s))
+      moving on to a e g after =
+          let fact = fact_of S.known.regs a in
+          let m = a_move S.known.depth fact (read f.registers a) e (and_parts (is_there fact) (known.is_free (fact_of (slice_set S.known.regs a Empty) to)) g).0 (fits_here.each a) in
+          subst (λ o. NextFits (with_value o s (λ v. gets f to (moved v) (put f.registers a None) below s))) (sym m.1)
+          (subst (λ o. NextFits (gets f to o (put f.registers a None) below s)) (sym m.2)
+          (stays_on on (put (put f.registers a None) to (Some m.0)) s refl
+          (subst (λ x. RegsFit code s.world x (put (put f.registers a None) to (Some m.0))) (sym after)
+          (put_fits code s.world (slice_set S.known.regs a Empty) (put f.registers a None) to (moved_to S.known.depth fact) (Some m.0) m.4 (put_fits code s.world S.known.regs f.registers a Empty None tt fits_here)))
+          (λ n. let x = put_owns n (put f.registers a None) to (Some m.0) in let y = put_owns n f.registers a None in let z = ap (λ o. own_in n o) m.1 in omega (arith, x, y, z))))
+
+      borrowing : goes_on instr ≡ true → (to a : ℕ) → (borrows S.known.depth S.known.regs to a).kept.types ≡ true → (borrows S.known.depth S.known.regs to a).kept.present ≡ true → row.after ≡ (borrows S.known.depth S.known.regs to a).after
+          → NextFits (with_value (read f.registers a) s (λ v. gets f to (borrowed v) f.registers below s))
+      borrowing on to a e g after =
+          let fact = fact_of S.known.regs a in
+          let w = owner_found (λ o. o) a (is_usable S.known.depth fact) refl e (and_parts (is_there fact) (known.is_free (fact_of S.known.regs to)) g).0 in
+          subst (λ o. NextFits (with_value o s (λ v. gets f to (borrowed v) f.registers below s))) (sym w.is)
+          (results on S.known.regs fits_here (t.Ref w.kind) to S.known.depth false (Ref w.name) s (after ∙ ap (λ x. slice_set S.known.regs to x) (lent_fact fact w.kind w.via))
+          (leading code s.world (t.Ref w.kind) (Ref w.name) w.kind w.name refl refl refl w.names) (λ n. refl) refl)
+        where
+          lent_fact : (fact : RegFact) (kind : Kind) → owner_kind fact ≡ Some kind → lent_to S.known.depth fact ≡ Held (t.Ref kind) S.known.depth false
+          lent_fact (Held (t.Own q) d l) kind e = let same_kind : q ≡ kind = cc in ap (λ q. Held (t.Ref q) S.known.depth false) same_kind
+          lent_fact _ kind e = let x : ⊥ = cc in absurd x
+
+      dropping : Certified code facts → goes_on instr ≡ true → (a : ℕ) (at : Spot) → (drops S.known.depth S.known.regs a).kept.types ≡ true → (drops S.known.depth S.known.regs a).kept.present ≡ true → row.after ≡ (drops S.known.depth S.known.regs a).after
+          → NextFits (with_value (read f.registers a) s (λ v. destroy code v at (behind f (put f.registers a None) ∷ below) s))
+      dropping cert on a at e g after =
+          let fact = fact_of S.known.regs a in
+          let m = a_move S.known.depth fact (read f.registers a) e g (fits_here.each a) in
+          let fits : RegsFit code s.world row.after (put f.registers a None) = subst (λ x. RegsFit code s.world x (put f.registers a None)) (sym after) (put_fits code s.world S.known.regs f.registers a Empty None tt fits_here) in
+          subst (λ o. NextFits (with_value o s (λ v. destroy code v at (behind f (put f.registers a None) ∷ below) s))) (sym m.1)
+          (destroying_value cert m.0 at (behind f (put f.registers a None) ∷ below) s m.3
+          (ty, (λ w o l r. next_active on w (put f.registers a None) (regs_later code s.world w row.after (put f.registers a None) l fits)), under_it) heap
+          (λ n. let x = owned n in let y = put_owns n f.registers a None in let z = ap (λ o. own_in n o) m.1 in omega (arith, x, y, z)))
+
       -- ---- one and two operands
 
       unary : goes_on instr ≡ true → (of result : Ty) (to a : ℕ) (at : Spot) (op : Value → Answer) → row.after ≡ slice_set S.known.regs to (Held result S.known.depth false)
@@ -957,6 +1108,15 @@ module _ (code : Parts) (facts : List FuncFacts) where
         subst (λ o. NextFits (with_value o s (λ v. function code f.function s (λ form func. leave_function form f.dest (Some v) below s)))) (sym v.1)
         (leaving (i.Ret a) is e S (Some v.0) (returned F.func.result v.0 v.2) (λ n. let x = put_owns n f.registers a None in let y = ap (λ o. own_in n o) v.1 in omega (arith, x, y)))
     acts cert i.RetVoid is e S num = leaving i.RetVoid is e S None (returned_nothing F.func.result S.keeps.types) (λ n. omega arith)
+    acts cert (i.Move to a) is e S num = moving (i.Move to a) is e S refl to a S.keeps.types S.keeps.present refl
+    acts cert (i.Borrow to a) is e S num = borrowing (i.Borrow to a) is e S refl to a S.keeps.types S.keeps.present refl
+    acts cert (i.Destroy a at) is e S num = dropping (i.Destroy a at) is e S cert refl a at S.keeps.types S.keeps.present refl
+    acts cert (i.LoadOwn to a field) is e S num = load_own (i.LoadOwn to a field) is e S cert refl to a field S.keeps.types S.keeps.present refl
+    acts cert (i.Load to a field at) is e S num = load_found (i.Load to a field at) is e S cert refl to a field at S.keeps.types S.keeps.present refl
+    acts cert (i.ElemOwn to a x at) is e S num = elem_own (i.ElemOwn to a x at) is e S cert refl to a x at S.keeps.types S.keeps.present refl
+    acts cert (i.Elem to a x at) is e S num = elem_found (i.Elem to a x at) is e S cert refl to a x at S.keeps.types S.keeps.present refl
+    acts cert (i.Len to a at) is e S num =
+        len_found (i.Len to a at) is e S cert refl to a at S.keeps.types (and_parts (is_there (fact_of S.known.regs a)) (known.is_free (fact_of (finds_alive S.known.depth S.known.regs a) to)) S.keeps.present).0 refl
     acts cert _ is e S num = let x : false ≡ true = S.keeps.types in absurd (let y : ⊥ = cc in y)
 
     numbers_at : (before : List Instr) (instr : Instr) (instrs : List Instr) → list_all (numbers code F.func.registers) (before ++ instr ∷ instrs) ≡ true → numbers code F.func.registers instr ≡ true
