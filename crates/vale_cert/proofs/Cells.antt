@@ -20,7 +20,7 @@ use Rattle.vale_cert.specs.declared.facts.FuncFacts.{FuncFacts}
 use Rattle.vale_cert.specs.declared.facts.RegFact.{RegFact}
 use Rattle.vale_cert.specs.declared.facts.RegFact.TheVariants.{Empty, Held}
 use Rattle.vale_cert.proofs.Fit.{value_has, kind_seen, kind_fits, NameFits, Has, Holds, RegsFit, ArgsFit, ObjectFits, WorldFits, has_later, args_later}
-use Rattle.vale_cert.proofs.Heap.{object_at, Later, own, in_values, set_each}
+use Rattle.vale_cert.proofs.Heap.{object_at, Later, own, in_values, set_each, born_each}
 use Rattle.vale_cert.proofs.KindLaws.{exactly, is_concrete}
 
 -- ---- values that lead to objects
@@ -88,6 +88,12 @@ module _ (code : Parts) (w : World) where
   cell_set (u ∷ tys) (v ∷ vs) zero ty new h e g = let same_type : u ≡ ty = cc in (subst (λ x. Has code w x new) (sym same_type) g, h.1)
   cell_set (u ∷ tys) (v ∷ vs) (suc i) ty new h e g = (h.0, cell_set tys vs i ty new h.1 e g)
 
+  pub args_length : (tys : List Ty) (vs : List Value) → ArgsFit code w tys vs → length tys ≡ length vs
+  args_length [] [] h = refl
+  args_length [] (v ∷ vs) h = absurd h
+  args_length (u ∷ tys) [] h = absurd h
+  args_length (u ∷ tys) (v ∷ vs) h = ap suc (args_length tys vs h.1)
+
   -- all values of one type
   abbrev pub Each : Ty → List Value → Type 0
   Each item [] = Unit {0}
@@ -153,6 +159,22 @@ module _ (code : Parts) (facts : List FuncFacts) (cert : Certified code facts) (
       from (Some (k.Interface name methods)) q e = let x : ⊥ = cc in absurd x
       from None q e = let x : ⊥ = cc in absurd x
 
+  -- all fields
+  pub struct_values : (kind : Kind) (tys : List Ty) (n : ℕ) (o : Object) → fields_of (kind_of code kind) ≡ Some tys → NameFits code w kind n → object_at w n ≡ Some o → ArgsFit code w tys o.values
+  struct_values kind tys n o e names lives = from (kind_of code kind) refl e
+    where
+      from : (info : Option KindInfo) → kind_of code kind ≡ info → fields_of info ≡ Some tys → ArgsFit code w tys o.values
+      from (Some (k.Struct name destructor fields)) q e =
+          let like = exactly code facts cert o.kind kind (k.Struct name destructor fields) q refl (names.fits o lives) in
+          let is : kind_of code o.kind ≡ Some (k.Struct name destructor fields) = ap (λ k. kind_of code k) like ∙ q in
+          let f = fits n o lives in
+          let all : Some f.tys ≡ Some tys = sym f.cells ∙ ap (λ i. cells_of i (length o.values)) is ∙ e in
+          let tys_are : f.tys ≡ tys = cc in
+          subst (λ x. ArgsFit code w x o.values) tys_are f.values
+      from (Some (k.Array item)) q e = let x : ⊥ = cc in absurd x
+      from (Some (k.Interface name methods)) q e = let x : ⊥ = cc in absurd x
+      from None q e = let x : ⊥ = cc in absurd x
+
   pub array_at : (kind : Kind) (item : Ty) (n : ℕ) (o : Object) → item_of code kind ≡ Some item → NameFits code w kind n → object_at w n ≡ Some o → ArrayAt code w item o
   array_at kind item n o e names lives = from (kind_of code kind) refl e
     where
@@ -181,6 +203,10 @@ written_fits code w n o vs later fits new m p e =
     set_each w n (Some (record o { values = vs })) (λ p. ObjectFits code (written w n (record o { values = vs })) p)
     (λ p h. let is : record o { values = vs } ≡ p = cc in subst (λ p. ObjectFits code (written w n (record o { values = vs })) p) is (object_later code w (written w n (record o { values = vs })) (record o { values = vs }) later new))
     (λ q p h. object_later code w (written w n (record o { values = vs })) p later (fits q p h)) m p e
+
+pub born_fits : (code : Parts) (w : World) (o : Object) → Later w (born w o) → WorldFits code w → ObjectFits code w o → WorldFits code (born w o)
+born_fits code w o later fits new n p e =
+    born_each w o (λ p. ObjectFits code (born w o) p) (object_later code w (born w o) o later new) (λ q p h. object_later code w (born w o) p later (fits q p h)) n p e
 
 pub died_fits : (code : Parts) (w : World) (n : ℕ) → Later w (died w n) → WorldFits code w → WorldFits code (died w n)
 died_fits code w n later fits m p e =

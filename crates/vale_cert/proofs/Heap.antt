@@ -1,7 +1,8 @@
 -- Heaps: what a later one has kept of an earlier one, and how often a name is owned.
 use Rattle.std.proofs.Common.{◌≡◌, ◌<◌, ◌≤◌, ℕ, zero, suc, ◌+◌, ◌-◌, List, [], ◌∷◌, ◌++◌, length, map, replicate, Option, Some, None, Bool, true, false, ◌&&◌, refl, sym, ap, ◌∙◌, subst, arith, if◌then◌else◌}
 use Rattle.std.specs.Prelude.{slice_get, slice_set}
-use Rattle.vale_base.specs.State.{living, name_of}
+use Rattle.vale_base.specs.State as state
+use Rattle.vale_base.specs.State.{State, here, counted, living, name_of}
 use Rattle.vale_base.specs.World.{Value, Int, Truth, Text, Own, Ref, Iso, Region, Object, World, born, died, written, relabelled, moved, region_eq}
 use Rattle.vale_base.specs.declared.name.Kind.{Kind}
 use Rattle.vale_code.specs.Frames.{Frame, Running, Dropping, Looping, Alone, resume}
@@ -50,6 +51,26 @@ later_born w o = record {
   longer = let x = append_length w (Some o) in omega (arith, x);
   same = λ n lt p e. (p, sym (append_get w (Some o ∷ []) n lt) ∙ e, refl);
 }
+
+pub born_at : (w : World) (o : Object) → object_at (born w o) (length w) ≡ Some o
+born_at [] o = refl
+born_at (x ∷ w) o = born_at w o
+
+pub born_each : (w : World) (o : Object) (P : Object → Type 0) → P o → ((k : ℕ) (p : Object) → object_at w k ≡ Some p → P p) → (n : ℕ) (p : Object) → object_at (born w o) n ≡ Some p → P p
+born_each [] o P h g zero p e = let is : o ≡ p = cc in subst P is h
+born_each [] o P h g (suc n) p e = let x : ⊥ = cc in absurd x
+born_each (x ∷ w) o P h g zero p e = g zero p e
+born_each (x ∷ w) o P h g (suc n) p e = born_each w o P h (λ k. g (suc k)) n p e
+
+counted_world : (s : State) → (counted s).world ≡ s.world
+counted_world s = from s.quiet
+  where
+    from : (b : Bool) → (if b then s else record s { most = Rattle.std.specs.Prelude.max s.most (state.live s.world); made = s.made + 1 }).world ≡ s.world
+    from true = refl
+    from false = refl
+
+pub state_born : (kind : Kind) (vs : List Value) (s : State) → (state.born kind vs s).world ≡ born s.world (record { region = here s; kind = kind; values = vs })
+state_born kind vs s = counted_world (record s { world = born s.world (record { region = here s; kind = kind; values = vs }) })
 
 set_length : (w : World) (m : ℕ) (x : Option Object) → length (slice_set w m x) ≡ length w
 set_length [] m x = refl

@@ -1,5 +1,5 @@
 -- Certified code never goes wrong.
-use Rattle.std.proofs.Common.{◌≡◌, ◌≢◌, ℕ, zero, suc, ◌+◌, ◌<◌, ◌≤◌, ℤ, pos, negsuc, List, [], ◌∷◌, ◌++◌, length, replicate, Option, Some, None, Bool, true, false, not, ◌&&◌, ◌||◌, ◌==◌, if◌then◌else◌, nat_lt, refl, sym, ap, ◌∙◌, subst, ⊎_elim, arith, length-append, append_assoc}
+use Rattle.std.proofs.Common.{◌≡◌, ◌≢◌, ℕ, zero, suc, ◌+◌, ◌<◌, ◌≤◌, ℤ, pos, negsuc, List, [], ◌∷◌, ◌++◌, length, replicate, Option, Some, None, Bool, true, false, not, ◌&&◌, ◌||◌, ◌==◌, if◌then◌else◌, nat_lt, nat_le, refl, sym, ap, ◌∙◌, subst, ⊎_elim, arith, length-append, append_assoc}
 use Rattle.std.specs.Prelude.{slice_get, slice_set}
 use Rattle.std.specs.List.{list_all}
 use Rattle.std.proofs.lemmas.Bool.{and_parts, eq-eqb}
@@ -8,8 +8,8 @@ use Rattle.std.proofs.Math.Seq.{get_or-append_seam}
 use Rattle.vale_base.specs.Limits.{width_limit}
 use Rattle.vale_base.specs.Outcome.{End, Done, Cut, Wrong, Trap}
 use Rattle.vale_base.specs.State.{State, Answer, gives, traps, fails, Given, no_input, numbers as number_lines, lines, given, begin, born, function_frame, spend, spend_of, has_depth, print}
-use Rattle.vale_base.specs.State.{swap, swapped_in, swap_element, element_swapped_at, element_swapped_in, push, pop, popped, front_from, last_from, with_object, element, element_at, element_in, changed, lent, load, field_in, Looked, object_of, look, look_up, found_or_dead, on_object, name_of, dies, join_isolate, drop_frame}
-use Rattle.vale_base.specs.World.{Value, Int, Truth, Text, Own, Ref, Iso, Region, Freeze, Isolate, Object, World, next_name, died, written, relabelled}
+use Rattle.vale_base.specs.State.{make, swap, swapped_in, swap_element, element_swapped_at, element_swapped_in, push, pop, popped, front_from, last_from, with_object, element, element_at, element_in, changed, lent, load, field_in, Looked, object_of, look, look_up, found_or_dead, on_object, name_of, dies, join_isolate, drop_frame}
+use Rattle.vale_base.specs.World.{Value, Int, Truth, Text, Own, Ref, Iso, Region, Freeze, Isolate, Object, World, next_name, born as world_with, died, written, relabelled}
 use Rattle.vale_base.specs.declared.name.Kind.{Kind}
 use Rattle.vale_base.specs.declared.spot.Spot.{Spot}
 use Rattle.vale_base.specs.declared.trap.FrameAt.{FrameAt}
@@ -20,14 +20,16 @@ use Rattle.vale_code.specs.Act.{act, act_if, step_of, step_by}
 use Rattle.vale_code.specs.Destroy.{destroy, destroy_by, destroy_object, drop_rest, drop_next, Owned, first_owned}
 use Rattle.vale_code.specs.Enter.{Form, Plain, Pure, Iteration, Destructor, form_of, if_destructor, function, with_func, with_form, enter, if_called, leave_function}
 use Rattle.vale_code.specs.Frames.{Active, Emptying, Frame, Running, Dropping, Looping, Alone, Config, Next, On, Over, on, wrong, trap, under, deeper, ticked, after_tick, resume, leave}
-use Rattle.vale_code.specs.Instructions.{behind, onward, with_value, with_owner, with_read, with_truth, with_choice, moved, borrowed, of_living, array_length, copied, gets, answered, certain, fetch, jump, jump_by, jump_unless, is_free, at_place, truth_of, comparison_of, text_length}
-use Rattle.vale_code.specs.Kinds.{text_at, result_to, kind_of, kind_text, destructor_of, destructor_in}
+use Rattle.vale_code.specs.Instructions as act_on
+use Rattle.vale_code.specs.Instructions.{with_registers, behind, onward, with_value, with_owner, with_read, with_truth, with_choice, moved, borrowed, of_living, array_length, copied, gets, answered, certain, fetch, jump, jump_by, jump_unless, is_free, at_place, truth_of, comparison_of, text_length}
+use Rattle.vale_code.specs.Kinds.{holds_values, text_at, result_to, kind_of, kind_text, destructor_of, destructor_in}
 use Rattle.vale_code.specs.Parts.{Parts}
-use Rattle.vale_code.specs.Registers.{Registers, Read, read, put, kept, give_all, read_all, given_value, after_giving, after_keeping, and_then, as_frozen, named, registers_for}
+use Rattle.vale_code.specs.Registers.{Registers, Read, read, put, put_all, kept, give_all, read_all, given_value, after_giving, after_keeping, and_then, as_frozen, named, registers_for}
 use Rattle.vale_code.specs.Run.{Ending, exec_by, then_go}
 use Rattle.vale_code.specs.declared.func.Func.{Func}
 use Rattle.vale_code.specs.declared.instr.Instr.{Instr}
 use Rattle.vale_code.specs.declared.instr.Instr.TheVariants as i
+use Rattle.vale_code.specs.declared.kind.Field.{Field}
 use Rattle.vale_code.specs.declared.kind.KindInfo.{KindInfo}
 use Rattle.vale_code.specs.declared.kind.KindInfo.TheVariants as k
 use Rattle.vale_code.specs.declared.ty.Ty.{Ty}
@@ -36,9 +38,9 @@ use Rattle.vale_cert.specs.Certificate.{Certified}
 use Rattle.vale_cert.specs.Known as known
 use Rattle.vale_cert.specs.Known.{Known, entry, label_at, is_label, may_enter, stated, fact_of, has, is_there}
 use Rattle.vale_cert.specs.Numbers.{numbers, is_text}
-use Rattle.vale_cert.specs.Objects.{cells_of, is_implemented, field_of, item_of, cell_by, owner_kind, reference_kind, read_kind, is_through_frozen, found_alive, seen}
+use Rattle.vale_cert.specs.Objects.{types_of, raised, may_be_raised, cells_of, is_implemented, field_of, item_of, cell_by, owner_kind, reference_kind, read_kind, is_through_frozen, found_alive, seen}
 use Rattle.vale_cert.specs.Rules as rules
-use Rattle.vale_cert.specs.Rules.{swaps, pushes, pops, moves, is_moved, moved_to, borrows, lent_to, drops, reads_own, reads_found, reads_cell, finds_alive, leads, leads_as_owner, leads_as_reference, leads_to_read, is_usable, is_readable, taken, takes_all, Row, reads, uses, passes, passed, passes_all, all_fine, comes_back, after_passing, gives_frozen, leads_to, copy_of, is_copied, is_comparable, is_ordered, are_alike, is_printable, is_short}
+use Rattle.vale_cert.specs.Rules.{owns, puts_all, opens_of, fields_by, is_raised, raised_to, after_taking, swaps, pushes, pops, moves, is_moved, moved_to, borrows, lent_to, drops, reads_own, reads_found, reads_cell, finds_alive, leads, leads_as_owner, leads_as_reference, leads_to_read, is_usable, is_readable, taken, takes_all, Row, reads, uses, passes, passed, passes_all, all_fine, comes_back, after_passing, gives_frozen, leads_to, copy_of, is_copied, is_comparable, is_ordered, are_alike, is_printable, is_short}
 use Rattle.vale_cert.specs.Shape.{destroys, is_destructor_of, takes_owner, field_is_lawful}
 use Rattle.vale_cert.specs.Types.{is_owned, is_isolate, is_void}
 use Rattle.vale_cert.specs.Walk.{row_of, after, enters, has_target, next_of, is_place, known_after, walk, goes_on, target_of}
@@ -47,10 +49,10 @@ use Rattle.vale_cert.specs.declared.facts.Label.{Label}
 use Rattle.vale_cert.specs.declared.facts.RegFact.{RegFact}
 use Rattle.vale_cert.specs.declared.facts.RegFact.TheVariants.{Empty, Held}
 use Rattle.vale_cert.specs.declared.rules.Kept.{Kept}
-use Rattle.vale_cert.proofs.Cells.{leading, seen_has, cell_there, cell_set, Each, to_each, each_at, each_set, each_append, each_front, front_owns, StructAt, ArrayAt, struct_at, array_at, written_fits, died_fits, object_later, Follows, Led, led, follows_owner, follows_reference, follows_read}
+use Rattle.vale_cert.proofs.Cells.{leading, args_length, struct_values, born_fits, seen_has, cell_there, cell_set, Each, to_each, each_at, each_set, each_append, each_front, front_owns, StructAt, ArrayAt, struct_at, array_at, written_fits, died_fits, object_later, Follows, Led, led, follows_owner, follows_reference, follows_read}
 use Rattle.vale_cert.proofs.Fit.{value_has, kind_seen, kind_is, type_is, kind_fits, NameFits, Has, Holds, RegsFit, ObjectFits, WorldFits, has_later, regs_later, has_plain, owns_nothing, put_fits, agree_fits, reg_value, ArgsFit, entry_fits}
-use Rattle.vale_cert.proofs.Heap.{object_at, Later, later_same, later_later, later_died, later_written, later_born, later_relabelled, relabelled_each, same, same_self, own, own_in, in_regs, in_values, in_object, in_world, in_frame, in_frames, alive, living_is, put_owns, begun_owns, values_set, values_append, world_set, world_born, alive_born, alive_written, alive_died, world_relabelled, alive_relabelled, resume_owns}
-use Rattle.vale_cert.proofs.KindLaws.{kind_lawful}
+use Rattle.vale_cert.proofs.Heap.{object_at, Later, later_same, later_later, born_at, state_born, later_died, later_written, later_born, later_relabelled, relabelled_each, same, same_self, own, own_in, in_regs, in_values, in_object, in_world, in_frame, in_frames, alive, living_is, put_owns, begun_owns, values_set, values_append, world_set, world_born, alive_born, alive_written, alive_died, world_relabelled, alive_relabelled, resume_owns}
+use Rattle.vale_cert.proofs.KindLaws.{kind_lawful, raised_fits}
 use Rattle.vale_cert.proofs.Values.{Answers, Surely, SurelyNothing, add_answers, sub_answers, mul_answers, div_answers, rem_answers, opposite_answers, compare_answers, truth_is, comparison_is, join_answers, slice_answers, byte_answers, number_answers, length_answers, text_of_answers, is_number_answers, print_answers, as_truth}
 use Rattle.vale_cert.proofs.Walks.{reaches, Keeps, Stepped, stepped, Comes, comes, Judged, judged, main_is_there, main_lawful}
 
@@ -1173,6 +1175,165 @@ module _ (code : Parts) (facts : List FuncFacts) where
               (put_fits code s.world S.known.regs f.registers to (Held u S.known.depth false) (Some (last_from v vs)) (last_from v vs, refl, r.1) fits_here))
               (λ m. let x = put_owns m f.registers to (Some (last_from v vs)) in let y = front_owns m v vs in let z = ap (λ x. in_values m x) q in omega (arith, x, y, z))
 
+      -- ---- objects are made and taken apart
+
+      takes_length : (tys : List Ty) (args : List ℕ) (R : Row) → (takes_all S.known.depth tys args R).kept.types ≡ true → length tys ≡ length args
+      takes_length [] [] R e = refl
+      takes_length [] (a ∷ more) R e = let x : ⊥ = cc in absurd x
+      takes_length (u ∷ tys) [] R e = let x : ⊥ = cc in absurd x
+      takes_length (u ∷ tys) (a ∷ more) R e = ap suc (takes_length tys more (taken S.known.depth a u R) e)
+
+      fields_length : (fields : List Field) → length (types_of fields) ≡ length fields
+      fields_length [] = refl
+      fields_length (x ∷ fields) = ap suc (fields_length fields)
+
+      -- the new object has the next name
+      object_made : goes_on instr ≡ true → (kind : Kind) (tys : List Ty) (to : ℕ) (K : List RegFact) (regs : Registers) (vs : List Value) (u : State) → u.world ≡ s.world → cells_of (kind_of code kind) (length vs) ≡ Some tys → ArgsFit code s.world tys vs
+          → RegsFit code s.world K regs → ((n : ℕ) → in_values n vs + in_regs n regs ≤ in_regs n f.registers) → row.after ≡ slice_set K to (Held (t.Own kind) S.known.depth false)
+          → NextFits (onward f (put regs to (Some (Own (next_name u.world)))) below (born kind vs u))
+      object_made on kind tys to K regs vs u e cells has fits fewer after =
+          subst (λ m. NextFits (onward f (put regs to (Some (Own m))) below (born kind vs u))) (sym (ap (λ w. next_name w) e))
+          (goes on (put regs to (Some (Own m))) (born kind vs u) (subst (λ w. RegsFit code w row.after (put regs to (Some (Own m)))) (sym same_world) there) (subst (λ w. Later s.world w) (sym same_world) later)
+          (subst (λ w. WorldFits code w) (sym same_world) (born_fits code s.world o later heap (record { tys = tys; cells = cells; values = has })))
+          (subst (λ w. OwnedBeside w (λ n. in_regs n (put regs to (Some (Own m)))) below) (sym same_world) counts))
+        where
+          o : Object
+          o = record { region = Freeze u.regions; kind = kind; values = vs }
+
+          m : ℕ
+          m = next_name s.world
+
+          W : World
+          W = world_with s.world o
+
+          same_world : (born kind vs u).world ≡ W
+          same_world = state_born kind vs u ∙ ap (λ x. world_with x o) e
+
+          later : Later s.world W
+          later = later_born s.world o
+
+          there : RegsFit code W row.after (put regs to (Some (Own m)))
+          there = subst (λ x. RegsFit code W x (put regs to (Some (Own m)))) (sym after)
+              (put_fits code W K regs to (Held (t.Own kind) S.known.depth false) (Some (Own m))
+              (Own m, refl, leading code W (t.Own kind) (Own m) kind m refl refl refl (names_it W m o (born_at s.world o))) (regs_later code s.world W K regs later fits))
+
+          counts : OwnedBeside W (λ n. in_regs n (put regs to (Some (Own m)))) below
+          counts n = let x = owned n in let y = put_owns n regs to (Some (Own m)) in let z = fewer n in let q = world_born n s.world o in let r = alive_born n s.world o in omega (arith, x, y, z, q, r)
+
+      abbrev makes_it : Kind → ℕ → List ℕ → Next
+      makes_it kind to args = with_read (read_all args f.registers) s (λ vs regs. after_tick s (λ u. certain f (Some to) regs below u (make kind vs u)))
+
+      made_of : goes_on instr ≡ true → (to : ℕ) (kind : Kind) (args : List ℕ) (tys : List Ty) (kept : Kept) → cells_of (kind_of code kind) (length args) ≡ Some tys
+          → (owns S.known.depth kind to (takes_all S.known.depth tys args (record { kept = kept; after = S.known.regs }))).kept.types ≡ true
+          → (owns S.known.depth kind to (takes_all S.known.depth tys args (record { kept = kept; after = S.known.regs }))).kept.present ≡ true
+          → row.after ≡ (owns S.known.depth kind to (takes_all S.known.depth tys args (record { kept = kept; after = S.known.regs }))).after
+          → NextFits (makes_it kind to args)
+      made_of on to kind args tys kept cells e g after =
+          let R : Row = record { kept = kept; after = S.known.regs } in
+          let T = taking_all code s.world S.known.depth tys args R f.registers fits_here e (and_parts (takes_all S.known.depth tys args R).kept.present (known.is_free (fact_of (takes_all S.known.depth tys args R).after to)) g).0 in
+          let long : length T.got.values ≡ length args = sym (args_length code s.world tys T.got.values T.has) ∙ takes_length tys args R e in
+          subst (λ o. NextFits (with_read o s (λ vs regs. after_tick s (λ u. certain f (Some to) regs below u (make kind vs u))))) (sym T.given)
+          (with_tick s _ (λ u same_world. object_made on kind tys to (takes_all S.known.depth tys args R).after T.got.after T.got.values u same_world (ap (λ n. cells_of (kind_of code kind) n) long ∙ cells) T.has T.fits T.owned after))
+
+      making : goes_on instr ≡ true → (to : ℕ) (kind : Kind) (args : List ℕ) (info : Option KindInfo) → kind_of code kind ≡ info
+          → (rules.makes S.known.depth S.known.regs info kind to args).kept.types ≡ true → (rules.makes S.known.depth S.known.regs info kind to args).kept.present ≡ true
+          → row.after ≡ (rules.makes S.known.depth S.known.regs info kind to args).after → NextFits (if holds_values info (length args) then makes_it kind to args else wrong s)
+      making on to kind args None q e g after = let x : ⊥ = cc in absurd x
+      making on to kind args (Some (k.Interface name methods)) q e g after = let x : ⊥ = cc in absurd x
+      making on to kind args (Some (k.Struct name destructor fields)) q e g after =
+          let R : Row = record { kept = rules.if_types true; after = S.known.regs } in
+          let many : length fields ≡ length args = sym (fields_length fields) ∙ takes_length (types_of fields) args R e in
+          subst (λ b. NextFits (if b then makes_it kind to args else wrong s)) (sym (eq-eqb (length fields) (length args) many))
+          (made_of on to kind args (types_of fields) (rules.if_types true) (ap (λ i. cells_of i (length args)) q) e g after)
+      making on to kind args (Some (k.Array item)) q e g after =
+          let R : Row = record { kept = rules.if_types (nat_le (length args) width_limit); after = S.known.regs } in
+          let tys = replicate (length args) item in
+          let few = (takes_kept code s.world S.known.depth tys args R e (and_parts (takes_all S.known.depth tys args R).kept.present (known.is_free (fact_of (takes_all S.known.depth tys args R).after to)) g).0).0 in
+          subst (λ b. NextFits (if b then makes_it kind to args else wrong s)) (sym few)
+          (made_of on to kind args tys (rules.if_types (nat_le (length args) width_limit)) (ap (λ i. cells_of i (length args)) q) e g after)
+
+      record PutAll (tys : List Ty) (tos : List ℕ) (R : Row) (regs : Registers) (vs : List Value) : Type 0 where
+        got : Registers
+        is : put_all tos vs regs ≡ Some got
+        fits : RegsFit code s.world (puts_all S.known.depth tys tos R).after got
+        fewer : (n : ℕ) → in_regs n got ≤ in_regs n regs + in_values n vs
+
+      putting : (tys : List Ty) (tos : List ℕ) (R : Row) (regs : Registers) (vs : List Value) → RegsFit code s.world R.after regs → ArgsFit code s.world tys vs → (puts_all S.known.depth tys tos R).kept.types ≡ true → PutAll tys tos R regs vs
+      putting [] [] R regs [] fits h e = record { got = regs; is = refl; fits = fits; fewer = λ n. omega arith }
+      putting [] [] R regs (v ∷ vs) fits h e = absurd h
+      putting [] (to ∷ more) R regs vs fits h e = let x : ⊥ = cc in absurd x
+      putting (u ∷ tys) [] R regs vs fits h e = let x : ⊥ = cc in absurd x
+      putting (u ∷ tys) (to ∷ more) R regs [] fits h e = absurd h
+      putting (u ∷ tys) (to ∷ more) R regs (v ∷ vs) fits h e =
+          let r = putting tys more (rules.gets S.known.depth R.after to u R.kept) (put regs to (Some v)) vs (put_fits code s.world R.after regs to (Held u S.known.depth false) (Some v) (v, refl, h.0) fits) h.1 e in
+          record { got = r.got; is = r.is; fits = r.fits; fewer = λ n. let x = r.fewer n in let y = put_owns n regs to (Some v) in omega (arith, x, y) }
+
+      puts_types : (tys : List Ty) (tos : List ℕ) (R : Row) → (puts_all S.known.depth tys tos R).kept.types ≡ true → R.kept.types ≡ true
+      puts_types [] [] R e = e
+      puts_types [] (to ∷ more) R e = let x : ⊥ = cc in absurd x
+      puts_types (u ∷ tys) [] R e = let x : ⊥ = cc in absurd x
+      puts_types (u ∷ tys) (to ∷ more) R e = puts_types tys more (rules.gets S.known.depth R.after to u R.kept) e
+
+      puts_present : (tys : List Ty) (tos : List ℕ) (R : Row) → (puts_all S.known.depth tys tos R).kept.present ≡ true → R.kept.present ≡ true
+      puts_present [] [] R e = e
+      puts_present [] (to ∷ more) R e = e
+      puts_present (u ∷ tys) [] R e = e
+      puts_present (u ∷ tys) (to ∷ more) R e = (and_parts R.kept.present (known.is_free (fact_of R.after to)) (puts_present tys more (rules.gets S.known.depth R.after to u R.kept) e)).0
+
+      opens_parts : (c : Option (List Ty)) (tos : List ℕ) (R : Row) → (opens_of S.known.depth c tos R).kept.types ≡ true → (opens_of S.known.depth c tos R).kept.present ≡ true → (R.kept.types ≡ true) × (R.kept.present ≡ true)
+      opens_parts None tos R e g = (e, g)
+      opens_parts (Some tys) tos R e g = (puts_types tys tos R e, puts_present tys tos R g)
+
+      opening : Certified code facts → goes_on instr ≡ true → (tos : List ℕ) (a : ℕ) → (rules.opens code S.known.depth S.known.regs tos a).kept.types ≡ true → (rules.opens code S.known.depth S.known.regs tos a).kept.present ≡ true
+          → row.after ≡ (rules.opens code S.known.depth S.known.regs tos a).after
+          → NextFits (with_owner (read f.registers a) s (λ n. with_choice (object_of n s) s (λ o. with_registers (put_all tos o.values (put f.registers a None)) s (λ regs. after_tick s (λ u. onward f regs below (dies n u))))))
+      opening cert on tos a e g after =
+          let fact = fact_of S.known.regs a in
+          let c = fields_by code (owner_kind fact) in
+          let R : Row = record { kept = leads (is_usable S.known.depth fact) fact c; after = slice_set S.known.regs a Empty } in
+          let ok = opens_parts c tos R e g in
+          let w = owner_found (fields_by code) a (is_usable S.known.depth fact) refl ok.0 ok.1 in
+          let types : (puts_all S.known.depth w.cell tos R).kept.types ≡ true = subst (λ c. (opens_of S.known.depth c tos R).kept.types ≡ true) w.cell_is e in
+          let P = putting w.cell tos R (put f.registers a None) w.object.values (put_fits code s.world S.known.regs f.registers a Empty None tt fits_here) (struct_values code facts cert s.world heap w.kind w.cell w.name w.object w.cell_of w.names w.lives) types in
+          subst (λ o. NextFits (with_owner o s (λ n. with_choice (object_of n s) s (λ o. with_registers (put_all tos o.values (put f.registers a None)) s (λ regs. after_tick s (λ u. onward f regs below (dies n u))))))) (sym w.is)
+          (subst (λ x. NextFits (with_choice x s (λ o. with_registers (put_all tos o.values (put f.registers a None)) s (λ regs. after_tick s (λ u. onward f regs below (dies w.name u)))))) (sym w.lives)
+          (subst (λ x. NextFits (with_registers x s (λ regs. after_tick s (λ u. onward f regs below (dies w.name u))))) (sym P.is)
+          (with_tick s _ (λ u same_world. dead_now w.name w.object w.lives P.got (dies w.name u) (ap (λ x. died x w.name) same_world)
+          (subst (λ x. RegsFit code s.world x P.got) (sym (after ∙ ap (λ c. (opens_of S.known.depth c tos R).after) w.cell_is)) P.fits)
+          (λ n. let x = P.fewer n in let y = put_owns n f.registers a None in let z = ap (λ o. own_in n o) w.is in omega (arith, x, y, z))))))
+        where
+          dead_now : (n : ℕ) (o : Object) → object_at s.world n ≡ Some o → (regs : Registers) (u : State) → u.world ≡ died s.world n → RegsFit code s.world row.after regs → ((m : ℕ) → in_regs m regs + same m n ≤ in_regs m f.registers + in_values m o.values) → NextFits (onward f regs below u)
+          dead_now n o lives regs u q fits fewer =
+              goes on regs u (subst (λ w. RegsFit code w row.after regs) (sym q) (regs_later code s.world (died s.world n) row.after regs (later_died s.world n) fits)) (subst (λ w. Later s.world w) (sym q) (later_died s.world n))
+              (subst (λ w. WorldFits code w) (sym q) (died_fits code s.world n (later_died s.world n) heap))
+              (subst (λ w. OwnedBeside w (λ m. in_regs m regs) below) (sym q) (λ m. let x = owned m in let y = fewer m in let z = world_set m s.world n o None lives in let r = alive_died m s.world n o lives in omega (arith, x, y, z, r)))
+
+      -- ---- views
+
+      raised_has : Certified code facts → (interface : Kind) (u : Ty) (v : Value) → may_be_raised code.impls interface u ≡ true → Has code s.world u v → value_has u v ≡ true → Has code s.world (raised interface u) v × (act_on.leading v ≡ Some v)
+      raised_has cert interface (t.Own q) (Own n) e h shape = (leading code s.world (t.Own interface) (Own n) interface n refl refl refl (raised_name cert interface q n e (h.leads q n refl refl)), refl)
+        where
+          raised_name : Certified code facts → (interface q : Kind) (n : ℕ) → is_implemented code.impls interface q ≡ true → NameFits code s.world q n → NameFits code s.world interface n
+          raised_name cert interface q n e h = record { given = h.given; fits = λ o l. raised_fits code facts cert interface q o.kind e (h.fits o l) }
+      raised_has cert interface (t.Ref q) (Ref n) e h shape = (leading code s.world (t.Ref interface) (Ref n) interface n refl refl refl (record { given = (h.leads q n refl refl).given; fits = λ o l. raised_fits code facts cert interface q o.kind e ((h.leads q n refl refl).fits o l) }), refl)
+      raised_has cert interface (t.Frozen q) (Ref n) e h shape = (leading code s.world (t.Frozen interface) (Ref n) interface n refl refl refl (record { given = (h.leads q n refl refl).given; fits = λ o l. raised_fits code facts cert interface q o.kind e ((h.leads q n refl refl).fits o l) }), refl)
+      raised_has cert interface (t.Iso q) (Iso n) e h shape = (leading code s.world (t.Iso interface) (Iso n) interface n refl refl refl (record { given = (h.leads q n refl refl).given; fits = λ o l. raised_fits code facts cert interface q o.kind e ((h.leads q n refl refl).fits o l) }), refl)
+      raised_has cert interface _ _ e h shape = let x : ⊥ = cc in absurd x
+
+      upcasting : Certified code facts → goes_on instr ≡ true → (to a : ℕ) (interface : Kind) (fact : RegFact) → Holds code s.world fact (read f.registers a) → is_raised code.impls interface fact ≡ true → is_there fact ≡ true
+          → row.after ≡ slice_set (after_taking S.known.regs a fact) to (raised_to S.known.depth interface fact)
+          → NextFits (with_value (read f.registers a) s (λ v. gets f to (act_on.leading v) (kept a v f.registers) below s))
+      upcasting cert on to a interface Empty h e there after = let x : ⊥ = cc in absurd x
+      upcasting cert on to a interface (Held u d l) h e there after =
+          let r = raised_has cert interface u h.0 e h.2 h.2.shape in
+          let st = stays code s.world u S.known.regs a f.registers h.0 fits_here h.1 h.2.shape in
+          subst (λ o. NextFits (with_value o s (λ v. gets f to (act_on.leading v) (kept a v f.registers) below s))) (sym h.1)
+          (subst (λ o. NextFits (gets f to o (kept a h.0 f.registers) below s)) (sym r.1)
+          (stays_on on (put (kept a h.0 f.registers) to (Some h.0)) s refl
+          (subst (λ x. RegsFit code s.world x (put (kept a h.0 f.registers) to (Some h.0))) (sym after)
+          (put_fits code s.world (after_passing S.known.regs a u) (kept a h.0 f.registers) to (Held (raised interface u) S.known.depth l) (Some h.0) (h.0, refl, r.0) st.0))
+          (λ n. let x = put_owns n (kept a h.0 f.registers) to (Some h.0) in let y = st.1 n in omega (arith, x, y))))
+
       -- ---- one and two operands
 
       unary : goes_on instr ≡ true → (of result : Ty) (to a : ℕ) (at : Spot) (op : Value → Answer) → row.after ≡ slice_set S.known.regs to (Held result S.known.depth false)
@@ -1322,6 +1483,11 @@ module _ (code : Parts) (facts : List FuncFacts) where
     acts cert (i.SwapEl to a x b at) is e S num = swap_element_found (i.SwapEl to a x b at) is e S cert refl to a x b at S.keeps.types S.keeps.present refl
     acts cert (i.Push a b at) is e S num = pushing (i.Push a b at) is e S cert refl a b at S.keeps.types S.keeps.present refl
     acts cert (i.Pop to a at) is e S num = popping (i.Pop to a at) is e S cert refl to a at S.keeps.types S.keeps.present refl
+    acts cert (i.Make to kind args) is e S num = making (i.Make to kind args) is e S refl to kind args (kind_of code kind) refl S.keeps.types S.keeps.present refl
+    acts cert (i.Open tos a) is e S num = opening (i.Open tos a) is e S cert refl tos a S.keeps.types S.keeps.present refl
+    acts cert (i.Upcast to a kind) is e S num =
+        upcasting (i.Upcast to a kind) is e S cert refl to a kind (fact_of S.known.regs a) ((fits_here (i.Upcast to a kind) is e S).each a) S.keeps.types
+        (and_parts (is_there (fact_of S.known.regs a)) (known.is_free (fact_of (after_taking S.known.regs a (fact_of S.known.regs a)) to)) S.keeps.present).0 refl
     acts cert _ is e S num = let x : false ≡ true = S.keeps.types in absurd (let y : ⊥ = cc in y)
 
     numbers_at : (before : List Instr) (instr : Instr) (instrs : List Instr) → list_all (numbers code F.func.registers) (before ++ instr ∷ instrs) ≡ true → numbers code F.func.registers instr ≡ true
