@@ -66,6 +66,14 @@ only_interfaces funcs impl (k.Array item) None e h = let x : ⊥ = cc in x
 only_interfaces funcs impl (k.Array item) (Some o) e h = let x : ⊥ = cc in x
 only_interfaces funcs impl (k.Interface name methods) o e h = let x : ⊥ = cc in x
 
+pub types_are : (xs ys : List Ty) → same_types xs ys ≡ true → xs ≡ ys
+types_are [] [] e = refl
+types_are [] (y ∷ ys) e = let x : ⊥ = cc in absurd x
+types_are (x ∷ xs) [] e = let y : ⊥ = cc in absurd y
+types_are (x ∷ xs) (y ∷ ys) e =
+    let p = and_parts (Rattle.vale_code.specs.Kinds.same_type x y) (same_types xs ys) e in
+    ap (λ x. x ∷ xs) (type_is x y p.0) ∙ ap (λ xs. y ∷ xs) (types_are xs ys p.1)
+
 module _ (code : Parts) (facts : List FuncFacts) (cert : Certified code facts) where
   pub implemented : (interface kind : Kind) → is_implemented code.impls interface kind ≡ true → Implemented code code.impls interface.0 kind
   implemented interface kind e = implemented_in code interface.0 kind 0 [] code.impls (impls_lawful code facts cert) e
@@ -170,11 +178,3 @@ module _ (code : Parts) (facts : List FuncFacts) (cert : Certified code facts) w
           let g = each_implemented r.impl methods r.impl.funcs n m l e in
           record { impl = r.impl; of_is = parts.1; g = g.0; dispatch = r.dispatch n ∙ g.1; lawful = g.2 }
       from _ _ q e l = let x : ⊥ = cc in absurd x
-
-  pub types_are : (xs ys : List Ty) → same_types xs ys ≡ true → xs ≡ ys
-  types_are [] [] e = refl
-  types_are [] (y ∷ ys) e = let x : ⊥ = cc in absurd x
-  types_are (x ∷ xs) [] e = let y : ⊥ = cc in absurd y
-  types_are (x ∷ xs) (y ∷ ys) e =
-      let p = and_parts (Rattle.vale_code.specs.Kinds.same_type x y) (same_types xs ys) e in
-      ap (λ x. x ∷ xs) (type_is x y p.0) ∙ ap (λ xs. y ∷ xs) (types_are xs ys p.1)

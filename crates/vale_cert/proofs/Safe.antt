@@ -14,34 +14,36 @@ use Rattle.vale_base.specs.declared.name.Kind.{Kind}
 use Rattle.vale_base.specs.declared.spot.Spot.{Spot}
 use Rattle.vale_base.specs.declared.trap.FrameAt.{FrameAt}
 use Rattle.vale_base.specs.declared.trap.TrapKind.{TrapKind}
-use Rattle.vale_base.specs.declared.trap.TrapKind.TheVariants.{IndexOutOfRange, ArrayTooLong, EmptyPop}
+use Rattle.vale_base.specs.declared.trap.TrapKind.TheVariants.{DeadReference, IndexOutOfRange, ArrayTooLong, EmptyPop}
 use Rattle.vale_text.specs.Steps as step
-use Rattle.vale_code.specs.Act.{act, act_if, step_of, step_by}
+use Rattle.vale_code.specs.Act.{on_looked, without_first, act, act_if, step_of, step_by}
 use Rattle.vale_code.specs.Destroy.{destroy, destroy_by, destroy_object, drop_rest, drop_next, Owned, first_owned}
 use Rattle.vale_code.specs.Enter.{Form, Plain, Pure, Iteration, Destructor, form_of, if_destructor, function, with_func, with_form, enter, if_called, leave_function}
 use Rattle.vale_code.specs.Frames.{Active, Emptying, Frame, Running, Dropping, Looping, Alone, Config, Next, On, Over, on, wrong, trap, under, deeper, ticked, after_tick, resume, leave}
 use Rattle.vale_code.specs.Instructions as act_on
 use Rattle.vale_code.specs.Instructions.{with_registers, behind, onward, with_value, with_owner, with_read, with_truth, with_choice, moved, borrowed, of_living, array_length, copied, gets, answered, certain, fetch, jump, jump_by, jump_unless, is_free, at_place, truth_of, comparison_of, text_length}
-use Rattle.vale_code.specs.Kinds.{holds_values, text_at, result_to, kind_of, kind_text, destructor_of, destructor_in}
+use Rattle.vale_code.specs.Kinds.{method_in, same_type, holds_values, text_at, result_to, kind_of, kind_text, destructor_of, destructor_in}
 use Rattle.vale_code.specs.Parts.{Parts}
 use Rattle.vale_code.specs.Registers.{Registers, Read, read, put, put_all, kept, give_all, read_all, given_value, after_giving, after_keeping, and_then, as_frozen, named, registers_for}
 use Rattle.vale_code.specs.Run.{Ending, exec_by, then_go}
 use Rattle.vale_code.specs.declared.func.Func.{Func}
+use Rattle.vale_code.specs.declared.func.Impl.{Impl}
 use Rattle.vale_code.specs.declared.instr.Instr.{Instr}
 use Rattle.vale_code.specs.declared.instr.Instr.TheVariants as i
 use Rattle.vale_code.specs.declared.kind.Field.{Field}
 use Rattle.vale_code.specs.declared.kind.KindInfo.{KindInfo}
 use Rattle.vale_code.specs.declared.kind.KindInfo.TheVariants as k
+use Rattle.vale_code.specs.declared.kind.MethodInfo.{MethodInfo}
 use Rattle.vale_code.specs.declared.ty.Ty.{Ty}
 use Rattle.vale_code.specs.declared.ty.Ty.TheVariants as t
 use Rattle.vale_cert.specs.Certificate.{Certified}
 use Rattle.vale_cert.specs.Known as known
 use Rattle.vale_cert.specs.Known.{Known, entry, label_at, is_label, may_enter, stated, fact_of, has, is_there}
 use Rattle.vale_cert.specs.Numbers.{numbers, is_text}
-use Rattle.vale_cert.specs.Objects.{types_of, raised, may_be_raised, cells_of, is_implemented, field_of, item_of, cell_by, owner_kind, reference_kind, read_kind, is_through_frozen, found_alive, seen}
+use Rattle.vale_cert.specs.Objects.{method_of, method_from, types_of, raised, may_be_raised, cells_of, is_implemented, field_of, item_of, cell_by, owner_kind, reference_kind, read_kind, is_through_frozen, found_alive, seen}
 use Rattle.vale_cert.specs.Rules as rules
 use Rattle.vale_cert.specs.Rules.{owns, puts_all, opens_of, fields_by, is_raised, raised_to, after_taking, swaps, pushes, pops, moves, is_moved, moved_to, borrows, lent_to, drops, reads_own, reads_found, reads_cell, finds_alive, leads, leads_as_owner, leads_as_reference, leads_to_read, is_usable, is_readable, taken, takes_all, Row, reads, uses, passes, passed, passes_all, all_fine, comes_back, after_passing, gives_frozen, leads_to, copy_of, is_copied, is_comparable, is_ordered, are_alike, is_printable, is_short}
-use Rattle.vale_cert.specs.Shape.{destroys, is_destructor_of, takes_owner, field_is_lawful}
+use Rattle.vale_cert.specs.Shape.{receives, same_params, same_types, implements_method, form_for, takes_receiver, destroys, is_destructor_of, takes_owner, field_is_lawful}
 use Rattle.vale_cert.specs.Types.{is_owned, is_isolate, is_void}
 use Rattle.vale_cert.specs.Walk.{row_of, after, enters, has_target, next_of, is_place, known_after, walk, goes_on, target_of}
 use Rattle.vale_cert.specs.declared.facts.FuncFacts.{FuncFacts}
@@ -49,10 +51,10 @@ use Rattle.vale_cert.specs.declared.facts.Label.{Label}
 use Rattle.vale_cert.specs.declared.facts.RegFact.{RegFact}
 use Rattle.vale_cert.specs.declared.facts.RegFact.TheVariants.{Empty, Held}
 use Rattle.vale_cert.specs.declared.rules.Kept.{Kept}
-use Rattle.vale_cert.proofs.Cells.{leading, args_length, struct_values, born_fits, seen_has, cell_there, cell_set, Each, to_each, each_at, each_set, each_append, each_front, front_owns, StructAt, ArrayAt, struct_at, array_at, written_fits, died_fits, object_later, Follows, Led, led, follows_owner, follows_reference, follows_read}
+use Rattle.vale_cert.proofs.Cells.{leading, name_there, args_length, struct_values, born_fits, seen_has, cell_there, cell_set, Each, to_each, each_at, each_set, each_append, each_front, front_owns, StructAt, ArrayAt, struct_at, array_at, written_fits, died_fits, object_later, Follows, Led, led, follows_owner, follows_reference, follows_read}
 use Rattle.vale_cert.proofs.Fit.{value_has, kind_seen, kind_is, type_is, kind_fits, NameFits, Has, Holds, RegsFit, ObjectFits, WorldFits, has_later, regs_later, has_plain, owns_nothing, put_fits, agree_fits, reg_value, ArgsFit, entry_fits}
 use Rattle.vale_cert.proofs.Heap.{object_at, Later, later_same, later_later, born_at, state_born, later_died, later_written, later_born, later_relabelled, relabelled_each, same, same_self, own, own_in, in_regs, in_values, in_object, in_world, in_frame, in_frames, alive, living_is, put_owns, begun_owns, values_set, values_append, world_set, world_born, alive_born, alive_written, alive_died, world_relabelled, alive_relabelled, resume_owns}
-use Rattle.vale_cert.proofs.KindLaws.{kind_lawful, raised_fits}
+use Rattle.vale_cert.proofs.KindLaws.{kind_lawful, raised_fits, receiver, method_found, types_are}
 use Rattle.vale_cert.proofs.Values.{Answers, Surely, SurelyNothing, add_answers, sub_answers, mul_answers, div_answers, rem_answers, opposite_answers, compare_answers, truth_is, comparison_is, join_answers, slice_answers, byte_answers, number_answers, length_answers, text_of_answers, is_number_answers, print_answers, as_truth}
 use Rattle.vale_cert.proofs.Walks.{reaches, Keeps, Stepped, stepped, Comes, comes, Judged, judged, main_is_there, main_lawful}
 
@@ -1334,6 +1336,165 @@ module _ (code : Parts) (facts : List FuncFacts) where
           (put_fits code s.world (after_passing S.known.regs a u) (kept a h.0 f.registers) to (Held (raised interface u) S.known.depth l) (Some h.0) (h.0, refl, r.0) st.0))
           (λ n. let x = put_owns n (kept a h.0 f.registers) to (Some h.0) in let y = st.1 n in omega (arith, x, y))))
 
+      -- ---- methods
+
+      -- the object that a method is called of, and the other arguments
+      record Received (kind : Kind) (tys : List Ty) (a : ℕ) (args : List ℕ) (R : Row) : Type 0 where
+        value : Value
+        name : ℕ
+        is : read f.registers a ≡ Some value
+        named_it : name_of value ≡ Some name
+        names : NameFits code s.world kind name
+        rest : AllPassed code s.world S.known.depth tys args R f.registers
+
+      abbrev found_row : ℕ → Row
+      found_row a = all_fine (finds_alive S.known.depth S.known.regs a)
+
+      received_ref : (kind q : Kind) (tys : List Ty) (a : ℕ) (args : List ℕ) → (q.0 == kind.0) ≡ true → (passes_all S.known.depth tys args (passed S.known.depth a (t.Ref q) (found_row a))).kept.types ≡ true
+          → (passes_all S.known.depth tys args (passed S.known.depth a (t.Ref q) (found_row a))).kept.present ≡ true → Received kind tys a args (passed S.known.depth a (t.Ref q) (found_row a))
+      received_ref kind q tys a args same_kind e g =
+          let R1 = passed S.known.depth a (t.Ref q) (found_row a) in
+          let ok = passes_kept code s.world S.known.depth tys args R1 e g in
+          let P = passing code s.world S.known.depth a (t.Ref q) (found_row a) f.registers (found_fits a) ok.0 ok.1 in
+          let n = name_there (t.Ref q) P.value q refl P.has.shape in
+          let rest = passing_all code s.world S.known.depth tys args R1 (after_giving (t.Ref q) a (read f.registers a) f.registers) P.fits e g in
+          record {
+            value = P.value;
+            name = n.0;
+            is = P.given;
+            named_it = n.1;
+            names = subst (λ k. NameFits code s.world k n.0) (kind_is q kind same_kind) (P.has.leads q n.0 refl n.1);
+            rest = subst (λ r. AllPassed code s.world S.known.depth tys args R1 r) (ap (λ o. after_keeping a o f.registers) P.given ∙ not_kept P.value P.has.shape) rest;
+          }
+        where
+          not_kept : (v : Value) → value_has (t.Ref q) v ≡ true → kept a v f.registers ≡ f.registers
+          not_kept (Ref n) e = refl
+          not_kept _ e = let x : ⊥ = cc in absurd x
+
+      -- what a frozen receiver was before
+      as_it_was : (o : Option Value) (v : Value) → as_frozen (named o) ≡ Some v → (u : Value) × (n : ℕ) × (o ≡ Some u) × (name_of u ≡ Some n) × (name_of v ≡ Some n)
+      as_it_was None v e = let x : ⊥ = cc in absurd x
+      as_it_was (Some (Own n)) v e = (Own n, n, refl, refl, let y : Ref n ≡ v = cc in sym (ap name_of y))
+      as_it_was (Some (Ref n)) v e = (Ref n, n, refl, refl, let y : Ref n ≡ v = cc in sym (ap name_of y))
+      as_it_was (Some (Iso n)) v e = (Iso n, n, refl, refl, let y : Ref n ≡ v = cc in sym (ap name_of y))
+      as_it_was (Some (Int z)) v e = let x : ⊥ = cc in absurd x
+      as_it_was (Some (Truth b)) v e = let x : ⊥ = cc in absurd x
+      as_it_was (Some (Text b)) v e = let x : ⊥ = cc in absurd x
+
+      received_frozen : (kind q : Kind) (tys : List Ty) (a : ℕ) (args : List ℕ) → (q.0 == kind.0) ≡ true → (passes_all S.known.depth tys args (passed S.known.depth a (t.Frozen q) (found_row a))).kept.types ≡ true
+          → (passes_all S.known.depth tys args (passed S.known.depth a (t.Frozen q) (found_row a))).kept.present ≡ true → Received kind tys a args (passed S.known.depth a (t.Frozen q) (found_row a))
+      received_frozen kind q tys a args same_kind e g =
+          let R1 = passed S.known.depth a (t.Frozen q) (found_row a) in
+          let ok = passes_kept code s.world S.known.depth tys args R1 e g in
+          let P = passing code s.world S.known.depth a (t.Frozen q) (found_row a) f.registers (found_fits a) ok.0 ok.1 in
+          let w = as_it_was (read f.registers a) P.value P.given in
+          let rest = passing_all code s.world S.known.depth tys args R1 f.registers P.fits e g in
+          record { value = w.0; name = w.1; is = w.2; named_it = w.3; names = subst (λ k. NameFits code s.world k w.1) (kind_is q kind same_kind) (P.has.leads q w.1 refl w.4); rest = rest }
+
+      -- the object's function gets it
+      receives_has : (impl : Impl) (n : ℕ) (o : Object) (x y : Ty) → object_at s.world n ≡ Some o → (impl.of.0 == o.kind.0) ≡ true → receives impl x y ≡ true → Has code s.world y (Ref n)
+      receives_has impl n o (t.Ref q) (t.Ref b) lives of e =
+          let same_kind : b ≡ o.kind = kind_is b impl.of (and_parts (q.0 == impl.interface.0) (b.0 == impl.of.0) e).1 ∙ kind_is impl.of o.kind of in
+          leading code s.world (t.Ref b) (Ref n) b n refl refl refl (subst (λ k. NameFits code s.world k n) (sym same_kind) (names_it s.world n o lives))
+      receives_has impl n o (t.Frozen q) (t.Frozen b) lives of e =
+          let same_kind : b ≡ o.kind = kind_is b impl.of (and_parts (q.0 == impl.interface.0) (b.0 == impl.of.0) e).1 ∙ kind_is impl.of o.kind of in
+          leading code s.world (t.Frozen b) (Ref n) b n refl refl refl (subst (λ k. NameFits code s.world k n) (sym same_kind) (names_it s.world n o lives))
+      receives_has impl n o _ _ lives of e = let x : ⊥ = cc in absurd x
+
+      params_fit : (impl : Impl) (n : ℕ) (o : Object) (x : Ty) (tys ps : List Ty) (vs : List Value) → object_at s.world n ≡ Some o → (impl.of.0 == o.kind.0) ≡ true → same_params impl (x ∷ tys) ps ≡ true → ArgsFit code s.world tys vs
+          → ArgsFit code s.world ps (Ref n ∷ vs) × (without_first ps ≡ tys)
+      params_fit impl n o x tys [] vs lives of e h = let y : ⊥ = cc in absurd y
+      params_fit impl n o x tys (y ∷ ys) vs lives of e h =
+          let p = and_parts (receives impl x y) (same_types tys ys) e in
+          let like = types_are tys ys p.1 in
+          ((receives_has impl n o x y lives of p.0, subst (λ ys. ArgsFit code s.world ys vs) like h), sym like)
+
+      -- what is seen as an interface implements it
+      sees_interface : (kind : Kind) (method n : ℕ) (m : MethodInfo) (o : Object) → method_from (kind_of code kind) method ≡ Some m → object_at s.world n ≡ Some o → kind_fits code o.kind kind ≡ true → is_implemented code.impls kind o.kind ≡ true
+      sees_interface kind method n m o e lives fits = from (o.kind.0 == kind.0) refl
+        where
+          no_object : (info : Option KindInfo) (count : ℕ) (tys : List Ty) → method_from info method ≡ Some m → cells_of info count ≡ Some tys → ⊥
+          no_object (Some (k.Interface name methods)) count tys e h = let x : ⊥ = cc in x
+          no_object (Some (k.Struct name destructor fields)) count tys e h = let x : ⊥ = cc in x
+          no_object (Some (k.Array item)) count tys e h = let x : ⊥ = cc in x
+          no_object None count tys e h = let x : ⊥ = cc in x
+
+          right : (a b : Bool) → a ≡ false → (a || b) ≡ true → b ≡ true
+          right false b e h = h
+          right true b e h = let x : ⊥ = cc in absurd x
+
+          from : (b : Bool) → (o.kind.0 == kind.0) ≡ b → is_implemented code.impls kind o.kind ≡ true
+          from true q =
+              let it = heap n o lives in
+              absurd (no_object (kind_of code kind) (length o.values) it.tys e (subst (λ k. cells_of (kind_of code k) (length o.values) ≡ Some it.tys) (kind_is o.kind kind q) it.cells))
+          from false q = right (o.kind.0 == kind.0) (is_implemented code.impls kind o.kind) q fits
+
+      module _ (cert : Certified code facts) (on : goes_on instr ≡ true) (to method a : ℕ) (kind : Kind) (args : List ℕ) (at : Spot) (m : MethodInfo) (x : Ty) (tys : List Ty)
+          (is_method : method_from (kind_of code kind) method ≡ Some m) (impure : m.is_pure ≡ false) (params : m.params ≡ x ∷ tys) (got : Received kind tys a args (passed S.known.depth a x (found_row a)))
+          (after : row.after ≡ (comes_back S.known.depth m.result to (passes_all S.known.depth tys args (passed S.known.depth a x (found_row a)))).after) where
+        abbrev calls_of : ℕ → ℕ → Form → Func → Next
+        calls_of n g form func =
+            if_called form s (with_read (give_all (without_first func.params) args f.registers) s (λ vs regs.
+            enter g form func (record { what = text_at code func.name; at = at }) (result_to func.result to) (Ref n ∷ vs) (behind f regs ∷ below) s))
+
+        method_entered : (impl : Impl) (o : Object) (g : ℕ) (h : Option Func) → object_at s.world got.name ≡ Some o → (impl.of.0 == o.kind.0) ≡ true → slice_get code.funcs g ≡ h → implements_method impl m h ≡ true → NextFits (with_func h s (calls_of got.name g))
+        method_entered impl o g None lives of q e = let y : ⊥ = cc in absurd y
+        method_entered impl o g (Some func) lives of q e =
+            let p = and_parts ((func.form == form_for m.is_pure) && same_params impl m.params func.params) (same_type m.result func.result) e in
+            let r = and_parts (func.form == form_for m.is_pure) (same_params impl m.params func.params) p.0 in
+            let plain : func.form ≡ 0 = let y : (func.form == 0) ≡ true = subst (λ b. (func.form == form_for b) ≡ true) impure r.0 in grind arith in
+            let fit = params_fit impl got.name o x tys func.params got.rest.got.values lives of (subst (λ ps. same_params impl ps func.params ≡ true) params r.1) got.rest.has in
+            let result = type_is m.result func.result p.1 in
+            subst (λ n. NextFits (with_form (form_of n) func s (calls_of got.name g))) (sym plain)
+            (subst (λ o. NextFits (with_read o s (λ vs regs. enter g Plain func (record { what = text_at code func.name; at = at }) (result_to func.result to) (Ref got.name ∷ vs) (behind f regs ∷ below) s))) (sym (ap (λ ps. give_all ps args f.registers) fit.1 ∙ got.rest.given))
+            (entered cert g Plain func (record { what = text_at code func.name; at = at }) (result_to func.result to) (Ref got.name ∷ got.rest.got.values) (behind f got.rest.got.after ∷ below) s q tt (subst (λ n. Quiet (form_of n)) (sym plain) tt) fit.0
+            (subst (λ rt. StackFits s.world rt (result_to rt to) (behind f got.rest.got.after ∷ below)) result (waiting cert on to g args at m.result (passes_all S.known.depth tys args (passed S.known.depth a x (found_row a))) got.rest.got.after after got.rest.fits))
+            heap (λ n. let y = got.rest.owned n in let z = owned n in omega (arith, y, z))))
+
+        dispatched : NextFits (with_value (read f.registers a) s (λ v. on_looked (look v s) s (trap DeadReference at (Running f ∷ below) s) (λ n o. with_choice (method_in code.impls kind.0 method o.kind) s (λ g. with_func (slice_get code.funcs g) s (calls_of n g)))))
+        dispatched =
+            subst (λ o. NextFits (with_value o s (λ v. on_looked (look v s) s (trap DeadReference at (Running f ∷ below) s) (λ n o. with_choice (method_in code.impls kind.0 method o.kind) s (λ g. with_func (slice_get code.funcs g) s (calls_of n g)))))) (sym got.is)
+            (subst (λ y. NextFits (on_looked (look_up y s) s (trap DeadReference at (Running f ∷ below) s) (λ n o. with_choice (method_in code.impls kind.0 method o.kind) s (λ g. with_func (slice_get code.funcs g) s (calls_of n g))))) (sym got.named_it)
+            (from (object_at s.world got.name) refl))
+          where
+            from : (y : Option Object) → object_at s.world got.name ≡ y → NextFits (on_looked (found_or_dead got.name y) s (trap DeadReference at (Running f ∷ below) s) (λ n o. with_choice (method_in code.impls kind.0 method o.kind) s (λ g. with_func (slice_get code.funcs g) s (calls_of n g))))
+            from None q = a_trap DeadReference at (Running f ∷ below) s
+            from (Some o) q =
+                let M = method_found code facts cert kind o.kind method m is_method (sees_interface kind method got.name m o is_method q (got.names.fits o q)) in
+                subst (λ y. NextFits (with_choice y s (λ g. with_func (slice_get code.funcs g) s (calls_of got.name g)))) (sym M.dispatch)
+                (method_entered M.impl o M.g (slice_get code.funcs M.g) q M.of_is refl M.lawful)
+
+      abbrev dispatches_it : ℕ → ℕ → ℕ → ℕ → List ℕ → Spot → Next
+      dispatches_it to interface method a args at =
+          with_value (read f.registers a) s (λ v. on_looked (look v s) s (trap DeadReference at (Running f ∷ below) s) (λ n o. with_choice (method_in code.impls interface method o.kind) s (λ g. with_func (slice_get code.funcs g) s (λ form func.
+          if_called form s (with_read (give_all (without_first func.params) args f.registers) s (λ vs regs.
+          enter g form func (record { what = text_at code func.name; at = at }) (result_to func.result to) (Ref n ∷ vs) (behind f regs ∷ below) s))))))
+
+      by_params : (cert : Certified code facts) → goes_on instr ≡ true → (to interface method a : ℕ) (args : List ℕ) (at : Spot) (m : MethodInfo) → method_of code interface method ≡ Some m → m.is_pure ≡ false
+          → (ps : List Ty) → m.params ≡ ps → takes_receiver interface m.is_pure ps ≡ true
+          → (comes_back S.known.depth m.result to (passes_all S.known.depth ps (a ∷ args) (found_row a))).kept.types ≡ true → (comes_back S.known.depth m.result to (passes_all S.known.depth ps (a ∷ args) (found_row a))).kept.present ≡ true
+          → row.after ≡ (comes_back S.known.depth m.result to (passes_all S.known.depth ps (a ∷ args) (found_row a))).after → NextFits (dispatches_it to interface method a args at)
+      by_params cert on to interface method a args at m is_method impure (t.Ref q ∷ tys) params r e g after =
+          let ok = back_kept cert on to 0 args at m.result (passes_all S.known.depth tys args (passed S.known.depth a (t.Ref q) (found_row a))) e g in
+          dispatched cert on to method a (record { 0 = interface }) args at m (t.Ref q) tys is_method impure params (received_ref (record { 0 = interface }) q tys a args (and_parts (q.0 == interface) (not m.is_pure) r).0 ok.0 ok.1) after
+      by_params cert on to interface method a args at m is_method impure (t.Frozen q ∷ tys) params r e g after =
+          let ok = back_kept cert on to 0 args at m.result (passes_all S.known.depth tys args (passed S.known.depth a (t.Frozen q) (found_row a))) e g in
+          dispatched cert on to method a (record { 0 = interface }) args at m (t.Frozen q) tys is_method impure params (received_frozen (record { 0 = interface }) q tys a args r ok.0 ok.1) after
+      by_params cert on to interface method a args at m is_method impure _ params r e g after = let y : ⊥ = cc in absurd y
+
+      by_purity : (cert : Certified code facts) → goes_on instr ≡ true → (to interface method a : ℕ) (args : List ℕ) (at : Spot) (m : MethodInfo) → method_of code interface method ≡ Some m → (b : Bool) → m.is_pure ≡ b
+          → (rules.method_by_purity b S.known.depth S.known.regs m to a args).kept.types ≡ true → (rules.method_by_purity b S.known.depth S.known.regs m to a args).kept.present ≡ true
+          → row.after ≡ (rules.method_by_purity b S.known.depth S.known.regs m to a args).after → NextFits (dispatches_it to interface method a args at)
+      by_purity cert on to interface method a args at m is_method true impure e g after = let y : ⊥ = cc in absurd y
+      by_purity cert on to interface method a args at m is_method false impure e g after =
+          by_params cert on to interface method a args at m is_method impure m.params refl (receiver code facts cert (record { 0 = interface }) method m is_method) e g after
+
+      method_called : (cert : Certified code facts) → goes_on instr ≡ true → (to interface method a : ℕ) (args : List ℕ) (at : Spot) (o : Option MethodInfo) → method_of code interface method ≡ o
+          → (rules.calls_method S.known.depth S.known.regs o to a args).kept.types ≡ true → (rules.calls_method S.known.depth S.known.regs o to a args).kept.present ≡ true
+          → row.after ≡ (rules.calls_method S.known.depth S.known.regs o to a args).after → NextFits (dispatches_it to interface method a args at)
+      method_called cert on to interface method a args at None q e g after = let y : ⊥ = cc in absurd y
+      method_called cert on to interface method a args at (Some m) q e g after = by_purity cert on to interface method a args at m q m.is_pure refl e g after
+
       -- ---- one and two operands
 
       unary : goes_on instr ≡ true → (of result : Ty) (to a : ℕ) (at : Spot) (op : Value → Answer) → row.after ≡ slice_set S.known.regs to (Held result S.known.depth false)
@@ -1488,6 +1649,8 @@ module _ (code : Parts) (facts : List FuncFacts) where
     acts cert (i.Upcast to a kind) is e S num =
         upcasting (i.Upcast to a kind) is e S cert refl to a kind (fact_of S.known.regs a) ((fits_here (i.Upcast to a kind) is e S).each a) S.keeps.types
         (and_parts (is_there (fact_of S.known.regs a)) (known.is_free (fact_of (after_taking S.known.regs a (fact_of S.known.regs a)) to)) S.keeps.present).0 refl
+    acts cert (i.CallM to interface method a args at) is e S num =
+        method_called (i.CallM to interface method a args at) is e S cert refl to interface method a args at (method_of code interface method) refl S.keeps.types S.keeps.present refl
     acts cert _ is e S num = let x : false ≡ true = S.keeps.types in absurd (let y : ⊥ = cc in y)
 
     numbers_at : (before : List Instr) (instr : Instr) (instrs : List Instr) → list_all (numbers code F.func.registers) (before ++ instr ∷ instrs) ≡ true → numbers code F.func.registers instr ≡ true
