@@ -1,27 +1,25 @@
 -- What objects hold, and what operands lead to.
-use Rattle.std.proofs.Common.{◌≡◌, ◌<◌, ◌≤◌, ℕ, zero, suc, ◌+◌, List, [], ◌∷◌, ◌++◌, length, replicate, Option, Some, None, Bool, true, false, ◌&&◌, ◌||◌, not, if◌then◌else◌, nat_lt, refl, sym, ap, ◌∙◌, subst, arith}
+use Rattle.std.proofs.Common.{◌≡◌, ℕ, zero, suc, ◌+◌, List, [], ◌∷◌, ◌++◌, length, replicate, Option, Some, None, Bool, true, false, ◌||◌, not, if◌then◌else◌, nat_lt, refl, sym, ap, ◌∙◌, subst, arith}
 use Rattle.std.specs.Prelude.{slice_get, slice_set}
 use Rattle.vale_base.specs.State.{name_of, lent, front_from, last_from}
 use Rattle.vale_base.specs.World.{Value, Int, Truth, Text, Own, Ref, Iso, Object, World, born, died, written}
 use Rattle.vale_base.specs.declared.name.Kind.{Kind}
 use Rattle.vale_code.specs.Kinds.{kind_of}
 use Rattle.vale_code.specs.Parts.{Parts}
-use Rattle.vale_code.specs.Registers.{Registers, read}
-use Rattle.vale_code.specs.declared.kind.Field.{Field}
 use Rattle.vale_code.specs.declared.kind.KindInfo.{KindInfo}
 use Rattle.vale_code.specs.declared.kind.KindInfo.TheVariants as k
 use Rattle.vale_code.specs.declared.ty.Ty.{Ty}
 use Rattle.vale_code.specs.declared.ty.Ty.TheVariants as t
 use Rattle.vale_cert.specs.Certificate.{Certified}
-use Rattle.vale_cert.specs.Known.{fact_of, is_there}
+use Rattle.vale_cert.specs.Known.{is_there}
 use Rattle.vale_cert.specs.Objects.{types_of, cells_of, fields_of, field_of, type_in, item_of, item_in, owner_kind, reference_kind, read_kind, seen}
 use Rattle.vale_cert.specs.Rules.{is_known}
 use Rattle.vale_cert.specs.declared.facts.FuncFacts.{FuncFacts}
 use Rattle.vale_cert.specs.declared.facts.RegFact.{RegFact}
 use Rattle.vale_cert.specs.declared.facts.RegFact.TheVariants.{Empty, Held}
-use Rattle.vale_cert.proofs.Fit.{value_has, kind_seen, kind_fits, NameFits, Has, Holds, RegsFit, ArgsFit, ObjectFits, WorldFits, has_later, args_later}
+use Rattle.vale_cert.proofs.Fit.{value_has, kind_seen, NameFits, Has, Holds, ArgsFit, ObjectFits, WorldFits, args_later}
 use Rattle.vale_cert.proofs.Heap.{object_at, Later, own, in_values, set_each, born_each}
-use Rattle.vale_cert.proofs.KindLaws.{exactly, is_concrete}
+use Rattle.vale_cert.proofs.KindLaws.{exactly}
 
 -- ---- values that lead to objects
 

@@ -1,5 +1,5 @@
 -- What is certified and what is refused, in short codes.
-use Rattle.std.proofs.Common.{◌≡◌, ℕ, pos, List, [], ◌∷◌, ◌++◌, Option, Some, None, true, false, refl}
+use Rattle.std.proofs.Common.{◌≡◌, ℕ, pos, List, [], ◌∷◌, Option, Some, None, true, false, refl}
 use Rattle.std.specs.Prelude.{codes}
 use Rattle.vale_base.specs.declared.name.Kind.{Kind}
 use Rattle.vale_base.specs.declared.spot.Spot.{Spot}
@@ -8,7 +8,6 @@ use Rattle.vale_code.specs.declared.func.Func.{Func}
 use Rattle.vale_code.specs.declared.func.Impl.{Impl}
 use Rattle.vale_code.specs.declared.instr.Instr.{Instr}
 use Rattle.vale_code.specs.declared.instr.Instr.TheVariants as i
-use Rattle.vale_code.specs.declared.kind.Field.{Field}
 use Rattle.vale_code.specs.declared.kind.KindInfo.{KindInfo}
 use Rattle.vale_code.specs.declared.kind.KindInfo.TheVariants as k
 use Rattle.vale_code.specs.declared.kind.MethodInfo.{MethodInfo}

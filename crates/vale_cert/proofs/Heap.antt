@@ -1,12 +1,12 @@
 -- Heaps: what a later one has kept of an earlier one, and how often a name is owned.
-use Rattle.std.proofs.Common.{◌≡◌, ◌<◌, ◌≤◌, ℕ, zero, suc, ◌+◌, ◌-◌, List, [], ◌∷◌, ◌++◌, length, map, replicate, Option, Some, None, Bool, true, false, ◌&&◌, refl, sym, ap, ◌∙◌, subst, arith, if◌then◌else◌}
+use Rattle.std.proofs.Common.{◌≡◌, ◌<◌, ◌≤◌, ℕ, zero, suc, ◌+◌, ◌-◌, List, [], ◌∷◌, ◌++◌, length, map, replicate, Option, Some, None, Bool, true, false, refl, sym, ap, ◌∙◌, subst, arith, if◌then◌else◌}
 use Rattle.std.specs.Prelude.{slice_get, slice_set}
 use Rattle.vale_base.specs.State as state
 use Rattle.vale_base.specs.State.{State, here, counted, living, name_of}
-use Rattle.vale_base.specs.World.{Value, Int, Truth, Text, Own, Ref, Iso, Region, Object, World, born, died, written, relabelled, moved, region_eq}
+use Rattle.vale_base.specs.World.{Value, Own, Iso, Region, Object, World, born, died, written, relabelled}
 use Rattle.vale_base.specs.declared.name.Kind.{Kind}
 use Rattle.vale_code.specs.Frames.{Frame, Running, Dropping, Looping, Alone, resume}
-use Rattle.vale_code.specs.Registers.{Registers, read, put, registers_for, with_result}
+use Rattle.vale_code.specs.Registers.{Registers, read, put, registers_for}
 
 abbrev pub object_at : World → ℕ → Option Object
 object_at w n = living (slice_get w n)

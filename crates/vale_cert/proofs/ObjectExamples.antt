@@ -1,7 +1,5 @@
 -- What is certified and what is refused of instructions on objects, in short codes.
 use Rattle.std.proofs.Common.{◌≡◌, ℕ, pos, List, [], ◌∷◌, Option, Some, None, Bool, true, false, refl}
-use Rattle.vale_code.specs.Parts.{Parts}
-use Rattle.vale_code.specs.declared.func.Func.{Func}
 use Rattle.vale_code.specs.declared.func.Impl.{Impl}
 use Rattle.vale_code.specs.declared.instr.Instr.{Instr}
 use Rattle.vale_code.specs.declared.instr.Instr.TheVariants as i
@@ -13,7 +11,6 @@ use Rattle.vale_code.specs.declared.ty.Ty.{Ty}
 use Rattle.vale_code.specs.declared.ty.Ty.TheVariants as t
 use Rattle.vale_cert.specs.Certificate.{first_fault}
 use Rattle.vale_cert.specs.Objects.{has_room}
-use Rattle.vale_cert.specs.declared.facts.FuncFacts.{FuncFacts}
 use Rattle.vale_cert.specs.declared.facts.Label.{Label}
 use Rattle.vale_cert.specs.declared.facts.RegFact.{RegFact}
 use Rattle.vale_cert.specs.declared.facts.RegFact.TheVariants.{Empty, Held}
@@ -148,7 +145,6 @@ moves_over_an_owner = refl
 moves_at_another_depth : deeper cell (i.Move 2 0 ∷ i.RetVoid ∷ []) ≡ fails 4 2
 moves_at_another_depth = refl
 
-
 -- ---- make
 
 makes_a_struct : of [] (i.Int 0 (pos 7) ∷ i.Make 1 (kind 0) (0 ∷ []) ∷ i.Destroy 1 at ∷ i.RetVoid ∷ []) ≡ None
@@ -196,7 +192,6 @@ makes_and_leaves_it = refl
 makes_of_an_owner_of_another_depth : deeper cell (i.Make 2 (kind 3) (0 ∷ []) ∷ i.RetVoid ∷ []) ≡ fails 4 2
 makes_of_an_owner_of_another_depth = refl
 
-
 -- ---- borrow
 
 -- the reference may outlive the object
@@ -217,7 +212,6 @@ borrows_over_the_owner = refl
 
 borrows_at_another_depth : deeper cell (i.Borrow 2 0 ∷ i.RetVoid ∷ []) ≡ fails 4 2
 borrows_at_another_depth = refl
-
 
 -- ---- fields of an owner
 
@@ -242,7 +236,6 @@ reads_a_field_over_the_owner = refl
 
 reads_a_field_of_an_outer_owner : deeper cell (i.LoadOwn 2 0 0 ∷ i.RetVoid ∷ []) ≡ fails 4 2
 reads_a_field_of_an_outer_owner = refl
-
 
 -- ---- fields of a reference
 
@@ -286,7 +279,6 @@ reads_through_an_inner_reference = refl
 reads_through_an_inner_owner : shallower cell (i.Load 2 0 0 at ∷ i.RetVoid ∷ []) ≡ fails 2 2
 reads_through_an_inner_owner = refl
 
-
 -- ---- what is known to be alive behind a read
 
 -- through `&imm` an owner's field is alive too
@@ -320,7 +312,6 @@ alive_by_an_element = refl
 alive_by_a_call : behind_first (shape_imm ∷ []) (i.CallM 99 4 1 0 [] at) (Held shape_imm 0 true) Empty ≡ None
 alive_by_a_call = refl
 
-
 -- ---- elements of an owner
 
 reads_elements : of (cells ∷ []) (i.Int 1 (pos 0) ∷ i.ElemOwn 2 0 1 at ∷ i.Load 3 2 0 at ∷ i.Print 3 1 ∷ i.Destroy 0 at ∷ i.RetVoid ∷ []) ≡ None
@@ -346,7 +337,6 @@ reads_an_element_over_the_owner = refl
 
 reads_an_element_of_an_outer_owner : deeper ints (i.ElemOwn 2 0 1 at ∷ i.RetVoid ∷ []) ≡ fails 4 2
 reads_an_element_of_an_outer_owner = refl
-
 
 -- ---- elements of a reference
 
@@ -378,7 +368,6 @@ reads_an_element_over_an_owner = refl
 reads_an_element_through_an_inner_reference : shallower ints_ref (i.Elem 2 0 1 at ∷ i.RetVoid ∷ []) ≡ fails 4 2
 reads_an_element_through_an_inner_reference = refl
 
-
 -- ---- len
 
 measures : of (ints_ref ∷ []) (i.Len 1 0 at ∷ i.Print 1 1 ∷ i.RetVoid ∷ []) ≡ None
@@ -401,7 +390,6 @@ measures_over_an_owner = refl
 
 measures_an_inner_reference : shallower ints_ref (i.Len 2 0 at ∷ i.RetVoid ∷ []) ≡ fails 4 2
 measures_an_inner_reference = refl
-
 
 -- ---- set of a field of an owner
 
@@ -436,7 +424,6 @@ sets_and_leaves_the_old_owner = refl
 sets_a_field_of_an_outer_owner : deeper cell (i.SwapOwn 2 0 0 1 ∷ i.RetVoid ∷ []) ≡ fails 4 2
 sets_a_field_of_an_outer_owner = refl
 
-
 -- ---- set of a field through a reference
 
 sets_through_a_reference : of (cell_ref ∷ []) (i.Int 1 (pos 7) ∷ i.Swap 2 0 0 1 at ∷ i.Print 2 1 ∷ i.RetVoid ∷ []) ≡ None
@@ -465,7 +452,6 @@ sets_an_owner_twice = refl
 
 sets_through_an_outer_reference : deeper cell_ref (i.Swap 2 0 0 1 at ∷ i.RetVoid ∷ []) ≡ fails 4 2
 sets_through_an_outer_reference = refl
-
 
 -- ---- set of an element of an owner
 
@@ -496,7 +482,6 @@ sets_an_element_over_the_owner = refl
 sets_an_element_of_an_outer_owner : deeper ints (i.SwapElOwn 2 0 1 1 at ∷ i.RetVoid ∷ []) ≡ fails 4 2
 sets_an_element_of_an_outer_owner = refl
 
-
 -- ---- set of an element through a reference
 
 sets_an_element_through_a_reference : of (ints_ref ∷ []) (i.Int 1 (pos 7) ∷ i.SwapEl 2 0 1 1 at ∷ i.Print 2 1 ∷ i.RetVoid ∷ []) ≡ None
@@ -519,7 +504,6 @@ sets_an_element_to_nothing_through_a_reference = refl
 
 sets_an_element_through_an_outer_reference : deeper ints_ref (i.SwapEl 2 0 1 1 at ∷ i.RetVoid ∷ []) ≡ fails 4 2
 sets_an_element_through_an_outer_reference = refl
-
 
 -- ---- push and pop
 
@@ -574,7 +558,6 @@ pops_and_leaves_it = refl
 pops_of_an_outer_reference : deeper ints_ref (i.Pop 2 0 at ∷ i.RetVoid ∷ []) ≡ fails 4 2
 pops_of_an_outer_reference = refl
 
-
 -- ---- open
 
 opens : of (pair ∷ []) (i.Open (1 ∷ 2 ∷ []) 0 ∷ i.Destroy 1 at ∷ i.Load 3 2 0 at ∷ i.RetVoid ∷ []) ≡ None
@@ -613,7 +596,6 @@ opens_over_an_owner = refl
 opens_an_outer_owner : deeper cell (i.Open (2 ∷ []) 0 ∷ i.RetVoid ∷ []) ≡ fails 4 2
 opens_an_outer_owner = refl
 
-
 -- ---- destroy
 
 destroys : of (pair ∷ []) (i.Destroy 0 at ∷ i.RetVoid ∷ []) ≡ None
@@ -636,7 +618,6 @@ destroys_twice = refl
 
 destroys_an_outer_owner : deeper cell (i.Destroy 0 at ∷ i.RetVoid ∷ []) ≡ fails 4 2
 destroys_an_outer_owner = refl
-
 
 -- ---- upcast
 
@@ -681,7 +662,6 @@ sees_what_is_alive = refl
 
 sees_what_may_be_dead : behind_first (cell_imm ∷ []) (i.Upcast 1 0 (kind 4)) (Held cell_imm 0 false) (Held shape_imm 0 true) ≡ fails 5 1
 sees_what_may_be_dead = refl
-
 
 -- ---- calls of methods that aren't pure
 

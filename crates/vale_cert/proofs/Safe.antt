@@ -1,14 +1,14 @@
 -- Certified code never goes wrong.
-use Rattle.std.proofs.Common.{◌≡◌, ◌≢◌, ℕ, zero, suc, ◌+◌, ◌<◌, ◌≤◌, ℤ, pos, negsuc, List, [], ◌∷◌, ◌++◌, length, replicate, Option, Some, None, Bool, true, false, not, ◌&&◌, ◌||◌, ◌==◌, if◌then◌else◌, nat_lt, nat_le, refl, sym, ap, ◌∙◌, subst, ⊎_elim, arith, length-append, append_assoc}
+use Rattle.std.proofs.Common.{◌≡◌, ◌≢◌, ℕ, zero, suc, ◌+◌, ◌<◌, ◌≤◌, pos, negsuc, List, [], ◌∷◌, ◌++◌, length, replicate, Option, Some, None, Bool, true, false, not, ◌&&◌, ◌||◌, ◌==◌, if◌then◌else◌, nat_lt, nat_le, refl, sym, ap, ◌∙◌, subst, arith, length-append, append_assoc}
 use Rattle.std.specs.Prelude.{slice_get, slice_set}
 use Rattle.std.specs.List.{list_all}
 use Rattle.std.proofs.lemmas.Bool.{and_parts, eq-eqb}
 use Rattle.std.proofs.lemmas.Option.{slice_get-get_or}
 use Rattle.std.proofs.Math.Seq.{get_or-append_seam}
 use Rattle.vale_base.specs.Limits.{width_limit}
-use Rattle.vale_base.specs.Outcome.{End, Done, Cut, Wrong, Trap}
-use Rattle.vale_base.specs.State.{State, Answer, gives, traps, fails, Given, no_input, numbers as number_lines, lines, given, begin, born, function_frame, spend, spend_of, has_depth, print}
-use Rattle.vale_base.specs.State.{make, swap, swapped_in, swap_element, element_swapped_at, element_swapped_in, push, pop, popped, front_from, last_from, with_object, element, element_at, element_in, changed, lent, load, field_in, Looked, object_of, look, look_up, found_or_dead, on_object, name_of, dies, join_isolate, drop_frame}
+use Rattle.vale_base.specs.Outcome.{Wrong}
+use Rattle.vale_base.specs.State.{State, Answer, gives, traps, fails, born, spend_of, has_depth, print}
+use Rattle.vale_base.specs.State.{make, swap, swapped_in, swap_element, element_swapped_at, element_swapped_in, push, pop, popped, front_from, last_from, with_object, element, element_at, element_in, changed, lent, load, field_in, object_of, look, look_up, found_or_dead, on_object, name_of, dies, join_isolate, drop_frame}
 use Rattle.vale_base.specs.World.{Value, Int, Truth, Text, Own, Ref, Iso, Region, Freeze, Isolate, Object, World, next_name, born as world_with, died, written, relabelled}
 use Rattle.vale_base.specs.declared.name.Kind.{Kind}
 use Rattle.vale_base.specs.declared.spot.Spot.{Spot}
@@ -17,12 +17,12 @@ use Rattle.vale_base.specs.declared.trap.TrapKind.{TrapKind}
 use Rattle.vale_base.specs.declared.trap.TrapKind.TheVariants.{DeadReference, IndexOutOfRange, ArrayTooLong, EmptyPop}
 use Rattle.vale_text.specs.Steps as step
 use Rattle.vale_code.specs.Act.{on_looked, without_first, act, act_if, step_of, step_by}
-use Rattle.vale_code.specs.Destroy.{destroy, destroy_by, destroy_object, drop_rest, drop_next, Owned, first_owned}
+use Rattle.vale_code.specs.Destroy.{destroy, destroy_by, destroy_object, drop_rest, first_owned}
 use Rattle.vale_code.specs.Enter.{Form, Plain, Pure, Iteration, Destructor, form_of, if_destructor, function, with_func, with_form, enter, if_called, leave_function}
 use Rattle.vale_code.specs.Frames.{Active, Emptying, Frame, Running, Dropping, Looping, Alone, Config, Next, On, Over, on, wrong, trap, under, deeper, ticked, after_tick, resume, leave}
 use Rattle.vale_code.specs.Instructions as act_on
 use Rattle.vale_code.specs.Instructions.{with_registers, behind, onward, with_value, with_owner, with_read, with_truth, with_choice, moved, borrowed, of_living, array_length, copied, gets, answered, certain, fetch, jump, jump_by, jump_unless, is_free, at_place, truth_of, comparison_of, text_length}
-use Rattle.vale_code.specs.Kinds.{method_in, same_type, holds_values, text_at, result_to, kind_of, kind_text, destructor_of, destructor_in}
+use Rattle.vale_code.specs.Kinds.{method_in, same_type, holds_values, text_at, result_to, kind_of, kind_text, destructor_in}
 use Rattle.vale_code.specs.Parts.{Parts}
 use Rattle.vale_code.specs.Registers.{Registers, Read, read, put, put_all, kept, give_all, read_all, given_value, after_giving, after_keeping, and_then, as_frozen, named, registers_for}
 use Rattle.vale_code.specs.Run.{Ending, exec_by, then_go}
@@ -53,10 +53,10 @@ use Rattle.vale_cert.specs.declared.facts.RegFact.TheVariants.{Empty, Held}
 use Rattle.vale_cert.specs.declared.rules.Kept.{Kept}
 use Rattle.vale_cert.proofs.Cells.{leading, name_there, args_length, struct_values, born_fits, seen_has, cell_there, cell_set, Each, to_each, each_at, each_set, each_append, each_front, front_owns, StructAt, ArrayAt, struct_at, array_at, written_fits, died_fits, object_later, Follows, Led, led, follows_owner, follows_reference, follows_read}
 use Rattle.vale_cert.proofs.Fit.{value_has, kind_seen, kind_is, type_is, kind_fits, NameFits, Has, Holds, RegsFit, ObjectFits, WorldFits, has_later, regs_later, has_plain, owns_nothing, put_fits, agree_fits, reg_value, ArgsFit, entry_fits}
-use Rattle.vale_cert.proofs.Heap.{object_at, Later, later_same, later_later, born_at, state_born, later_died, later_written, later_born, later_relabelled, relabelled_each, same, same_self, own, own_in, in_regs, in_values, in_object, in_world, in_frame, in_frames, alive, living_is, put_owns, begun_owns, values_set, values_append, world_set, world_born, alive_born, alive_written, alive_died, world_relabelled, alive_relabelled, resume_owns}
+use Rattle.vale_cert.proofs.Heap.{object_at, Later, later_same, later_later, born_at, state_born, later_died, later_written, later_born, later_relabelled, relabelled_each, same, same_self, own, own_in, in_regs, in_values, in_world, in_frame, in_frames, alive, living_is, put_owns, begun_owns, values_set, values_append, world_set, world_born, alive_born, alive_written, alive_died, world_relabelled, alive_relabelled, resume_owns}
 use Rattle.vale_cert.proofs.KindLaws.{kind_lawful, raised_fits, receiver, method_found, types_are}
 use Rattle.vale_cert.proofs.Values.{Answers, Surely, SurelyNothing, add_answers, sub_answers, mul_answers, div_answers, rem_answers, opposite_answers, compare_answers, truth_is, comparison_is, join_answers, slice_answers, byte_answers, number_answers, length_answers, text_of_answers, is_number_answers, print_answers, as_truth}
-use Rattle.vale_cert.proofs.Walks.{reaches, Keeps, Stepped, stepped, Comes, comes, Judged, judged, main_is_there, main_lawful}
+use Rattle.vale_cert.proofs.Walks.{reaches, Stepped, stepped, comes, Judged, judged}
 
 -- a value of a result's type, or nothing where that is void
 abbrev pub Returns : Parts → World → Ty → Option Value → Type 0
@@ -1000,7 +1000,7 @@ module _ (code : Parts) (facts : List FuncFacts) where
           let there : (swaps S.known.depth S.known.regs (Some u) to b L).kept.present ≡ true = subst (λ c. (swaps S.known.depth S.known.regs c to b L).kept.present ≡ true) is g in
           record {
             took_it = took code s.world u S.known.regs b f.registers fits_here (and_parts L.types (has u (fact_of S.known.regs b)) types).1
-            (and_parts L.present (is_there (fact_of S.known.regs b)) (and_parts (L.present && is_there (fact_of S.known.regs b)) (known.is_free (fact_of (after_passing S.known.regs b u) to)) there).0).1;
+                (and_parts L.present (is_there (fact_of S.known.regs b)) (and_parts (L.present && is_there (fact_of S.known.regs b)) (known.is_free (fact_of (after_passing S.known.regs b u) to)) there).0).1;
             after_is = after ∙ ap (λ c. (swaps S.known.depth S.known.regs c to b L).after) is;
           }
 

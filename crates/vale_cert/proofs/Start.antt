@@ -1,16 +1,16 @@
 -- A run of certified code, from its start.
-use Rattle.std.proofs.Common.{◌≡◌, ◌≢◌, ℕ, zero, suc, ◌+◌, ◌<◌, ◌≤◌, ℤ, List, [], ◌∷◌, length, replicate, Option, Some, None, Bool, true, false, ◌==◌, refl, sym, ap, ◌∙◌, subst, arith}
+use Rattle.std.proofs.Common.{◌≡◌, ◌≢◌, ℕ, zero, suc, ◌+◌, ◌<◌, ◌≤◌, ℤ, List, [], ◌∷◌, length, replicate, Option, Some, None, true, ◌==◌, refl, sym, ap, ◌∙◌, subst, arith}
 use Rattle.std.specs.Prelude.{slice_get}
 use Rattle.std.proofs.lemmas.Bool.{and_parts}
-use Rattle.vale_base.specs.Outcome.{End, Wrong}
+use Rattle.vale_base.specs.Outcome.{Wrong}
 use Rattle.vale_base.specs.State.{State, Given, no_input, numbers, lines, ints, texts, given, begin, born, function_frame}
 use Rattle.vale_base.specs.World.{Value, Int, Text, Own, Freeze, Object, World, born as world_with, next_name}
 use Rattle.vale_base.specs.declared.name.Kind.{Kind}
-use Rattle.vale_code.specs.Enter.{Form, Plain, form_of, function, with_func, with_form, enter}
-use Rattle.vale_code.specs.Frames.{Config, Next, On, Over, wrong}
+use Rattle.vale_code.specs.Enter.{Form, Plain, form_of, with_func, with_form, enter}
+use Rattle.vale_code.specs.Frames.{Next, On, Over}
 use Rattle.vale_code.specs.Kinds.{kind_of, text_at}
 use Rattle.vale_code.specs.Parts.{Parts}
-use Rattle.vale_code.specs.Run.{Ending, EndsIn, exec, exec_by, then_go, last_state, start, with_input, if_plain, first_spot, ending_of, run_code}
+use Rattle.vale_code.specs.Run.{Ending, exec, then_go, last_state, start, with_input, if_plain, first_spot, ending_of, run_code}
 use Rattle.vale_code.specs.declared.func.Func.{Func}
 use Rattle.vale_code.specs.declared.kind.KindInfo.{KindInfo}
 use Rattle.vale_code.specs.declared.kind.KindInfo.TheVariants as k
@@ -20,12 +20,11 @@ use Rattle.vale_code.proofs.Ends.{run_ends}
 use Rattle.vale_cert.specs.Certificate.{Certified}
 use Rattle.vale_cert.specs.Input.{is_input_of, params_take, function_takes, takes_input}
 use Rattle.vale_cert.specs.Objects.{cells_of}
-use Rattle.vale_cert.specs.Shape.{is_main}
 use Rattle.vale_cert.specs.declared.facts.FuncFacts.{FuncFacts}
 use Rattle.vale_cert.proofs.Cells.{Each, leading, to_each, born_fits}
 use Rattle.vale_cert.proofs.Fit.{ArgsFit, WorldFits, has_plain}
 use Rattle.vale_cert.proofs.Heap.{in_values, in_world, alive, later_born, state_born, world_born, alive_born}
-use Rattle.vale_cert.proofs.Safe.{NextFits, ConfigFits, Quiet, names_it, entered, with_tick, never_wrong}
+use Rattle.vale_cert.proofs.Safe.{NextFits, Quiet, names_it, entered, with_tick, never_wrong}
 use Rattle.vale_cert.proofs.Walks.{main_is_there, main_lawful}
 
 found_at : (fs : List Func) (n : ℕ) → n < length fs → (f : Func) × (slice_get fs n ≡ Some f)

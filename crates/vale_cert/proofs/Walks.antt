@@ -1,17 +1,17 @@
 -- What the walk of a function says of each instruction.
-use Rattle.std.proofs.Common.{◌≡◌, ℕ, zero, suc, ◌+◌, ◌<◌, ◌≤◌, List, [], ◌∷◌, ◌++◌, length, Option, Some, None, Bool, true, false, ◌&&◌, ◌==◌, if◌then◌else◌, nat_lt, nat_le, refl, sym, ap, ◌∙◌, subst, ⊎_elim, ◌⊎◌, inl, inr, arith}
+use Rattle.std.proofs.Common.{◌≡◌, ℕ, zero, suc, ◌+◌, ◌<◌, ◌≤◌, List, [], ◌∷◌, ◌++◌, length, Option, Some, None, Bool, true, false, ◌&&◌, ◌==◌, if◌then◌else◌, nat_lt, nat_le, refl, ap, subst, ⊎_elim, arith}
 use Rattle.std.specs.Prelude.{slice_get}
 use Rattle.std.specs.List.{list_all}
 use Rattle.std.proofs.lemmas.Bool.{and_parts, cases_lt, eq-eqb}
 use Rattle.vale_code.specs.Parts.{Parts}
 use Rattle.vale_code.specs.declared.func.Func.{Func}
 use Rattle.vale_code.specs.declared.instr.Instr.{Instr}
-use Rattle.vale_cert.specs.Certificate.{first_fault, rule_one, Certified}
-use Rattle.vale_cert.specs.Known.{Known, entry, label_at, is_label, rise, may_enter, stated}
+use Rattle.vale_cert.specs.Certificate.{rule_one, Certified}
+use Rattle.vale_cert.specs.Known.{Known, entry, label_at, rise, may_enter, stated}
 use Rattle.vale_cert.specs.Numbers.{numbers}
-use Rattle.vale_cert.specs.Shape.{shape_fault, shape_fault_by, or_else as or_number, counted_after, kinds_fault, impls_fault, funcs_fault, func_is_lawful, head_is_lawful, body_is_lawful, has_live, label_is_lawful, fact_is_lawful, is_main}
+use Rattle.vale_cert.specs.Shape.{shape_fault, or_else as or_number, counted_after, kinds_fault, impls_fault, funcs_fault, func_is_lawful, head_is_lawful, body_is_lawful, has_live, label_is_lawful, fact_is_lawful, is_main}
 use Rattle.vale_cert.specs.Types.{reaches_isolate, ◌⇒◌}
-use Rattle.vale_cert.specs.Walk.{Rules, broken, fault_of, or_else, row_of, after, enters, has_target, next_of, is_place, rules, known_after, if_known, walk, goes_on, target_of, function_fault, functions_fault}
+use Rattle.vale_cert.specs.Walk.{broken, fault_of, or_else, row_of, after, enters, has_target, next_of, is_place, rules, known_after, if_known, walk, target_of, function_fault, functions_fault}
 use Rattle.vale_cert.specs.declared.facts.FuncFacts.{FuncFacts}
 use Rattle.vale_cert.specs.declared.facts.Label.{Label}
 use Rattle.vale_cert.specs.declared.fault.Fault.{Fault}

@@ -1,5 +1,5 @@
 -- What operands lead to, and what is read of objects.
-use Rattle.std.specs.Prelude.{ℕ, List, [], ◌∷◌, map, replicate, Option, Some, None, Bool, true, false, not, ◌&&◌, ◌||◌, nat_lt, nat_le, if◌then◌else◌, slice_get}
+use Rattle.std.specs.Prelude.{ℕ, List, map, replicate, Option, Some, None, Bool, true, false, ◌||◌, nat_lt, nat_le, if◌then◌else◌, slice_get}
 use Rattle.std.specs.List.{list_any}
 use Rattle.vale_base.specs.Limits.{width_limit}
 use Rattle.vale_base.specs.declared.name.Kind.{Kind}
@@ -12,7 +12,7 @@ use Rattle.vale_code.specs.declared.kind.KindInfo.TheVariants as k
 use Rattle.vale_code.specs.declared.kind.MethodInfo.{MethodInfo}
 use Rattle.vale_code.specs.declared.ty.Ty.{Ty}
 use Rattle.vale_code.specs.declared.ty.Ty.TheVariants as t
-use Rattle.vale_cert.specs.Types.{is_frozen, is_owned}
+use Rattle.vale_cert.specs.Types.{is_frozen}
 use Rattle.vale_cert.specs.declared.facts.RegFact.{RegFact}
 use Rattle.vale_cert.specs.declared.facts.RegFact.TheVariants.{Empty, Held}
 

@@ -1,10 +1,10 @@
 -- The rules of one instruction: what it asks of the registers that it reads and writes, and the registers after it. A row
 -- an instruction (docs/FORMATS.md, "Certificates").
-use Rattle.std.specs.Prelude.{ℕ, ◌+◌, List, [], ◌∷◌, length, Option, Some, None, Bool, true, false, not, ◌&&◌, ◌||◌, ◌==◌, nat_lt, nat_le, slice_get, slice_set}
+use Rattle.std.specs.Prelude.{ℕ, List, [], ◌∷◌, length, Option, Some, None, Bool, true, false, not, ◌&&◌, ◌||◌, ◌==◌, nat_lt, nat_le, slice_get, slice_set}
 use Rattle.std.specs.List.{list_all}
 use Rattle.vale_base.specs.Limits.{text_limit}
 use Rattle.vale_base.specs.declared.name.Kind.{Kind}
-use Rattle.vale_code.specs.Kinds.{kind_of, same_type}
+use Rattle.vale_code.specs.Kinds.{kind_of}
 use Rattle.vale_code.specs.Parts.{Parts}
 use Rattle.vale_code.specs.declared.func.Func.{Func}
 use Rattle.vale_code.specs.declared.func.Impl.{Impl}

@@ -1,16 +1,14 @@
 -- The rules of all instructions, in order: what is known before each, which a label replaces, and what each leads to.
-use Rattle.std.specs.Prelude.{ℕ, ◌+◌, List, [], ◌∷◌, length, Option, Some, None, Bool, true, false, not, ◌&&◌, ◌||◌, nat_lt, if◌then◌else◌}
+use Rattle.std.specs.Prelude.{ℕ, ◌+◌, List, [], ◌∷◌, length, Option, Some, None, Bool, true, false, ◌&&◌, nat_lt, if◌then◌else◌}
 use Rattle.vale_code.specs.Parts.{Parts}
 use Rattle.vale_code.specs.declared.func.Func.{Func}
 use Rattle.vale_code.specs.declared.instr.Instr.{Instr}
 use Rattle.vale_code.specs.declared.instr.Instr.TheVariants as i
-use Rattle.vale_cert.specs.Types.{◌⇒◌}
 use Rattle.vale_cert.specs.Known.{Known, entry, label_at, is_label, rise, may_enter, stated}
 use Rattle.vale_cert.specs.Rules.{Row, row}
 use Rattle.vale_cert.specs.declared.facts.FuncFacts.{FuncFacts}
 use Rattle.vale_cert.specs.declared.facts.Label.{Label}
 use Rattle.vale_cert.specs.declared.fault.Fault.{Fault}
-use Rattle.vale_cert.specs.declared.rules.Kept.{Kept}
 
 -- ---- where an instruction leads
 
