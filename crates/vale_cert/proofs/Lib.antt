@@ -1,3 +1,4 @@
+mod Arguments
 mod Cells
 mod Examples
 mod Fit
@@ -5,6 +6,7 @@ mod Heap
 mod KindLaws
 mod ObjectExamples
 pub mod Safe
+mod Standing
 pub mod Start
 mod Values
 pub mod Walks

@@ -1,4 +1,4 @@
--- Certified code never goes wrong.
+-- Certified code never goes wrong: one instruction, and each step.
 use Rattle.std.proofs.Common.{◌≡◌, ◌≢◌, ℕ, zero, suc, ◌+◌, ◌<◌, ◌≤◌, pos, negsuc, List, [], ◌∷◌, ◌++◌, length, replicate, Option, Some, None, Bool, true, false, not, ◌&&◌, ◌||◌, ◌==◌, if◌then◌else◌, nat_lt, nat_le, refl, sym, ap, ◌∙◌, subst, arith, length-append, append_assoc}
 use Rattle.std.specs.Prelude.{slice_get, slice_set}
 use Rattle.std.specs.List.{list_all}
@@ -7,24 +7,23 @@ use Rattle.std.proofs.lemmas.Option.{slice_get-get_or}
 use Rattle.std.proofs.Math.Seq.{get_or-append_seam}
 use Rattle.vale_base.specs.Limits.{width_limit}
 use Rattle.vale_base.specs.Outcome.{Wrong}
-use Rattle.vale_base.specs.State.{State, Answer, gives, traps, fails, born, spend_of, has_depth, print}
-use Rattle.vale_base.specs.State.{make, swap, swapped_in, swap_element, element_swapped_at, element_swapped_in, push, pop, popped, front_from, last_from, with_object, element, element_at, element_in, changed, lent, load, field_in, object_of, look, look_up, found_or_dead, on_object, name_of, dies, join_isolate, drop_frame}
-use Rattle.vale_base.specs.World.{Value, Int, Truth, Text, Own, Ref, Iso, Region, Freeze, Isolate, Object, World, next_name, born as world_with, died, written, relabelled}
+use Rattle.vale_base.specs.State.{State, Answer, gives, traps, fails, born, print}
+use Rattle.vale_base.specs.State.{make, swap, swapped_in, swap_element, element_swapped_at, element_swapped_in, push, pop, popped, front_from, last_from, with_object, element, element_at, element_in, changed, lent, load, field_in, object_of, look, look_up, found_or_dead, on_object, name_of, dies}
+use Rattle.vale_base.specs.World.{Value, Int, Truth, Text, Own, Ref, Iso, Freeze, Object, World, next_name, born as world_with, died, written}
 use Rattle.vale_base.specs.declared.name.Kind.{Kind}
 use Rattle.vale_base.specs.declared.spot.Spot.{Spot}
 use Rattle.vale_base.specs.declared.trap.FrameAt.{FrameAt}
-use Rattle.vale_base.specs.declared.trap.TrapKind.{TrapKind}
 use Rattle.vale_base.specs.declared.trap.TrapKind.TheVariants.{DeadReference, IndexOutOfRange, ArrayTooLong, EmptyPop}
 use Rattle.vale_text.specs.Steps as step
 use Rattle.vale_code.specs.Act.{on_looked, without_first, act, act_if, step_of, step_by}
-use Rattle.vale_code.specs.Destroy.{destroy, destroy_by, destroy_object, drop_rest, first_owned}
-use Rattle.vale_code.specs.Enter.{Form, Plain, Pure, Iteration, Destructor, form_of, if_destructor, function, with_func, with_form, enter, if_called, leave_function}
-use Rattle.vale_code.specs.Frames.{Active, Emptying, Frame, Running, Dropping, Looping, Alone, Config, Next, On, Over, on, wrong, trap, under, deeper, ticked, after_tick, resume, leave}
+use Rattle.vale_code.specs.Destroy.{destroy}
+use Rattle.vale_code.specs.Enter.{Form, Plain, Pure, Iteration, Destructor, form_of, function, with_func, with_form, enter, if_called, leave_function}
+use Rattle.vale_code.specs.Frames.{Active, Frame, Running, Dropping, Looping, Alone, Config, Next, On, Over, on, wrong, trap, after_tick, resume, leave}
 use Rattle.vale_code.specs.Instructions as act_on
 use Rattle.vale_code.specs.Instructions.{with_registers, behind, onward, with_value, with_owner, with_read, with_truth, with_choice, moved, borrowed, of_living, array_length, copied, gets, answered, certain, fetch, jump, jump_by, jump_unless, is_free, at_place, truth_of, comparison_of, text_length}
-use Rattle.vale_code.specs.Kinds.{method_in, same_type, holds_values, text_at, result_to, kind_of, kind_text, destructor_in}
+use Rattle.vale_code.specs.Kinds.{method_in, same_type, holds_values, text_at, result_to, kind_of}
 use Rattle.vale_code.specs.Parts.{Parts}
-use Rattle.vale_code.specs.Registers.{Registers, Read, read, put, put_all, kept, give_all, read_all, given_value, after_giving, after_keeping, and_then, as_frozen, named, registers_for}
+use Rattle.vale_code.specs.Registers.{Registers, read, put, put_all, kept, give_all, read_all, after_giving, after_keeping, as_frozen, named}
 use Rattle.vale_code.specs.Run.{Ending, exec_by, then_go}
 use Rattle.vale_code.specs.declared.func.Func.{Func}
 use Rattle.vale_code.specs.declared.func.Impl.{Impl}
@@ -39,11 +38,11 @@ use Rattle.vale_code.specs.declared.ty.Ty.TheVariants as t
 use Rattle.vale_cert.specs.Certificate.{Certified}
 use Rattle.vale_cert.specs.Known as known
 use Rattle.vale_cert.specs.Known.{Known, entry, label_at, is_label, may_enter, stated, fact_of, has, is_there}
-use Rattle.vale_cert.specs.Numbers.{numbers, is_text}
+use Rattle.vale_cert.specs.Numbers.{numbers}
 use Rattle.vale_cert.specs.Objects.{method_of, method_from, types_of, raised, may_be_raised, cells_of, is_implemented, field_of, item_of, cell_by, owner_kind, reference_kind, read_kind, is_through_frozen, found_alive, seen}
 use Rattle.vale_cert.specs.Rules as rules
 use Rattle.vale_cert.specs.Rules.{owns, puts_all, opens_of, fields_by, is_raised, raised_to, after_taking, swaps, pushes, pops, moves, is_moved, moved_to, borrows, lent_to, drops, reads_own, reads_found, reads_cell, finds_alive, leads, leads_as_owner, leads_as_reference, leads_to_read, is_usable, is_readable, taken, takes_all, Row, reads, uses, passes, passed, passes_all, all_fine, comes_back, after_passing, gives_frozen, leads_to, copy_of, is_copied, is_comparable, is_ordered, are_alike, is_printable, is_short}
-use Rattle.vale_cert.specs.Shape.{receives, same_params, same_types, implements_method, form_for, takes_receiver, destroys, is_destructor_of, takes_owner, field_is_lawful}
+use Rattle.vale_cert.specs.Shape.{receives, same_params, same_types, implements_method, form_for, takes_receiver}
 use Rattle.vale_cert.specs.Types.{is_owned, is_isolate, is_void}
 use Rattle.vale_cert.specs.Walk.{row_of, after, enters, has_target, next_of, is_place, known_after, walk, goes_on, target_of}
 use Rattle.vale_cert.specs.declared.facts.FuncFacts.{FuncFacts}
@@ -51,475 +50,20 @@ use Rattle.vale_cert.specs.declared.facts.Label.{Label}
 use Rattle.vale_cert.specs.declared.facts.RegFact.{RegFact}
 use Rattle.vale_cert.specs.declared.facts.RegFact.TheVariants.{Empty, Held}
 use Rattle.vale_cert.specs.declared.rules.Kept.{Kept}
-use Rattle.vale_cert.proofs.Cells.{leading, name_there, args_length, struct_values, born_fits, seen_has, cell_there, cell_set, Each, to_each, each_at, each_set, each_append, each_front, front_owns, StructAt, ArrayAt, struct_at, array_at, written_fits, died_fits, object_later, Follows, Led, led, follows_owner, follows_reference, follows_read}
-use Rattle.vale_cert.proofs.Fit.{value_has, kind_seen, kind_is, type_is, kind_fits, NameFits, Has, Holds, RegsFit, ObjectFits, WorldFits, has_later, regs_later, has_plain, owns_nothing, put_fits, agree_fits, reg_value, ArgsFit, entry_fits}
-use Rattle.vale_cert.proofs.Heap.{object_at, Later, later_same, later_later, born_at, state_born, later_died, later_written, later_born, later_relabelled, relabelled_each, same, same_self, own, own_in, in_regs, in_values, in_world, in_frame, in_frames, alive, living_is, put_owns, begun_owns, values_set, values_append, world_set, world_born, alive_born, alive_written, alive_died, world_relabelled, alive_relabelled, resume_owns}
-use Rattle.vale_cert.proofs.KindLaws.{kind_lawful, raised_fits, receiver, method_found, types_are}
+use Rattle.vale_cert.proofs.Cells.{leading, name_there, args_length, struct_values, born_fits, seen_has, cell_there, cell_set, Each, to_each, each_at, each_set, each_append, each_front, front_owns, StructAt, ArrayAt, struct_at, array_at, written_fits, died_fits, Follows, Led, led, follows_owner, follows_reference, follows_read}
+use Rattle.vale_cert.proofs.Fit.{value_has, kind_seen, kind_is, type_is, kind_fits, NameFits, Has, Holds, RegsFit, ObjectFits, WorldFits, regs_later, has_plain, owns_nothing, put_fits, agree_fits, reg_value, ArgsFit}
+use Rattle.vale_cert.proofs.Heap.{object_at, Later, later_same, born_at, state_born, later_died, later_written, later_born, same, same_self, own, own_in, in_regs, in_values, in_frame, living_is, put_owns, values_set, values_append, world_set, world_born, alive_born, alive_written, alive_died}
+use Rattle.vale_cert.proofs.KindLaws.{raised_fits, receiver, method_found, types_are}
 use Rattle.vale_cert.proofs.Values.{Answers, Surely, SurelyNothing, add_answers, sub_answers, mul_answers, div_answers, rem_answers, opposite_answers, compare_answers, truth_is, comparison_is, join_answers, slice_answers, byte_answers, number_answers, length_answers, text_of_answers, is_number_answers, print_answers, as_truth}
-use Rattle.vale_cert.proofs.Walks.{reaches, Stepped, stepped, comes, Judged, judged}
-
--- a value of a result's type, or nothing where that is void
-abbrev pub Returns : Parts → World → Ty → Option Value → Type 0
-Returns code w t.Void o = o ≡ None
-Returns code w ty o = (v : Value) × (o ≡ Some v) × Has code w ty v
-
-returns_later : (code : Parts) (w u : World) (ty : Ty) (o : Option Value) → Later w u → Returns code w ty o → Returns code u ty o
-returns_later code w u t.Void o l h = h
-returns_later code w u ty o l h = (h.0, h.1, has_later code w u ty h.0 l h.2)
-
-abbrev dest_of : Frame → Option ℕ
-dest_of (Running f) = f.dest
-dest_of (Dropping f) = None
-dest_of (Looping f) = None
-dest_of (Alone v) = None
-
--- ---- arguments
-
--- what a parameter gets is of its type, and what stays fits; nothing is owned twice
-pub record Passed (code : Parts) (w : World) (ty : Ty) (known : List RegFact) (a : ℕ) (regs : Registers) : Type 0 where
-  pub value : Value
-  pub given : given_value ty (read regs a) ≡ Some value
-  pub has : Has code w ty value
-  pub fits : RegsFit code w (after_passing known a ty) (after_giving ty a (read regs a) regs)
-  pub owned : (n : ℕ) → own n value + in_regs n (after_giving ty a (read regs a) regs) ≤ in_regs n regs
-
--- the same of a value that is taken as it is
-pub record Took (code : Parts) (w : World) (ty : Ty) (known : List RegFact) (a : ℕ) (regs : Registers) : Type 0 where
-  pub value : Value
-  pub is : read regs a ≡ Some value
-  pub has : Has code w ty value
-  pub fits : RegsFit code w (after_passing known a ty) (kept a value regs)
-  pub owned : (n : ℕ) → own n value + in_regs n (kept a value regs) ≤ in_regs n regs
-
-module _ (code : Parts) (w : World) where
-  -- a reference to what a value leads to
-  frozen_ref : (q kind : Kind) (ty : Ty) (v : Value) (x : ℕ) → kind_seen ty ≡ Some q → name_of v ≡ Some x → (q.0 == kind.0) ≡ true → Has code w ty v → Has code w (t.Frozen kind) (Ref x)
-  frozen_ref q kind ty v x e g same_kind h = leading code w (t.Frozen kind) (Ref x) kind x refl refl refl (subst (λ q. NameFits code w q x) (kind_is q kind same_kind) (h.leads q x e g))
-
-  abbrev Frozen_from : Kind → Option Value → Type 0
-  Frozen_from kind o = (v : Value) × (as_frozen (named o) ≡ Some v) × Has code w (t.Frozen kind) v × ((n : ℕ) → own n v ≡ 0)
-
-  as_ref : (q kind : Kind) (ty : Ty) (v : Value) (x : ℕ) (o : Option Value) → o ≡ Some v → kind_seen ty ≡ Some q → name_of v ≡ Some x → (q.0 == kind.0) ≡ true → Has code w ty v → Frozen_from kind o
-  as_ref q kind ty v x o h e g same_kind has = (Ref x, ap (λ o. as_frozen (named o)) h ∙ ap as_frozen g, frozen_ref q kind ty v x e g same_kind has, λ n. refl)
-
-  -- a value that leads somewhere gives a reference
-  frozen_from : (d : ℕ) (kind : Kind) (fact : RegFact) (o : Option Value) → gives_frozen d kind.0 fact ≡ true → is_there fact ≡ true → Holds code w fact o → Frozen_from kind o
-  frozen_from d kind Empty o e there h = let x : ⊥ = cc in absurd x
-  frozen_from d kind (Held (t.Frozen q) m l) o e there h = from h.0 h.1 h.2 h.2.shape
-    where
-      from : (v : Value) → o ≡ Some v → Has code w (t.Frozen q) v → value_has (t.Frozen q) v ≡ true → Frozen_from kind o
-      from (Ref x) h has g = as_ref q kind (t.Frozen q) (Ref x) x o h refl refl e has
-      from _ h has g = let x : ⊥ = cc in absurd x
-  frozen_from d kind (Held (t.Own q) m l) o e there h = from h.0 h.1 h.2 h.2.shape
-    where
-      from : (v : Value) → o ≡ Some v → Has code w (t.Own q) v → value_has (t.Own q) v ≡ true → Frozen_from kind o
-      from (Own x) h has g = as_ref q kind (t.Own q) (Own x) x o h refl refl (and_parts (nat_lt m d) (q.0 == kind.0) e).1 has
-      from _ h has g = let x : ⊥ = cc in absurd x
-  frozen_from d kind (Held (t.Ref q) m l) o e there h = from h.0 h.1 h.2 h.2.shape
-    where
-      from : (v : Value) → o ≡ Some v → Has code w (t.Ref q) v → value_has (t.Ref q) v ≡ true → Frozen_from kind o
-      from (Ref x) h has g = as_ref q kind (t.Ref q) (Ref x) x o h refl refl (and_parts (nat_lt m d) (q.0 == kind.0) e).1 has
-      from _ h has g = let x : ⊥ = cc in absurd x
-  frozen_from d kind (Held (t.Iso q) m l) o e there h = from h.0 h.1 h.2 h.2.shape
-    where
-      from : (v : Value) → o ≡ Some v → Has code w (t.Iso q) v → value_has (t.Iso q) v ≡ true → Frozen_from kind o
-      from (Iso x) h has g = as_ref q kind (t.Iso q) (Iso x) x o h refl refl (and_parts (nat_lt m d) (q.0 == kind.0) e).1 has
-      from _ h has g = let x : ⊥ = cc in absurd x
-  frozen_from d kind (Held t.Void m l) o e there h = let x : false ≡ true = (and_parts (nat_lt m d) false e).1 in absurd (let y : ⊥ = cc in y)
-  frozen_from d kind (Held t.Int m l) o e there h = let x : false ≡ true = (and_parts (nat_lt m d) false e).1 in absurd (let y : ⊥ = cc in y)
-  frozen_from d kind (Held t.Truth m l) o e there h = let x : false ≡ true = (and_parts (nat_lt m d) false e).1 in absurd (let y : ⊥ = cc in y)
-  frozen_from d kind (Held t.Text m l) o e there h = let x : false ≡ true = (and_parts (nat_lt m d) false e).1 in absurd (let y : ⊥ = cc in y)
-
-  -- a copy value or a reference stays, and an owner or an isolate leaves its register
-  stays : (ty : Ty) (known : List RegFact) (a : ℕ) (regs : Registers) (v : Value) → RegsFit code w known regs → read regs a ≡ Some v → value_has ty v ≡ true
-      → RegsFit code w (after_passing known a ty) (kept a v regs) × ((n : ℕ) → own n v + in_regs n (kept a v regs) ≤ in_regs n regs)
-  stays (t.Frozen k) known a regs (Ref m) fits h e = (fits, λ n. omega arith)
-  stays t.Int known a regs (Int z) fits h e = (fits, λ n. omega arith)
-  stays t.Truth known a regs (Truth b) fits h e = (fits, λ n. omega arith)
-  stays t.Text known a regs (Text b) fits h e = (fits, λ n. omega arith)
-  stays (t.Ref k) known a regs (Ref m) fits h e = (fits, λ n. omega arith)
-  stays (t.Own k) known a regs (Own m) fits h e = (put_fits code w known regs a Empty None tt fits, λ n. let x = put_owns n regs a None in let y = ap (λ o. own_in n o) h in omega (arith, x, y))
-  stays (t.Iso k) known a regs (Iso m) fits h e = (put_fits code w known regs a Empty None tt fits, λ n. let x = put_owns n regs a None in let y = ap (λ o. own_in n o) h in omega (arith, x, y))
-  stays _ known a regs _ fits h e = let x : ⊥ = cc in absurd x
-
-  pub took : (ty : Ty) (known : List RegFact) (a : ℕ) (regs : Registers) → RegsFit code w known regs → has ty (fact_of known a) ≡ true → is_there (fact_of known a) ≡ true → Took code w ty known a regs
-  took ty known a regs fits e there =
-      let v = reg_value code w known regs a ty fits e there in
-      let st = stays ty known a regs v.0 fits v.1 v.2.shape in
-      record { value = v.0; is = v.1; has = v.2; fits = st.0; owned = st.1 }
-
-  -- what is used as it is
-  used : (ty : Ty) (known : List RegFact) (a : ℕ) (regs : Registers) → RegsFit code w known regs → given_value ty (read regs a) ≡ read regs a → ((o : Option Value) → after_giving ty a o regs ≡ after_keeping a o regs) → has ty (fact_of known a) ≡ true → is_there (fact_of known a) ≡ true → Passed code w ty known a regs
-  used ty known a regs fits same_value same_regs e there =
-      let v = took ty known a regs fits e there in
-      let after : kept a v.value regs ≡ after_giving ty a (read regs a) regs = sym (same_regs (read regs a) ∙ ap (λ o. after_keeping a o regs) v.is) in
-      record {
-        value = v.value;
-        given = same_value ∙ v.is;
-        has = v.has;
-        fits = subst (λ r. RegsFit code w (after_passing known a ty) r) after v.fits;
-        owned = λ n. subst (λ r. own n v.value + in_regs n r ≤ in_regs n regs) after (v.owned n);
-      }
-
-  module _ (depth : ℕ) where
-    -- what is kept behind an argument was kept before it
-    pass_kept : (a : ℕ) (ty : Ty) (row : Row) → (passed depth a ty row).kept.types ≡ true → (passed depth a ty row).kept.present ≡ true → (row.kept.types ≡ true) × (row.kept.present ≡ true)
-    pass_kept a (t.Frozen k) row e g = ((and_parts _ _ e).0, (and_parts _ _ g).0)
-    pass_kept a t.Void row e g = ((and_parts _ _ e).0, (and_parts _ _ g).0)
-    pass_kept a t.Int row e g = ((and_parts _ _ e).0, (and_parts _ _ g).0)
-    pass_kept a t.Truth row e g = ((and_parts _ _ e).0, (and_parts _ _ g).0)
-    pass_kept a t.Text row e g = ((and_parts _ _ e).0, (and_parts _ _ g).0)
-    pass_kept a (t.Own k) row e g = ((and_parts _ _ e).0, (and_parts _ _ g).0)
-    pass_kept a (t.Ref k) row e g = ((and_parts _ _ e).0, (and_parts _ _ g).0)
-    pass_kept a (t.Iso k) row e g = ((and_parts _ _ e).0, (and_parts _ _ g).0)
-
-    passes_kept : (tys : List Ty) (args : List ℕ) (row : Row) → (passes_all depth tys args row).kept.types ≡ true → (passes_all depth tys args row).kept.present ≡ true → (row.kept.types ≡ true) × (row.kept.present ≡ true)
-    passes_kept [] [] row e g = (e, g)
-    passes_kept [] (a ∷ more) row e g = let x : ⊥ = cc in absurd x
-    passes_kept (ty ∷ tys) [] row e g = let x : ⊥ = cc in absurd x
-    passes_kept (ty ∷ tys) (a ∷ more) row e g = let x = passes_kept tys more (passed depth a ty row) e g in pass_kept a ty row x.0 x.1
-
-    pub passing : (a : ℕ) (ty : Ty) (row : Row) (regs : Registers) → RegsFit code w row.after regs → (passed depth a ty row).kept.types ≡ true → (passed depth a ty row).kept.present ≡ true → Passed code w ty row.after a regs
-    passing a (t.Frozen kind) row regs fits e g =
-        let v = frozen_from depth kind (fact_of row.after a) (read regs a) (and_parts row.kept.types (gives_frozen depth kind.0 (fact_of row.after a)) e).1 (and_parts row.kept.present (is_there (fact_of row.after a)) g).1 (fits.each a) in
-        record { value = v.0; given = v.1; has = v.2; fits = fits; owned = λ n. let x = v.3 n in omega (arith, x) }
-    passing a t.Void row regs fits e g = used t.Void row.after a regs fits refl (λ o. refl) (and_parts row.kept.types (has t.Void (fact_of row.after a)) e).1 (and_parts row.kept.present (is_there (fact_of row.after a)) g).1
-    passing a t.Int row regs fits e g = used t.Int row.after a regs fits refl (λ o. refl) (and_parts row.kept.types (has t.Int (fact_of row.after a)) e).1 (and_parts row.kept.present (is_there (fact_of row.after a)) g).1
-    passing a t.Truth row regs fits e g = used t.Truth row.after a regs fits refl (λ o. refl) (and_parts row.kept.types (has t.Truth (fact_of row.after a)) e).1 (and_parts row.kept.present (is_there (fact_of row.after a)) g).1
-    passing a t.Text row regs fits e g = used t.Text row.after a regs fits refl (λ o. refl) (and_parts row.kept.types (has t.Text (fact_of row.after a)) e).1 (and_parts row.kept.present (is_there (fact_of row.after a)) g).1
-    passing a (t.Own k) row regs fits e g = used (t.Own k) row.after a regs fits refl (λ o. refl) (and_parts row.kept.types (has (t.Own k) (fact_of row.after a)) e).1 (and_parts row.kept.present (is_there (fact_of row.after a)) g).1
-    passing a (t.Ref k) row regs fits e g = used (t.Ref k) row.after a regs fits refl (λ o. refl) (and_parts row.kept.types (has (t.Ref k) (fact_of row.after a)) e).1 (and_parts row.kept.present (is_there (fact_of row.after a)) g).1
-    passing a (t.Iso k) row regs fits e g = used (t.Iso k) row.after a regs fits refl (λ o. refl) (and_parts row.kept.types (has (t.Iso k) (fact_of row.after a)) e).1 (and_parts row.kept.present (is_there (fact_of row.after a)) g).1
-
-    -- all arguments
-    pub record AllPassed (tys : List Ty) (args : List ℕ) (row : Row) (regs : Registers) : Type 0 where
-      pub got : Read
-      pub given : give_all tys args regs ≡ Some got
-      pub has : ArgsFit code w tys got.values
-      pub fits : RegsFit code w (passes_all depth tys args row).after got.after
-      pub owned : (n : ℕ) → in_values n got.values + in_regs n got.after ≤ in_regs n regs
-
-    pub passing_all : (tys : List Ty) (args : List ℕ) (row : Row) (regs : Registers) → RegsFit code w row.after regs → (passes_all depth tys args row).kept.types ≡ true → (passes_all depth tys args row).kept.present ≡ true → AllPassed tys args row regs
-    passing_all [] [] row regs fits e g = record { got = record { values = []; after = regs }; given = refl; has = tt; fits = fits; owned = λ n. omega arith }
-    passing_all [] (a ∷ more) row regs fits e g = let x : ⊥ = cc in absurd x
-    passing_all (ty ∷ tys) [] row regs fits e g = let x : ⊥ = cc in absurd x
-    passing_all (ty ∷ tys) (a ∷ more) row regs fits e g =
-        let kept = passes_kept tys more (passed depth a ty row) e g in
-        let p = passing a ty row regs fits kept.0 kept.1 in
-        let r = passing_all tys more (passed depth a ty row) (after_giving ty a (read regs a) regs) p.fits e g in
-        record {
-          got = record { values = p.value ∷ r.got.values; after = r.got.after };
-          given = ap (λ o. and_then o (give_all tys more (after_giving ty a (read regs a) regs))) p.given ∙ ap (λ o. and_then (Some p.value) o) r.given;
-          has = (p.has, r.has);
-          fits = r.fits;
-          owned = λ n. let x = p.owned n in let y = r.owned n in omega (arith, x, y);
-        }
-
-    -- all values that are taken
-    takes_kept : (tys : List Ty) (args : List ℕ) (row : Row) → (takes_all depth tys args row).kept.types ≡ true → (takes_all depth tys args row).kept.present ≡ true → (row.kept.types ≡ true) × (row.kept.present ≡ true)
-    takes_kept [] [] row e g = (e, g)
-    takes_kept [] (a ∷ more) row e g = let x : ⊥ = cc in absurd x
-    takes_kept (ty ∷ tys) [] row e g = let x : ⊥ = cc in absurd x
-    takes_kept (ty ∷ tys) (a ∷ more) row e g = let x = takes_kept tys more (taken depth a ty row) e g in ((and_parts _ _ x.0).0, (and_parts _ _ x.1).0)
-
-    pub record AllTaken (tys : List Ty) (args : List ℕ) (row : Row) (regs : Registers) : Type 0 where
-      pub got : Read
-      pub given : read_all args regs ≡ Some got
-      pub has : ArgsFit code w tys got.values
-      pub fits : RegsFit code w (takes_all depth tys args row).after got.after
-      pub owned : (n : ℕ) → in_values n got.values + in_regs n got.after ≤ in_regs n regs
-
-    pub taking_all : (tys : List Ty) (args : List ℕ) (row : Row) (regs : Registers) → RegsFit code w row.after regs → (takes_all depth tys args row).kept.types ≡ true → (takes_all depth tys args row).kept.present ≡ true → AllTaken tys args row regs
-    taking_all [] [] row regs fits e g = record { got = record { values = []; after = regs }; given = refl; has = tt; fits = fits; owned = λ n. omega arith }
-    taking_all [] (a ∷ more) row regs fits e g = let x : ⊥ = cc in absurd x
-    taking_all (ty ∷ tys) [] row regs fits e g = let x : ⊥ = cc in absurd x
-    taking_all (ty ∷ tys) (a ∷ more) row regs fits e g =
-        let ok : ((taken depth a ty row).kept.types ≡ true) × ((taken depth a ty row).kept.present ≡ true) = takes_kept tys more (taken depth a ty row) e g in
-        let v = took ty row.after a regs fits (and_parts row.kept.types (has ty (fact_of row.after a)) ok.0).1 (and_parts row.kept.present (is_there (fact_of row.after a)) ok.1).1 in
-        let r = taking_all tys more (taken depth a ty row) (kept a v.value regs) v.fits e g in
-        record {
-          got = record { values = v.value ∷ r.got.values; after = r.got.after };
-          given = ap (λ o. and_then o (read_all more (after_keeping a o regs))) v.is ∙ ap (λ o. and_then (Some v.value) o) r.given;
-          has = (v.has, r.has);
-          fits = r.fits;
-          owned = λ n. let x = v.owned n in let y = r.owned n in omega (arith, x, y);
-        }
-
-pub not_is : (b : Bool) → not b ≡ true → b ≡ false
-not_is false e = refl
-not_is true e = let x : ⊥ = cc in absurd x
-
--- what leads nowhere is no owner's type
-pub not_owned : (ty : Ty) → kind_seen ty ≡ None → is_owned ty ≡ false
-not_owned t.Void e = refl
-not_owned t.Int e = refl
-not_owned t.Truth e = refl
-not_owned t.Text e = refl
-not_owned _ e = let x : ⊥ = cc in absurd x
-
--- ---- frames
-
--- a function of this form has no freeze of its own
-abbrev pub Quiet : Option Form → Type 0
-Quiet (Some Plain) = Unit {0}
-Quiet (Some Destructor) = Unit {0}
-Quiet _ = ⊥
+use Rattle.vale_cert.proofs.Walks.{Stepped, stepped, comes}
+use Rattle.vale_cert.proofs.Arguments.{not_is, not_owned, Took, stays, took, passing, passing_all, AllPassed, passes_kept, taking_all, takes_kept}
+use Rattle.vale_cert.proofs.Standing.{Returns, dest_of, Quiet, ActiveFits, FrameFits, StackFits, stack_later, OwnedBeside, ConfigFits, NextFits, a_trap, with_tick, entered, left_fits, names_it, is_owner, destroying_value, drops_on}
 
 module _ (code : Parts) (facts : List FuncFacts) where
-  -- a function under way, which returns this type: what is known at its place fits its registers
-  pub record ActiveFits (w : World) (result_type : Ty) (f : Active) : Type 0 where
-    pub func : Func
-    pub of : FuncFacts
-    pub found : slice_get code.funcs f.function ≡ Some func
-    pub quiet : Quiet (form_of func.form)
-    pub is_judged : Judged code func of
-    pub returns : func.result ≡ result_type
-    pub known : Known
-    pub fits : RegsFit code w known.regs f.registers
-    pub enters_here : may_enter (label_at of.labels f.place) known ≡ true
-    pub before : List Instr
-    pub rest : List Instr
-    pub split : func.body ≡ before ++ rest
-    pub at : length before ≡ f.place
-    pub inside : f.place < length func.body
-    pub came : Bool
-    pub walks : walk code func of.labels is_judged.base f.place rest came (Some known) ≡ None
-
-  abbrev FrameFits : World → Ty → Frame → Type 0
-  FrameFits w ty (Running f) = ActiveFits w ty f
-  FrameFits w ty (Dropping f) = ty ≡ t.Void
-  FrameFits w ty (Looping f) = ⊥
-  FrameFits w ty (Alone v) = ⊥
-
-  -- each frame fits once it has the value of the one above it, over whatever heap is there then
-  abbrev StackFits : World → Ty → Option ℕ → List Frame → Type 0
-  StackFits w ty dest [] = Unit {0}
-  StackFits w ty dest (f ∷ fs) = (j : Ty) × ((u : World) (o : Option Value) → Later w u → Returns code u ty o → FrameFits u j (resume dest o f)) × StackFits w j (dest_of f) fs
-
-  stack_later : (w u : World) (ty : Ty) (dest : Option ℕ) (fs : List Frame) → Later w u → StackFits w ty dest fs → StackFits u ty dest fs
-  stack_later w u ty dest [] l h = tt
-  stack_later w u ty dest (f ∷ fs) l h = (h.0, (λ x o m r. h.1 x o (later_later w u x l m) r), stack_later w u h.0 (dest_of f) fs l h.2)
-
-  -- each name is owned at most once, and while it lives
-  abbrev OwnedOnce : World → List Frame → Type 0
-  OwnedOnce w fs = (n : ℕ) → in_frames n fs + in_world n w ≤ alive n w
-
-  -- the same, with these names owned beside
-  abbrev OwnedBeside : World → (ℕ → ℕ) → List Frame → Type 0
-  OwnedBeside w beside fs = (n : ℕ) → beside n + in_frames n fs + in_world n w ≤ alive n w
-
-  pub record ConfigFits (c : Config) : Type 0 where
-    pub ty : Ty
-    pub top : FrameFits c.state.world ty c.top
-    pub below : StackFits c.state.world ty (dest_of c.top) c.below
-    pub heap : WorldFits code c.state.world
-    pub owned : OwnedBeside c.state.world (λ n. in_frame n c.top) c.below
-
-  abbrev pub NextFits : Next → Type 0
-  NextFits (On c) = ConfigFits c
-  NextFits (Over end v s) = end ≢ Wrong
-
-  a_trap : (why : TrapKind) (at : Spot) (frames : List Frame) (s : State) → NextFits (trap why at frames s)
-  a_trap why at frames s = λ e. let x : ⊥ = cc in x
-
-  pub with_tick : (s : State) (go : State → Next) → ((u : State) → u.world ≡ s.world → NextFits (go u)) → NextFits (after_tick s go)
-  with_tick s go each = from s.left
-    where
-      from : (n : ℕ) → NextFits (ticked (spend_of n s) s go)
-      from zero = λ e. let x : ⊥ = cc in x
-      from (suc n) = each (record s { left = n; spent = s.spent + 1 }) refl
-
-  with_depth : (more : ℕ) (at : Spot) (frames : List Frame) (s : State) (go : Next) → NextFits go → NextFits (deeper more at frames s go)
-  with_depth more at frames s go fits = from (has_depth more (under frames) s)
-    where
-      from : (b : Bool) → NextFits (if b then go else trap Rattle.vale_base.specs.declared.trap.TrapKind.TheVariants.CallDepth at frames s)
-      from true = fits
-      from false = a_trap _ at frames s
-
-  -- a function that is entered with arguments of its parameters' types
-  begun_fits : Certified code facts → (g : ℕ) (func : Func) (call : FrameAt) (dest : Option ℕ) (vs : List Value) (frames : List Frame) (w : World) (t : State)
-      → t.world ≡ w → slice_get code.funcs g ≡ Some func → Quiet (form_of func.form) → ArgsFit code w func.params vs → StackFits w func.result dest frames
-      → WorldFits code w → OwnedBeside w (λ n. in_values n vs) frames
-      → NextFits (on (Running (record { call = call; function = g; dest = dest; place = 0; registers = registers_for func.registers vs })) frames t)
-  begun_fits cert g func call dest vs frames w t same_world found quiet has below heap owned = record {
-    ty = func.result;
-    top = subst (λ w. ActiveFits w func.result (record { call = call; function = g; dest = dest; place = 0; registers = registers_for func.registers vs })) (sym same_world) top;
-    below = subst (λ w. StackFits w func.result dest frames) (sym same_world) below;
-    heap = subst (λ w. WorldFits code w) (sym same_world) heap;
-    owned = subst (λ w. OwnedBeside w (λ n. in_regs n (registers_for func.registers vs)) frames) (sym same_world) (λ n. let x = owned n in let y = begun_owns n func.registers vs in omega (arith, x, y));
-  }
-    where
-      is : (of : FuncFacts) × Judged code func of
-      is = judged code facts cert g func found
-
-      top : ActiveFits w func.result (record { call = call; function = g; dest = dest; place = 0; registers = registers_for func.registers vs })
-      top = record {
-        func = func;
-        of = is.0;
-        found = found;
-        quiet = quiet;
-        is_judged = is.1;
-        returns = refl;
-        known = entry func is.0;
-        fits = entry_fits code w func.registers _ is.0.live func.params vs has;
-        enters_here = is.1.enters;
-        before = [];
-        rest = func.body;
-        split = refl;
-        at = refl;
-        inside = is.1.some;
-        came = is.1.came;
-        walks = is.1.walks;
-      }
-
-  pub entered : Certified code facts → (g : ℕ) (form : Form) (func : Func) (call : FrameAt) (dest : Option ℕ) (vs : List Value) (frames : List Frame) (s : State)
-      → slice_get code.funcs g ≡ Some func → Quiet (Some form) → Quiet (form_of func.form) → ArgsFit code s.world func.params vs → StackFits s.world func.result dest frames
-      → WorldFits code s.world → OwnedBeside s.world (λ n. in_values n vs) frames
-      → NextFits (enter g form func call dest vs frames s)
-  entered cert g Plain func call dest vs frames s found q quiet has below heap owned =
-      with_depth 1 call.at frames s _ (with_tick s _ (λ u e. begun_fits cert g func call dest vs frames s.world u e found quiet has below heap owned))
-  entered cert g Destructor func call dest vs frames s found q quiet has below heap owned =
-      with_depth 1 call.at frames s _ (with_tick s _ (λ u e. begun_fits cert g func call dest vs frames s.world u e found quiet has below heap owned))
-  entered cert g Pure func call dest vs frames s found q quiet has below heap owned = absurd q
-  entered cert g Iteration func call dest vs frames s found q quiet has below heap owned = absurd q
-
-  -- a frame is left with a value
-  same_dest : (d : Option ℕ) (o : Option Value) (g : Frame) → dest_of g ≡ dest_of (resume d o g)
-  same_dest None o g = refl
-  same_dest (Some to) None g = refl
-  same_dest (Some to) (Some u) (Running x) = refl
-  same_dest (Some to) (Some u) (Dropping x) = refl
-  same_dest (Some to) (Some u) (Looping x) = refl
-  same_dest (Some to) (Some u) (Alone x) = refl
-
-  pub left_fits : (ty : Ty) (dest : Option ℕ) (v : Option Value) (frames : List Frame) (s : State) → StackFits s.world ty dest frames → Returns code s.world ty v → WorldFits code s.world
-      → OwnedBeside s.world (λ n. own_in n v) frames → NextFits (leave frames dest v s)
-  left_fits ty dest v [] s st r heap owned = λ e. let x : ⊥ = cc in x
-  left_fits ty dest v (g ∷ fs) s st r heap owned = record {
-    ty = st.0;
-    top = st.1 s.world v (later_same s.world) r;
-    below = subst (λ d. StackFits s.world st.0 d fs) (same_dest dest v g) st.2;
-    heap = heap;
-    owned = λ n. let x = owned n in let y = resume_owns n dest v g in omega (arith, x, y);
-  }
-
-  -- ---- destruction
-
-  lives_given : (w : World) (n : ℕ) (o : Object) → object_at w n ≡ Some o → n < length w
-  lives_given [] n o e = let x : ⊥ = cc in absurd x
-  lives_given (x ∷ w) zero o e = omega arith
-  lives_given (x ∷ w) (suc n) o e = let y = lives_given w n o e in omega (arith, y)
-
-  pub fits_itself : (kind : Kind) → kind_fits code kind kind ≡ true
-  fits_itself kind = let x : (kind.0 == kind.0) ≡ true = eq-eqb kind.0 kind.0 refl in ap (λ b. b || is_implemented code.impls kind kind) x
-
-  -- a living name fits its object's kind
-  pub names_it : (w : World) (n : ℕ) (o : Object) → object_at w n ≡ Some o → NameFits code w o.kind n
-  names_it w n o e = record {
-    given = lives_given w n o e;
-    fits = λ p h. let is : o ≡ p = cc in subst (λ p. kind_fits code p.kind o.kind ≡ true) is (fits_itself o.kind);
-  }
-
-  void_is : (ty : Ty) → is_void ty ≡ true → ty ≡ t.Void
-  void_is t.Void e = refl
-  void_is _ e = let x : ⊥ = cc in absurd x
-
-  module _ (cert : Certified code facts) (n : ℕ) (o : Object) (at : Spot) (frames : List Frame) (s : State) (lives : object_at s.world n ≡ Some o)
-      (below : StackFits s.world t.Void None frames) (heap : WorldFits code s.world) (owned : OwnedBeside s.world (λ m. same m n) frames) where
-    abbrev call : FrameAt
-    call = drop_frame (kind_text code o.kind) at
-
-    emptying : (u : State) → u.world ≡ died s.world n → NextFits (on (Dropping (record { call = call; rest = o.values })) frames u)
-    emptying u e = record {
-      ty = t.Void;
-      top = refl;
-      below = subst (λ w. StackFits w t.Void None frames) (sym e) (stack_later s.world (died s.world n) t.Void None frames (later_died s.world n) below);
-      heap = subst (λ w. WorldFits code w) (sym e) (died_fits code s.world n (later_died s.world n) heap);
-      owned = subst (λ w. OwnedBeside w (λ m. in_values m o.values) frames) (sym e) (λ m. let a = world_set m s.world n o None lives in let b = alive_died m s.world n o lives in let c = owned m in omega (arith, a, b, c));
-    }
-
-    dies_now : NextFits (destroy_by code None n o at frames s)
-    dies_now = with_depth 1 at frames s _ (with_tick s _ (λ u e. emptying (dies n u) (ap (λ w. died w n) e)))
-
-    takes_it : (ps : List Ty) → takes_owner o.kind.0 ps ≡ true → ArgsFit code s.world ps (Own n ∷ [])
-    takes_it (t.Own kind ∷ []) e = (leading code s.world (t.Own kind) (Own n) kind n refl refl refl (subst (λ k. NameFits code s.world k n) (sym (kind_is kind o.kind e)) (names_it s.world n o lives)), tt)
-    takes_it _ e = let x : ⊥ = cc in absurd x
-
-    abbrev calls_drop : ℕ → Form → Func → Next
-    calls_drop g form func = if_destructor form s (enter g form func call None (Own n ∷ []) frames s)
-
-    by_function : (g : ℕ) (h : Option Func) → slice_get code.funcs g ≡ h → is_destructor_of o.kind.0 h ≡ true → NextFits (with_func h s (calls_drop g))
-    by_function g None q e = let x : ⊥ = cc in absurd x
-    by_function g (Some func) q e =
-        let a = and_parts ((func.form == 3) && takes_owner o.kind.0 func.params) (is_void func.result) e in
-        let b = and_parts (func.form == 3) (takes_owner o.kind.0 func.params) a.0 in
-        let three : func.form ≡ 3 = let x : (func.form == 3) ≡ true = b.0 in grind arith in
-        subst (λ m. NextFits (with_form (form_of m) func s (calls_drop g))) (sym three)
-        (entered cert g Destructor func call None (Own n ∷ []) frames s q tt (subst (λ m. Quiet (form_of m)) (sym three) tt) (takes_it func.params b.1)
-        (subst (λ ty. StackFits s.world ty None frames) (sym (void_is func.result a.1)) below) heap (λ m. let x = owned m in omega (arith, x)))
-
-    by_kind : (info : Option KindInfo) → kind_of code o.kind ≡ info → NextFits (destroy_by code (destructor_in info) n o at frames s)
-    by_kind None q = dies_now
-    by_kind (Some (k.Struct name None fields)) q = dies_now
-    by_kind (Some (k.Interface name methods)) q = dies_now
-    by_kind (Some (k.Array item)) q = dies_now
-    by_kind (Some (k.Struct name (Some g) fields)) q =
-        let a = and_parts (is_text code name && destroys o.kind.0 code.funcs (Some g)) (list_all (field_is_lawful code (reaches code facts cert)) fields) (kind_lawful code facts cert o.kind (k.Struct name (Some g) fields) q) in
-        by_function g (slice_get code.funcs g) refl (and_parts (is_text code name) (destroys o.kind.0 code.funcs (Some g)) a.0).1
-
-    pub destroying : NextFits (destroy_object code (object_of n s) n at frames s)
-    destroying = subst (λ x. NextFits (destroy_object code x n at frames s)) (sym lives) (by_kind (kind_of code o.kind) refl)
-
-  relabelled_fits : (w : World) (from to : Region) → WorldFits code w → WorldFits code (relabelled from to w)
-  relabelled_fits w from to heap n o e =
-      let p = relabelled_each w from to n o e in
-      let f = heap n p.0 p.1 in
-      object_later code w (relabelled from to w) o (later_relabelled w from to)
-      (record {
-        tys = f.tys;
-        cells = ap (λ k. cells_of (kind_of code k) (length o.values)) p.2 ∙ ap (λ vs. cells_of (kind_of code p.0.kind) (length vs)) p.3 ∙ f.cells;
-        values = subst (λ vs. ArgsFit code w f.tys vs) (sym p.3) f.values;
-      })
-
-  abbrev pub is_owner : Value → Bool
-  is_owner (Own n) = true
-  is_owner (Iso n) = true
-  is_owner v = false
-
-  -- an owner or an isolate is destroyed
-  pub destroying_value : Certified code facts → (v : Value) (at : Spot) (frames : List Frame) (s : State) → is_owner v ≡ true → StackFits s.world t.Void None frames → WorldFits code s.world
-      → OwnedBeside s.world (λ m. own m v) frames → NextFits (destroy code v at frames s)
-  destroying_value cert (Own n) at frames s is below heap owned =
-      let one = owned n in let self = same_self n in
-      let o = living_is n s.world (omega (arith, one, self)) in
-      destroying cert n o.0 at frames s o.1 below heap owned
-  destroying_value cert (Iso n) at frames s is below heap owned =
-      let joined = join_isolate n s in
-      let here = Freeze s.regions in
-      let l = later_relabelled s.world (Isolate n) here in
-      let counts : OwnedBeside joined.world (λ m. same m n) frames = λ m. let a = owned m in let b = world_relabelled m s.world (Isolate n) here in let c = alive_relabelled m s.world (Isolate n) here in omega (arith, a, b, c) in
-      let one = counts n in let self = same_self n in
-      let o = living_is n joined.world (omega (arith, one, self)) in
-      destroying cert n o.0 at frames joined o.1 (stack_later s.world joined.world t.Void None frames l below) (relabelled_fits s.world (Isolate n) here heap) counts
-  destroying_value cert _ at frames s is below heap owned = let x : ⊥ = cc in absurd x
-
-  -- the next value of a dead object
-  drops_on : Certified code facts → (vs : List Value) (f : Emptying) (below : List Frame) (s : State) → StackFits s.world t.Void None below → WorldFits code s.world
-      → OwnedBeside s.world (λ m. in_values m vs) below → NextFits (drop_rest code (first_owned vs) f below s)
-  drops_on cert [] f below s st heap owned = left_fits t.Void None None below s st refl heap (λ m. let x = owned m in omega (arith, x))
-  drops_on cert (Own n ∷ vs) f below s st heap owned =
-      destroying_value cert (Own n) f.call.at (Dropping (record f { rest = vs }) ∷ below) s refl (t.Void, (λ u o l r. refl), st) heap (λ m. let x = owned m in omega (arith, x))
-  drops_on cert (Iso n ∷ vs) f below s st heap owned =
-      destroying_value cert (Iso n) f.call.at (Dropping (record f { rest = vs }) ∷ below) s refl (t.Void, (λ u o l r. refl), st) heap (λ m. let x = owned m in omega (arith, x))
-  drops_on cert (Int z ∷ vs) f below s st heap owned = drops_on cert vs f below s st heap (λ m. let x = owned m in omega (arith, x))
-  drops_on cert (Truth b ∷ vs) f below s st heap owned = drops_on cert vs f below s st heap (λ m. let x = owned m in omega (arith, x))
-  drops_on cert (Text b ∷ vs) f below s st heap owned = drops_on cert vs f below s st heap (λ m. let x = owned m in omega (arith, x))
-  drops_on cert (Ref n ∷ vs) f below s st heap owned = drops_on cert vs f below s st heap (λ m. let x = owned m in omega (arith, x))
-
   -- ---- one instruction
 
-  module _ (last : Config → State) (ty : Ty) (f : Active) (below : List Frame) (s : State) (F : ActiveFits s.world ty f) (under_it : StackFits s.world ty f.dest below)
-      (heap : WorldFits code s.world) (owned : OwnedBeside s.world (λ n. in_regs n f.registers) below) where
+  module _ (last : Config → State) (ty : Ty) (f : Active) (below : List Frame) (s : State) (F : ActiveFits code facts s.world ty f) (under_it : StackFits code facts s.world ty f.dest below)
+      (heap : WorldFits code s.world) (owned : OwnedBeside code facts s.world (λ n. in_regs n f.registers) below) where
     module _ (instr : Instr) (instrs : List Instr) (here : F.rest ≡ instr ∷ instrs) (S : Stepped code F.func F.of.labels F.is_judged.base f.place instr instrs (Some F.known)) where
       abbrev row : Row
       row = row_of code F.func F.of.labels F.is_judged.base instr S.known
@@ -535,7 +79,7 @@ module _ (code : Parts) (facts : List FuncFacts) where
               subst (λ x. RegsFit code s.world x.regs f.registers) same (agree_fits code s.world l.regs F.known.regs f.registers (and_parts _ _ e).1 F.fits)
 
       -- the next instruction of the same function
-      next_active : goes_on instr ≡ true → (w : World) (regs : Registers) → RegsFit code w row.after regs → ActiveFits w ty (record f { place = f.place + 1; registers = regs })
+      next_active : goes_on instr ≡ true → (w : World) (regs : Registers) → RegsFit code w row.after regs → ActiveFits code facts w ty (record f { place = f.place + 1; registers = regs })
       next_active on w regs fits = record {
         func = F.func;
         of = F.of;
@@ -562,18 +106,18 @@ module _ (code : Parts) (facts : List FuncFacts) where
           known_next = ap (λ b. if b then Some (after code F.func F.of.labels F.is_judged.base instr S.known) else None) on
 
       -- on over a later heap
-      goes : goes_on instr ≡ true → (regs : Registers) (u : State) → RegsFit code u.world row.after regs → Later s.world u.world → WorldFits code u.world → OwnedBeside u.world (λ n. in_regs n regs) below → NextFits (onward f regs below u)
-      goes on regs u fits later heap owned = record { ty = ty; top = next_active on u.world regs fits; below = stack_later s.world u.world ty f.dest below later under_it; heap = heap; owned = owned }
+      goes : goes_on instr ≡ true → (regs : Registers) (u : State) → RegsFit code u.world row.after regs → Later s.world u.world → WorldFits code u.world → OwnedBeside code facts u.world (λ n. in_regs n regs) below → NextFits code facts (onward f regs below u)
+      goes on regs u fits later heap owned = record { ty = ty; top = next_active on u.world regs fits; below = stack_later code facts s.world u.world ty f.dest below later under_it; heap = heap; owned = owned }
 
       -- on over the same heap, with nothing owned that wasn't
-      stays_on : goes_on instr ≡ true → (regs : Registers) (u : State) → u.world ≡ s.world → RegsFit code s.world row.after regs → ((n : ℕ) → in_regs n regs ≤ in_regs n f.registers) → NextFits (onward f regs below u)
+      stays_on : goes_on instr ≡ true → (regs : Registers) (u : State) → u.world ≡ s.world → RegsFit code s.world row.after regs → ((n : ℕ) → in_regs n regs ≤ in_regs n f.registers) → NextFits code facts (onward f regs below u)
       stays_on on regs u e fits fewer =
           goes on regs u (subst (λ w. RegsFit code w row.after regs) (sym e) fits) (subst (λ w. Later s.world w) (sym e) (later_same s.world)) (subst (λ w. WorldFits code w) (sym e) heap)
-          (subst (λ w. OwnedBeside w (λ n. in_regs n regs) below) (sym e) (λ n. let x = owned n in let y = fewer n in omega (arith, x, y)))
+          (subst (λ w. OwnedBeside code facts w (λ n. in_regs n regs) below) (sym e) (λ n. let x = owned n in let y = fewer n in omega (arith, x, y)))
 
       -- a value that owns nothing comes into a register, over these known registers
       results : goes_on instr ≡ true → (K : List RegFact) → RegsFit code s.world K f.registers → (result : Ty) (to depth : ℕ) (live : Bool) (v : Value) (u : State) → row.after ≡ slice_set K to (Held result depth live)
-          → Has code s.world result v → ((n : ℕ) → own n v ≡ 0) → u.world ≡ s.world → NextFits (onward f (put f.registers to (Some v)) below u)
+          → Has code s.world result v → ((n : ℕ) → own n v ≡ 0) → u.world ≡ s.world → NextFits code facts (onward f (put f.registers to (Some v)) below u)
       results on K fits result to depth live v u e has none same_world =
           stays_on on (put f.registers to (Some v)) u same_world
           (subst (λ x. RegsFit code s.world x (put f.registers to (Some v))) (sym e) (put_fits code s.world K f.registers to (Held result depth live) (Some v) (v, refl, has) fits))
@@ -581,39 +125,39 @@ module _ (code : Parts) (facts : List FuncFacts) where
 
       -- the same of a number, a truth or a text
       plain_result : goes_on instr ≡ true → (result : Ty) (to depth : ℕ) (v : Value) (u : State) → row.after ≡ slice_set S.known.regs to (Held result depth false) → kind_seen result ≡ None → value_has result v ≡ true → u.world ≡ s.world
-          → NextFits (onward f (put f.registers to (Some v)) below u)
+          → NextFits code facts (onward f (put f.registers to (Some v)) below u)
       plain_result on result to depth v u e none h same_world =
           results on S.known.regs fits_here result to depth false v u e (has_plain code s.world result v none h) (λ n. owns_nothing n result v (not_owned result none) h) same_world
 
-      answering : goes_on instr ≡ true → (result : Ty) (to depth : ℕ) (at : Spot) (a : Answer) → row.after ≡ slice_set S.known.regs to (Held result depth false) → kind_seen result ≡ None → Answers s.world result a → NextFits (answered f (Some to) f.registers at below s a)
+      answering : goes_on instr ≡ true → (result : Ty) (to depth : ℕ) (at : Spot) (a : Answer) → row.after ≡ slice_set S.known.regs to (Held result depth false) → kind_seen result ≡ None → Answers s.world result a → NextFits code facts (answered f (Some to) f.registers at below s a)
       answering on result to depth at (gives None u) e none h = absurd h
       answering on result to depth at (gives (Some v) u) e none h = plain_result on result to depth v u e none h.0 h.1
-      answering on result to depth at (traps why) e none h = a_trap why at (Running f ∷ below) s
+      answering on result to depth at (traps why) e none h = a_trap code facts why at (Running f ∷ below) s
       answering on result to depth at fails e none h = absurd h
 
-      surely : goes_on instr ≡ true → (result : Ty) (to depth : ℕ) (a : Answer) → row.after ≡ slice_set S.known.regs to (Held result depth false) → kind_seen result ≡ None → Surely s.world result a → NextFits (certain f (Some to) f.registers below s a)
+      surely : goes_on instr ≡ true → (result : Ty) (to depth : ℕ) (a : Answer) → row.after ≡ slice_set S.known.regs to (Held result depth false) → kind_seen result ≡ None → Surely s.world result a → NextFits code facts (certain f (Some to) f.registers below s a)
       surely on result to depth (gives None u) e none h = absurd h
       surely on result to depth (gives (Some v) u) e none h = plain_result on result to depth v u e none h.0 h.1
       surely on result to depth (traps why) e none h = absurd h
       surely on result to depth fails e none h = absurd h
 
-      setting : goes_on instr ≡ true → (result : Ty) (to depth : ℕ) (v : Value) → row.after ≡ slice_set S.known.regs to (Held result depth false) → kind_seen result ≡ None → value_has result v ≡ true → NextFits (onward f (put f.registers to (Some v)) below s)
+      setting : goes_on instr ≡ true → (result : Ty) (to depth : ℕ) (v : Value) → row.after ≡ slice_set S.known.regs to (Held result depth false) → kind_seen result ≡ None → value_has result v ≡ true → NextFits code facts (onward f (put f.registers to (Some v)) below s)
       setting on result to depth v e none h = plain_result on result to depth v s e none h refl
 
-      nothing : goes_on instr ≡ true → (a : Answer) → row.after ≡ S.known.regs → SurelyNothing s.world a → NextFits (certain f None f.registers below s a)
+      nothing : goes_on instr ≡ true → (a : Answer) → row.after ≡ S.known.regs → SurelyNothing s.world a → NextFits code facts (certain f None f.registers below s a)
       nothing on (gives None u) e h = stays_on on f.registers u h (subst (λ x. RegsFit code s.world x f.registers) (sym e) fits_here) (λ n. omega arith)
       nothing on (gives (Some v) u) e h = absurd h
       nothing on (traps why) e h = absurd h
       nothing on fails e h = absurd h
 
       -- a value that is read
-      reading : (a : ℕ) (of : Ty) (go : Value → Next) → has of (fact_of S.known.regs a) ≡ true → is_there (fact_of S.known.regs a) ≡ true → ((v : Value) → Has code s.world of v → NextFits (go v)) → NextFits (with_value (read f.registers a) s go)
+      reading : (a : ℕ) (of : Ty) (go : Value → Next) → has of (fact_of S.known.regs a) ≡ true → is_there (fact_of S.known.regs a) ≡ true → ((v : Value) → Has code s.world of v → NextFits code facts (go v)) → NextFits code facts (with_value (read f.registers a) s go)
       reading a of go e there each =
           let v = reg_value code s.world S.known.regs f.registers a of fits_here e there in
-          subst (λ o. NextFits (with_value o s go)) (sym v.1) (each v.0 v.2)
+          subst (λ o. NextFits code facts (with_value o s go)) (sym v.1) (each v.0 v.2)
 
       -- a jump to a label
-      landing : (q : ℕ) (u : State) → u.world ≡ s.world → target_of instr ≡ Some q → row.after ≡ S.known.regs → NextFits (at_place f q below u)
+      landing : (q : ℕ) (u : State) → u.world ≡ s.world → target_of instr ≡ Some q → row.after ≡ S.known.regs → NextFits code facts (at_place f q below u)
       landing q u same_world target e = from (label_at F.of.labels q) refl
         where
           is_there_label : is_label (label_at F.of.labels q) ≡ true
@@ -629,7 +173,7 @@ module _ (code : Parts) (facts : List FuncFacts) where
               subst (λ x. Rattle.vale_cert.specs.Walk.if_known code F.func F.of.labels F.is_judged.base q x (λ known. Rattle.vale_cert.specs.Walk.or_else (Rattle.vale_cert.specs.Walk.fault_of (F.is_judged.base + q) (Rattle.vale_cert.specs.Walk.broken (Rattle.vale_cert.specs.Walk.rules code F.func F.of.labels F.is_judged.base q came i known))) (walk code F.func F.of.labels F.is_judged.base (q + 1) is true (known_after code F.func F.of.labels F.is_judged.base i known))) ≡ None)
               (ap (λ x. stated x o) g ∙ sym (ap (λ x. stated x (Some (after code F.func F.of.labels F.is_judged.base instr S.known))) g)) w
 
-          from : (o : Option Label) → label_at F.of.labels q ≡ o → NextFits (at_place f q below u)
+          from : (o : Option Label) → label_at F.of.labels q ≡ o → NextFits code facts (at_place f q below u)
           from None g = absurd (let x : is_label None ≡ true = subst (λ o. is_label o ≡ true) g is_there_label in let y : ⊥ = cc in y)
           from (Some l) g =
               let inside = F.is_judged.within q l g in
@@ -654,26 +198,26 @@ module _ (code : Parts) (facts : List FuncFacts) where
                   came = c.came;
                   walks = again c.rest c.came c.known c.walks l g;
                 };
-                below = subst (λ w. StackFits w ty f.dest below) (sym same_world) under_it;
+                below = subst (λ w. StackFits code facts w ty f.dest below) (sym same_world) under_it;
                 heap = subst (λ w. WorldFits code w) (sym same_world) heap;
-                owned = subst (λ w. OwnedBeside w (λ n. in_regs n f.registers) below) (sym same_world) owned;
+                owned = subst (λ w. OwnedBeside code facts w (λ n. in_regs n f.registers) below) (sym same_world) owned;
               }
 
-      jumping : (q : ℕ) → target_of instr ≡ Some q → row.after ≡ S.known.regs → NextFits (jump code f q below s)
+      jumping : (q : ℕ) → target_of instr ≡ Some q → row.after ≡ S.known.regs → NextFits code facts (jump code f q below s)
       jumping q target e = from (is_free code f q)
         where
-          from : (b : Bool) → NextFits (jump_by b f q below s)
+          from : (b : Bool) → NextFits code facts (jump_by b f q below s)
           from true = landing q s refl target e
-          from false = with_tick s _ (λ u same_world. landing q u same_world target e)
+          from false = with_tick code facts s _ (λ u same_world. landing q u same_world target e)
 
       -- leaving the function
-      leaving : (v : Option Value) → Returns code s.world F.func.result v → ((n : ℕ) → own_in n v ≤ in_regs n f.registers) → NextFits (function code f.function s (λ form func. leave_function form f.dest v below s))
-      leaving v h fewer = subst (λ o. NextFits (with_func o s (λ form func. leave_function form f.dest v below s))) (sym F.found) (by_form (form_of F.func.form) F.quiet)
+      leaving : (v : Option Value) → Returns code s.world F.func.result v → ((n : ℕ) → own_in n v ≤ in_regs n f.registers) → NextFits code facts (function code f.function s (λ form func. leave_function form f.dest v below s))
+      leaving v h fewer = subst (λ o. NextFits code facts (with_func o s (λ form func. leave_function form f.dest v below s))) (sym F.found) (by_form (form_of F.func.form) F.quiet)
         where
-          left : NextFits (leave below f.dest v s)
-          left = left_fits ty f.dest v below s under_it (subst (λ r. Returns code s.world r v) F.returns h) heap (λ n. let x = owned n in let y = fewer n in omega (arith, x, y))
+          left : NextFits code facts (leave below f.dest v s)
+          left = left_fits code facts ty f.dest v below s under_it (subst (λ r. Returns code s.world r v) F.returns h) heap (λ n. let x = owned n in let y = fewer n in omega (arith, x, y))
 
-          by_form : (o : Option Form) → Quiet o → NextFits (with_form o F.func s (λ form func. leave_function form f.dest v below s))
+          by_form : (o : Option Form) → Quiet o → NextFits code facts (with_form o F.func s (λ form func. leave_function form f.dest v below s))
           by_form (Some Plain) q = left
           by_form (Some Destructor) q = left
           by_form (Some Pure) q = absurd q
@@ -691,14 +235,14 @@ module _ (code : Parts) (facts : List FuncFacts) where
             enter g form callee (frame_of callee) (result_to callee.result to) vs (behind f regs ∷ below) s))
 
         -- the result of the callee comes back
-        back : (rt : Ty) (R : Row) (regs : Registers) (w : World) (o : Option Value) → row.after ≡ (comes_back S.known.depth rt to R).after → RegsFit code w R.after regs → Returns code w rt o → FrameFits w ty (resume (result_to rt to) o (behind f regs))
+        back : (rt : Ty) (R : Row) (regs : Registers) (w : World) (o : Option Value) → row.after ≡ (comes_back S.known.depth rt to R).after → RegsFit code w R.after regs → Returns code w rt o → FrameFits code facts w ty (resume (result_to rt to) o (behind f regs))
         back t.Void R regs w o e fits h = next_active on_to w regs (subst (λ x. RegsFit code w x regs) (sym e) fits)
         back rt R regs w o e fits h =
-            subst (λ o. FrameFits w ty (resume (Some to) o (behind f regs))) (sym h.1)
+            subst (λ o. FrameFits code facts w ty (resume (Some to) o (behind f regs))) (sym h.1)
             (next_active on_to w (put regs to (Some h.0)) (subst (λ x. RegsFit code w x (put regs to (Some h.0))) (sym e) (put_fits code w R.after regs to (Held rt S.known.depth false) (Some h.0) (h.0, refl, h.2) fits)))
 
         -- the frame that waits for it
-        waiting : (rt : Ty) (R : Row) (regs : Registers) → row.after ≡ (comes_back S.known.depth rt to R).after → RegsFit code s.world R.after regs → StackFits s.world rt (result_to rt to) (behind f regs ∷ below)
+        waiting : (rt : Ty) (R : Row) (regs : Registers) → row.after ≡ (comes_back S.known.depth rt to R).after → RegsFit code s.world R.after regs → StackFits code facts s.world rt (result_to rt to) (behind f regs ∷ below)
         waiting rt R regs e fits = (ty, (λ w o l h. back rt R regs w o e (regs_later code s.world w R.after regs l fits) h), under_it)
 
         back_kept : (rt : Ty) (R : Row) → (comes_back S.known.depth rt to R).kept.types ≡ true → (comes_back S.known.depth rt to R).kept.present ≡ true → (R.kept.types ≡ true) × (R.kept.present ≡ true)
@@ -709,20 +253,20 @@ module _ (code : Parts) (facts : List FuncFacts) where
             → (comes_back S.known.depth callee.result to (passes_all S.known.depth callee.params args (all_fine S.known.regs))).kept.types ≡ true
             → (comes_back S.known.depth callee.result to (passes_all S.known.depth callee.params args (all_fine S.known.regs))).kept.present ≡ true
             → row.after ≡ (comes_back S.known.depth callee.result to (passes_all S.known.depth callee.params args (all_fine S.known.regs))).after
-            → NextFits (with_form (form_of callee.form) callee s calls_it)
+            → NextFits code facts (with_form (form_of callee.form) callee s calls_it)
         called_plain callee found plain e h same =
             let kept = back_kept callee.result (passes_all S.known.depth callee.params args (all_fine S.known.regs)) e h in
             let p = passing_all code s.world S.known.depth callee.params args (all_fine S.known.regs) f.registers fits_here kept.0 kept.1 in
-            subst (λ n. NextFits (with_form (form_of n) callee s calls_it)) (sym plain)
-            (subst (λ o. NextFits (with_read o s (λ vs regs. enter g Plain callee (frame_of callee) (result_to callee.result to) vs (behind f regs ∷ below) s))) (sym p.given)
-            (entered cert g Plain callee (frame_of callee) (result_to callee.result to) p.got.values (behind f p.got.after ∷ below) s found tt (subst (λ n. Quiet (form_of n)) (sym plain) tt) p.has
+            subst (λ n. NextFits code facts (with_form (form_of n) callee s calls_it)) (sym plain)
+            (subst (λ o. NextFits code facts (with_read o s (λ vs regs. enter g Plain callee (frame_of callee) (result_to callee.result to) vs (behind f regs ∷ below) s))) (sym p.given)
+            (entered code facts cert g Plain callee (frame_of callee) (result_to callee.result to) p.got.values (behind f p.got.after ∷ below) s found tt (subst (λ n. Quiet (form_of n)) (sym plain) tt) p.has
             (waiting callee.result (passes_all S.known.depth callee.params args (all_fine S.known.regs)) p.got.after same p.fits) heap (λ n. let x = p.owned n in let y = owned n in omega (arith, x, y))))
 
         by_form : (callee : Func) (b : Bool) → (callee.form == 0) ≡ b → slice_get code.funcs g ≡ Some callee
             → (rules.call_by_form b S.known.depth S.known.regs callee to args).kept.types ≡ true
             → (rules.call_by_form b S.known.depth S.known.regs callee to args).kept.present ≡ true
             → row.after ≡ (rules.call_by_form b S.known.depth S.known.regs callee to args).after
-            → NextFits (with_form (form_of callee.form) callee s calls_it)
+            → NextFits code facts (with_form (form_of callee.form) callee s calls_it)
         by_form callee false q found e h same = let x : ⊥ = cc in absurd x
         by_form callee true q found e h same = called_plain callee found (let x : callee.form ≡ 0 = grind arith in x) e h same
 
@@ -730,7 +274,7 @@ module _ (code : Parts) (facts : List FuncFacts) where
             → (rules.calls S.known.depth S.known.regs o to args).kept.types ≡ true
             → (rules.calls S.known.depth S.known.regs o to args).kept.present ≡ true
             → row.after ≡ (rules.calls S.known.depth S.known.regs o to args).after
-            → NextFits (with_func o s calls_it)
+            → NextFits code facts (with_func o s calls_it)
         calling None found e h same = let x : ⊥ = cc in absurd x
         calling (Some callee) found e h same = by_form callee (callee.form == 0) refl found e h same
 
@@ -786,7 +330,7 @@ module _ (code : Parts) (facts : List FuncFacts) where
 
       -- what was written of an object that lives
       writes : goes_on instr ≡ true → (n : ℕ) (o : Object) (vs : List Value) (regs : Registers) → object_at s.world n ≡ Some o → ObjectFits code s.world (record o { values = vs }) → RegsFit code s.world row.after regs
-          → ((m : ℕ) → in_regs m regs + in_values m vs ≤ in_regs m f.registers + in_values m o.values) → NextFits (onward f regs below (changed n o vs s))
+          → ((m : ℕ) → in_regs m regs + in_values m vs ≤ in_regs m f.registers + in_values m o.values) → NextFits code facts (onward f regs below (changed n o vs s))
       writes on n o vs regs lives new fits fewer =
           let later = later_written s.world n o vs lives in
           goes on regs (changed n o vs s) (regs_later code s.world (written s.world n (record o { values = vs })) row.after regs later fits) later
@@ -806,7 +350,7 @@ module _ (code : Parts) (facts : List FuncFacts) where
       -- a value that was read of a cell
       sees : goes_on instr ≡ true → (K : List RegFact) → RegsFit code s.world K f.registers → (frozen : Bool) (c : Option Ty) (u : Ty) (to : ℕ) (kept : Kept) (v : Value) → c ≡ Some u
           → (reads_cell S.known.depth frozen c to (record { kept = kept; after = K })).kept.types ≡ true → row.after ≡ (reads_cell S.known.depth frozen c to (record { kept = kept; after = K })).after
-          → Has code s.world u v → NextFits (onward f (put f.registers to (Some (lent v))) below s)
+          → Has code s.world u v → NextFits code facts (onward f (put f.registers to (Some (lent v))) below s)
       sees on K fits frozen c u to kept v is e after has =
           let ok : (reads_cell S.known.depth frozen (Some u) to (record { kept = kept; after = K })).kept.types ≡ true = subst (λ c. (reads_cell S.known.depth frozen c to (record { kept = kept; after = K })).kept.types ≡ true) is e in
           let seen_it = seen_has code s.world frozen u v (and_parts kept.types (frozen || not (is_isolate u)) ok).1 has in
@@ -816,7 +360,7 @@ module _ (code : Parts) (facts : List FuncFacts) where
           → (reads_own (field_of code field) S.known.depth S.known.regs to a (leads_as_owner (field_of code field) S.known.depth (fact_of S.known.regs a))).kept.types ≡ true
           → (reads_own (field_of code field) S.known.depth S.known.regs to a (leads_as_owner (field_of code field) S.known.depth (fact_of S.known.regs a))).kept.present ≡ true
           → row.after ≡ (reads_own (field_of code field) S.known.depth S.known.regs to a (leads_as_owner (field_of code field) S.known.depth (fact_of S.known.regs a))).after
-          → NextFits (with_owner (read f.registers a) s (λ n. certain f (Some to) f.registers below s (load field (Own n) s)))
+          → NextFits code facts (with_owner (read f.registers a) s (λ n. certain f (Some to) f.registers below s (load field (Own n) s)))
       load_own cert on to a field e g after =
           let K = leads_as_owner (field_of code field) S.known.depth (fact_of S.known.regs a) in
           let c = cell_by (field_of code field) (owner_kind (fact_of S.known.regs a)) in
@@ -824,9 +368,9 @@ module _ (code : Parts) (facts : List FuncFacts) where
           let w = owner_found (cell_by (field_of code field)) a (is_usable S.known.depth (fact_of S.known.regs a)) refl (cell_types S.known.depth false c to R e) (cell_present S.known.depth false c to R g) in
           let at = struct_at code facts cert s.world heap field w.kind w.cell w.name w.object w.cell_of w.names w.lives in
           let v = cell_there code s.world at.tys w.object.values field w.cell at.values at.at_field in
-          subst (λ o. NextFits (with_owner o s (λ n. certain f (Some to) f.registers below s (load field (Own n) s)))) (sym w.is)
-          (subst (λ x. NextFits (certain f (Some to) f.registers below s (on_object (found_or_dead w.name x) (λ n o. field_in (slice_get o.values field) s)))) (sym w.lives)
-          (subst (λ x. NextFits (certain f (Some to) f.registers below s (field_in x s))) (sym v.1)
+          subst (λ o. NextFits code facts (with_owner o s (λ n. certain f (Some to) f.registers below s (load field (Own n) s)))) (sym w.is)
+          (subst (λ x. NextFits code facts (certain f (Some to) f.registers below s (on_object (found_or_dead w.name x) (λ n o. field_in (slice_get o.values field) s)))) (sym w.lives)
+          (subst (λ x. NextFits code facts (certain f (Some to) f.registers below s (field_in x s))) (sym v.1)
           (sees on S.known.regs fits_here false c w.cell to K v.0 w.cell_is e after v.2)))
 
       -- ---- what is read through a reference
@@ -835,19 +379,19 @@ module _ (code : Parts) (facts : List FuncFacts) where
       read_found via cells a usable follows none e there = led code s.world via cells (fact_of S.known.regs a) (read f.registers a) follows none e there (fits_here.each a)
 
       -- a step on an object that may be dead
-      on_name : (to : Option ℕ) (regs : Registers) (at : Spot) (v : Value) (n : ℕ) (go : ℕ → Object → Answer) → name_of v ≡ Some n → ((o : Object) → object_at s.world n ≡ Some o → NextFits (answered f to regs at below s (go n o)))
-          → NextFits (answered f to regs at below s (with_object v s go))
-      on_name to regs at v n go e each = subst (λ x. NextFits (answered f to regs at below s (on_object (look_up x s) go))) (sym e) (from (object_at s.world n) refl)
+      on_name : (to : Option ℕ) (regs : Registers) (at : Spot) (v : Value) (n : ℕ) (go : ℕ → Object → Answer) → name_of v ≡ Some n → ((o : Object) → object_at s.world n ≡ Some o → NextFits code facts (answered f to regs at below s (go n o)))
+          → NextFits code facts (answered f to regs at below s (with_object v s go))
+      on_name to regs at v n go e each = subst (λ x. NextFits code facts (answered f to regs at below s (on_object (look_up x s) go))) (sym e) (from (object_at s.world n) refl)
         where
-          from : (x : Option Object) → object_at s.world n ≡ x → NextFits (answered f to regs at below s (on_object (found_or_dead n x) go))
-          from None q = a_trap _ at (Running f ∷ below) s
+          from : (x : Option Object) → object_at s.world n ≡ x → NextFits code facts (answered f to regs at below s (on_object (found_or_dead n x) go))
+          from None q = a_trap code facts _ at (Running f ∷ below) s
           from (Some o) q = each o q
 
       load_found : Certified code facts → goes_on instr ≡ true → (to a field : ℕ) (at : Spot)
           → (reads_found (field_of code field) S.known.depth S.known.regs to a (leads_to_read (field_of code field) S.known.depth (fact_of S.known.regs a))).kept.types ≡ true
           → (reads_found (field_of code field) S.known.depth S.known.regs to a (leads_to_read (field_of code field) S.known.depth (fact_of S.known.regs a))).kept.present ≡ true
           → row.after ≡ (reads_found (field_of code field) S.known.depth S.known.regs to a (leads_to_read (field_of code field) S.known.depth (fact_of S.known.regs a))).after
-          → NextFits (with_value (read f.registers a) s (λ v. answered f (Some to) f.registers at below s (load field v s)))
+          → NextFits code facts (with_value (read f.registers a) s (λ v. answered f (Some to) f.registers at below s (load field v s)))
       load_found cert on to a field at e g after =
           let fact = fact_of S.known.regs a in
           let frozen = is_through_frozen S.known.depth fact in
@@ -855,40 +399,40 @@ module _ (code : Parts) (facts : List FuncFacts) where
           let c = cell_by (field_of code field) (read_kind S.known.depth fact) in
           let R : Row = record { kept = K; after = finds_alive S.known.depth S.known.regs a } in
           let w = read_found (read_kind S.known.depth) (cell_by (field_of code field)) a (is_readable S.known.depth fact) (follows_read S.known.depth) refl (cell_types S.known.depth frozen c to R e) (cell_present S.known.depth frozen c to R g) in
-          subst (λ o. NextFits (with_value o s (λ v. answered f (Some to) f.registers at below s (load field v s)))) (sym w.reads)
+          subst (λ o. NextFits code facts (with_value o s (λ v. answered f (Some to) f.registers at below s (load field v s)))) (sym w.reads)
           (on_name (Some to) f.registers at w.value w.name (λ n o. field_in (slice_get o.values field) s) w.named (λ o lives.
           let st = struct_at code facts cert s.world heap field w.kind w.cell w.name o w.cell_of w.names lives in
           let v = cell_there code s.world st.tys o.values field w.cell st.values st.at_field in
-          subst (λ x. NextFits (answered f (Some to) f.registers at below s (field_in x s))) (sym v.1)
+          subst (λ x. NextFits code facts (answered f (Some to) f.registers at below s (field_in x s))) (sym v.1)
           (sees on (finds_alive S.known.depth S.known.regs a) (found_fits a) frozen c w.cell to K v.0 w.cell_is e after v.2)))
 
       len_found : Certified code facts → goes_on instr ≡ true → (to a : ℕ) (at : Spot) → (leads_to_read (item_of code) S.known.depth (fact_of S.known.regs a)).types ≡ true → is_there (fact_of S.known.regs a) ≡ true
           → row.after ≡ slice_set (finds_alive S.known.depth S.known.regs a) to (Held t.Int S.known.depth false)
-          → NextFits (with_value (read f.registers a) s (λ v. answered f (Some to) f.registers at below s (array_length v s)))
+          → NextFits code facts (with_value (read f.registers a) s (λ v. answered f (Some to) f.registers at below s (array_length v s)))
       len_found cert on to a at e there after =
           let fact = fact_of S.known.regs a in
           let w = read_found (read_kind S.known.depth) (cell_by (item_of code)) a (is_readable S.known.depth fact) (follows_read S.known.depth) refl e there in
-          subst (λ o. NextFits (with_value o s (λ v. answered f (Some to) f.registers at below s (array_length v s)))) (sym w.reads)
+          subst (λ o. NextFits code facts (with_value o s (λ v. answered f (Some to) f.registers at below s (array_length v s)))) (sym w.reads)
           (on_name (Some to) f.registers at w.value w.name (λ n o. gives (Some (Int (pos (length o.values)))) s) w.named (λ o lives.
           results on (finds_alive S.known.depth S.known.regs a) (found_fits a) t.Int to S.known.depth false (Int (pos (length o.values))) s after (has_plain code s.world t.Int (Int (pos (length o.values))) refl refl) (λ n. refl) refl))
 
       -- an element at an index: it is there, or the run traps
       element_fits : (through : Answer → Answer) → ((v : Value) (u : State) → through (gives (Some v) u) ≡ gives (Some v) u) → through (traps IndexOutOfRange) ≡ traps IndexOutOfRange
-          → (to : ℕ) (at : Spot) (u : Value) (o : Object) → value_has t.Int u ≡ true → ((i : ℕ) (v : Value) → slice_get o.values i ≡ Some v → NextFits (onward f (put f.registers to (Some (lent v))) below s))
-          → NextFits (answered f (Some to) f.registers at below s (through (element_at u o s)))
+          → (to : ℕ) (at : Spot) (u : Value) (o : Object) → value_has t.Int u ≡ true → ((i : ℕ) (v : Value) → slice_get o.values i ≡ Some v → NextFits code facts (onward f (put f.registers to (Some (lent v))) below s))
+          → NextFits code facts (answered f (Some to) f.registers at below s (through (element_at u o s)))
       element_fits through gives_same traps_same to at (Int (pos i)) o e each = from (slice_get o.values i) refl
         where
-          from : (x : Option Value) → slice_get o.values i ≡ x → NextFits (answered f (Some to) f.registers at below s (through (element_in x s)))
-          from None q = subst (λ x. NextFits (answered f (Some to) f.registers at below s x)) (sym traps_same) (a_trap IndexOutOfRange at (Running f ∷ below) s)
-          from (Some v) q = subst (λ x. NextFits (answered f (Some to) f.registers at below s x)) (sym (gives_same (lent v) s)) (each i v q)
-      element_fits through gives_same traps_same to at (Int (negsuc i)) o e each = subst (λ x. NextFits (answered f (Some to) f.registers at below s x)) (sym traps_same) (a_trap IndexOutOfRange at (Running f ∷ below) s)
+          from : (x : Option Value) → slice_get o.values i ≡ x → NextFits code facts (answered f (Some to) f.registers at below s (through (element_in x s)))
+          from None q = subst (λ x. NextFits code facts (answered f (Some to) f.registers at below s x)) (sym traps_same) (a_trap code facts IndexOutOfRange at (Running f ∷ below) s)
+          from (Some v) q = subst (λ x. NextFits code facts (answered f (Some to) f.registers at below s x)) (sym (gives_same (lent v) s)) (each i v q)
+      element_fits through gives_same traps_same to at (Int (negsuc i)) o e each = subst (λ x. NextFits code facts (answered f (Some to) f.registers at below s x)) (sym traps_same) (a_trap code facts IndexOutOfRange at (Running f ∷ below) s)
       element_fits through gives_same traps_same to at _ o e each = let x : ⊥ = cc in absurd x
 
       elem_own : Certified code facts → goes_on instr ≡ true → (to a x : ℕ) (at : Spot)
           → (reads_own (item_of code) S.known.depth S.known.regs to a (reads S.known.regs x t.Int (leads_as_owner (item_of code) S.known.depth (fact_of S.known.regs a)))).kept.types ≡ true
           → (reads_own (item_of code) S.known.depth S.known.regs to a (reads S.known.regs x t.Int (leads_as_owner (item_of code) S.known.depth (fact_of S.known.regs a)))).kept.present ≡ true
           → row.after ≡ (reads_own (item_of code) S.known.depth S.known.regs to a (reads S.known.regs x t.Int (leads_as_owner (item_of code) S.known.depth (fact_of S.known.regs a)))).after
-          → NextFits (with_owner (read f.registers a) s (λ n. with_value (read f.registers x) s (λ u. answered f (Some to) f.registers at below s (of_living (element (Own n) u s)))))
+          → NextFits code facts (with_owner (read f.registers a) s (λ n. with_value (read f.registers x) s (λ u. answered f (Some to) f.registers at below s (of_living (element (Own n) u s)))))
       elem_own cert on to a x at e g after =
           let fact = fact_of S.known.regs a in
           let L = leads_as_owner (item_of code) S.known.depth fact in
@@ -899,9 +443,9 @@ module _ (code : Parts) (facts : List FuncFacts) where
           let there = and_parts L.present (is_there (fact_of S.known.regs x)) (cell_present S.known.depth false c to R g) in
           let w = owner_found (cell_by (item_of code)) a (is_usable S.known.depth fact) refl types.0 there.0 in
           let ar = array_at code facts cert s.world heap w.kind w.cell w.name w.object w.cell_of w.names w.lives in
-          subst (λ o. NextFits (with_owner o s (λ n. with_value (read f.registers x) s (λ u. answered f (Some to) f.registers at below s (of_living (element (Own n) u s)))))) (sym w.is)
+          subst (λ o. NextFits code facts (with_owner o s (λ n. with_value (read f.registers x) s (λ u. answered f (Some to) f.registers at below s (of_living (element (Own n) u s)))))) (sym w.is)
           (reading x t.Int _ types.1 there.1 (λ u h.
-          subst (λ y. NextFits (answered f (Some to) f.registers at below s (of_living (on_object (found_or_dead w.name y) (λ n o. element_at u o s))))) (sym w.lives)
+          subst (λ y. NextFits code facts (answered f (Some to) f.registers at below s (of_living (on_object (found_or_dead w.name y) (λ n o. element_at u o s))))) (sym w.lives)
           (element_fits of_living (λ v u. refl) refl to at u w.object h.shape (λ i v q.
           sees on S.known.regs fits_here false c w.cell to K v w.cell_is e after (each_at code s.world w.cell w.object.values i v ar.values q)))))
 
@@ -909,7 +453,7 @@ module _ (code : Parts) (facts : List FuncFacts) where
           → (reads_found (item_of code) S.known.depth S.known.regs to a (reads S.known.regs x t.Int (leads_to_read (item_of code) S.known.depth (fact_of S.known.regs a)))).kept.types ≡ true
           → (reads_found (item_of code) S.known.depth S.known.regs to a (reads S.known.regs x t.Int (leads_to_read (item_of code) S.known.depth (fact_of S.known.regs a)))).kept.present ≡ true
           → row.after ≡ (reads_found (item_of code) S.known.depth S.known.regs to a (reads S.known.regs x t.Int (leads_to_read (item_of code) S.known.depth (fact_of S.known.regs a)))).after
-          → NextFits (with_value (read f.registers a) s (λ v. with_value (read f.registers x) s (λ u. answered f (Some to) f.registers at below s (element v u s))))
+          → NextFits code facts (with_value (read f.registers a) s (λ v. with_value (read f.registers x) s (λ u. answered f (Some to) f.registers at below s (element v u s))))
       elem_found cert on to a x at e g after =
           let fact = fact_of S.known.regs a in
           let frozen = is_through_frozen S.known.depth fact in
@@ -920,7 +464,7 @@ module _ (code : Parts) (facts : List FuncFacts) where
           let types = and_parts L.types (has t.Int (fact_of S.known.regs x)) (cell_types S.known.depth frozen c to R e) in
           let there = and_parts L.present (is_there (fact_of S.known.regs x)) (cell_present S.known.depth frozen c to R g) in
           let w = read_found (read_kind S.known.depth) (cell_by (item_of code)) a (is_readable S.known.depth fact) (follows_read S.known.depth) refl types.0 there.0 in
-          subst (λ o. NextFits (with_value o s (λ v. with_value (read f.registers x) s (λ u. answered f (Some to) f.registers at below s (element v u s))))) (sym w.reads)
+          subst (λ o. NextFits code facts (with_value o s (λ v. with_value (read f.registers x) s (λ u. answered f (Some to) f.registers at below s (element v u s))))) (sym w.reads)
           (reading x t.Int _ types.1 there.1 (λ u h.
           on_name (Some to) f.registers at w.value w.name (λ n o. element_at u o s) w.named (λ o lives.
           let ar = array_at code facts cert s.world heap w.kind w.cell w.name o w.cell_of w.names lives in
@@ -944,23 +488,23 @@ module _ (code : Parts) (facts : List FuncFacts) where
       a_move depth (Held u d l) o e there h = (h.0, h.1, moved_same u h.0 e h.2.shape, owner_value u h.0 e h.2.shape, (h.0, refl, h.2))
 
       moving : goes_on instr ≡ true → (to a : ℕ) → (moves S.known.depth S.known.regs to a).kept.types ≡ true → (moves S.known.depth S.known.regs to a).kept.present ≡ true → row.after ≡ (moves S.known.depth S.known.regs to a).after
-          → NextFits (with_value (read f.registers a) s (λ v. gets f to (moved v) (put f.registers a None) below s))
+          → NextFits code facts (with_value (read f.registers a) s (λ v. gets f to (moved v) (put f.registers a None) below s))
       moving on to a e g after =
           let fact = fact_of S.known.regs a in
           let m = a_move S.known.depth fact (read f.registers a) e (and_parts (is_there fact) (known.is_free (fact_of (slice_set S.known.regs a Empty) to)) g).0 (fits_here.each a) in
-          subst (λ o. NextFits (with_value o s (λ v. gets f to (moved v) (put f.registers a None) below s))) (sym m.1)
-          (subst (λ o. NextFits (gets f to o (put f.registers a None) below s)) (sym m.2)
+          subst (λ o. NextFits code facts (with_value o s (λ v. gets f to (moved v) (put f.registers a None) below s))) (sym m.1)
+          (subst (λ o. NextFits code facts (gets f to o (put f.registers a None) below s)) (sym m.2)
           (stays_on on (put (put f.registers a None) to (Some m.0)) s refl
           (subst (λ x. RegsFit code s.world x (put (put f.registers a None) to (Some m.0))) (sym after)
           (put_fits code s.world (slice_set S.known.regs a Empty) (put f.registers a None) to (moved_to S.known.depth fact) (Some m.0) m.4 (put_fits code s.world S.known.regs f.registers a Empty None tt fits_here)))
           (λ n. let x = put_owns n (put f.registers a None) to (Some m.0) in let y = put_owns n f.registers a None in let z = ap (λ o. own_in n o) m.1 in omega (arith, x, y, z))))
 
       borrowing : goes_on instr ≡ true → (to a : ℕ) → (borrows S.known.depth S.known.regs to a).kept.types ≡ true → (borrows S.known.depth S.known.regs to a).kept.present ≡ true → row.after ≡ (borrows S.known.depth S.known.regs to a).after
-          → NextFits (with_value (read f.registers a) s (λ v. gets f to (borrowed v) f.registers below s))
+          → NextFits code facts (with_value (read f.registers a) s (λ v. gets f to (borrowed v) f.registers below s))
       borrowing on to a e g after =
           let fact = fact_of S.known.regs a in
           let w = owner_found (λ o. o) a (is_usable S.known.depth fact) refl e (and_parts (is_there fact) (known.is_free (fact_of S.known.regs to)) g).0 in
-          subst (λ o. NextFits (with_value o s (λ v. gets f to (borrowed v) f.registers below s))) (sym w.is)
+          subst (λ o. NextFits code facts (with_value o s (λ v. gets f to (borrowed v) f.registers below s))) (sym w.is)
           (results on S.known.regs fits_here (t.Ref w.kind) to S.known.depth false (Ref w.name) s (after ∙ ap (λ x. slice_set S.known.regs to x) (lent_fact fact w.kind w.via))
           (leading code s.world (t.Ref w.kind) (Ref w.name) w.kind w.name refl refl refl w.names) (λ n. refl) refl)
         where
@@ -969,13 +513,13 @@ module _ (code : Parts) (facts : List FuncFacts) where
           lent_fact _ kind e = let x : ⊥ = cc in absurd x
 
       dropping : Certified code facts → goes_on instr ≡ true → (a : ℕ) (at : Spot) → (drops S.known.depth S.known.regs a).kept.types ≡ true → (drops S.known.depth S.known.regs a).kept.present ≡ true → row.after ≡ (drops S.known.depth S.known.regs a).after
-          → NextFits (with_value (read f.registers a) s (λ v. destroy code v at (behind f (put f.registers a None) ∷ below) s))
+          → NextFits code facts (with_value (read f.registers a) s (λ v. destroy code v at (behind f (put f.registers a None) ∷ below) s))
       dropping cert on a at e g after =
           let fact = fact_of S.known.regs a in
           let m = a_move S.known.depth fact (read f.registers a) e g (fits_here.each a) in
           let fits : RegsFit code s.world row.after (put f.registers a None) = subst (λ x. RegsFit code s.world x (put f.registers a None)) (sym after) (put_fits code s.world S.known.regs f.registers a Empty None tt fits_here) in
-          subst (λ o. NextFits (with_value o s (λ v. destroy code v at (behind f (put f.registers a None) ∷ below) s))) (sym m.1)
-          (destroying_value cert m.0 at (behind f (put f.registers a None) ∷ below) s m.3
+          subst (λ o. NextFits code facts (with_value o s (λ v. destroy code v at (behind f (put f.registers a None) ∷ below) s))) (sym m.1)
+          (destroying_value code facts cert m.0 at (behind f (put f.registers a None) ∷ below) s m.3
           (ty, (λ w o l r. next_active on w (put f.registers a None) (regs_later code s.world w row.after (put f.registers a None) l fits)), under_it) heap
           (λ n. let x = owned n in let y = put_owns n f.registers a None in let z = ap (λ o. own_in n o) m.1 in omega (arith, x, y, z)))
 
@@ -1006,7 +550,7 @@ module _ (code : Parts) (facts : List FuncFacts) where
 
       -- one value is swapped for another
       stores : goes_on instr ≡ true → (to b : ℕ) (u : Ty) (F : SwapFound u to b row.after) (n : ℕ) (o : Object) (i : ℕ) (old : Value) → object_at s.world n ≡ Some o → slice_get o.values i ≡ Some old → Has code s.world u old
-          → ObjectFits code s.world (record o { values = slice_set o.values i F.took_it.value }) → NextFits (onward f (put (kept b F.took_it.value f.registers) to (Some old)) below (changed n o (slice_set o.values i F.took_it.value) s))
+          → ObjectFits code s.world (record o { values = slice_set o.values i F.took_it.value }) → NextFits code facts (onward f (put (kept b F.took_it.value f.registers) to (Some old)) below (changed n o (slice_set o.values i F.took_it.value) s))
       stores on to b u F n o i old lives there has_old new =
           writes on n o (slice_set o.values i F.took_it.value) (put (kept b F.took_it.value f.registers) to (Some old)) lives new
           (subst (λ x. RegsFit code s.world x (put (kept b F.took_it.value f.registers) to (Some old))) (sym F.after_is)
@@ -1023,7 +567,7 @@ module _ (code : Parts) (facts : List FuncFacts) where
           → (swaps S.known.depth S.known.regs (cell_by (field_of code field) (owner_kind (fact_of S.known.regs a))) to b (leads_as_owner (field_of code field) S.known.depth (fact_of S.known.regs a))).kept.types ≡ true
           → (swaps S.known.depth S.known.regs (cell_by (field_of code field) (owner_kind (fact_of S.known.regs a))) to b (leads_as_owner (field_of code field) S.known.depth (fact_of S.known.regs a))).kept.present ≡ true
           → row.after ≡ (swaps S.known.depth S.known.regs (cell_by (field_of code field) (owner_kind (fact_of S.known.regs a))) to b (leads_as_owner (field_of code field) S.known.depth (fact_of S.known.regs a))).after
-          → NextFits (with_owner (read f.registers a) s (λ n. with_value (read f.registers b) s (λ new. certain f (Some to) (kept b new f.registers) below s (swap field (Own n) new s))))
+          → NextFits code facts (with_owner (read f.registers a) s (λ n. with_value (read f.registers b) s (λ new. certain f (Some to) (kept b new f.registers) below s (swap field (Own n) new s))))
       swap_own cert on to a field b e g after =
           let fact = fact_of S.known.regs a in
           let L = leads_as_owner (field_of code field) S.known.depth fact in
@@ -1032,49 +576,49 @@ module _ (code : Parts) (facts : List FuncFacts) where
           let F = swap_found c w.cell to b L w.cell_is e g after in
           let st = struct_at code facts cert s.world heap field w.kind w.cell w.name w.object w.cell_of w.names w.lives in
           let old = cell_there code s.world st.tys w.object.values field w.cell st.values st.at_field in
-          subst (λ o. NextFits (with_owner o s (λ n. with_value (read f.registers b) s (λ new. certain f (Some to) (kept b new f.registers) below s (swap field (Own n) new s))))) (sym w.is)
-          (subst (λ o. NextFits (with_value o s (λ new. certain f (Some to) (kept b new f.registers) below s (swap field (Own w.name) new s)))) (sym F.took_it.is)
-          (subst (λ x. NextFits (certain f (Some to) (kept b F.took_it.value f.registers) below s (on_object (found_or_dead w.name x) (λ n o. swapped_in (slice_get o.values field) n o field F.took_it.value s)))) (sym w.lives)
-          (subst (λ x. NextFits (certain f (Some to) (kept b F.took_it.value f.registers) below s (swapped_in x w.name w.object field F.took_it.value s))) (sym old.1)
+          subst (λ o. NextFits code facts (with_owner o s (λ n. with_value (read f.registers b) s (λ new. certain f (Some to) (kept b new f.registers) below s (swap field (Own n) new s))))) (sym w.is)
+          (subst (λ o. NextFits code facts (with_value o s (λ new. certain f (Some to) (kept b new f.registers) below s (swap field (Own w.name) new s)))) (sym F.took_it.is)
+          (subst (λ x. NextFits code facts (certain f (Some to) (kept b F.took_it.value f.registers) below s (on_object (found_or_dead w.name x) (λ n o. swapped_in (slice_get o.values field) n o field F.took_it.value s)))) (sym w.lives)
+          (subst (λ x. NextFits code facts (certain f (Some to) (kept b F.took_it.value f.registers) below s (swapped_in x w.name w.object field F.took_it.value s))) (sym old.1)
           (stores on to b w.cell F w.name w.object field old.0 w.lives old.1 old.2 (struct_written field w.cell w.object F.took_it.value st F.took_it.has)))))
 
       swap_found_at : Certified code facts → goes_on instr ≡ true → (to a field b : ℕ) (at : Spot)
           → (swaps S.known.depth S.known.regs (cell_by (field_of code field) (reference_kind (fact_of S.known.regs a))) to b (leads_as_reference (field_of code field) S.known.depth (fact_of S.known.regs a))).kept.types ≡ true
           → (swaps S.known.depth S.known.regs (cell_by (field_of code field) (reference_kind (fact_of S.known.regs a))) to b (leads_as_reference (field_of code field) S.known.depth (fact_of S.known.regs a))).kept.present ≡ true
           → row.after ≡ (swaps S.known.depth S.known.regs (cell_by (field_of code field) (reference_kind (fact_of S.known.regs a))) to b (leads_as_reference (field_of code field) S.known.depth (fact_of S.known.regs a))).after
-          → NextFits (with_value (read f.registers a) s (λ v. with_value (read f.registers b) s (λ new. answered f (Some to) (kept b new f.registers) at below s (swap field v new s))))
+          → NextFits code facts (with_value (read f.registers a) s (λ v. with_value (read f.registers b) s (λ new. answered f (Some to) (kept b new f.registers) at below s (swap field v new s))))
       swap_found_at cert on to a field b at e g after =
           let fact = fact_of S.known.regs a in
           let L = leads_as_reference (field_of code field) S.known.depth fact in
           let c = cell_by (field_of code field) (reference_kind fact) in
           let w = read_found reference_kind (cell_by (field_of code field)) a (is_usable S.known.depth fact) follows_reference refl (swap_types c to b L e) (swap_present c to b L g) in
           let F = swap_found c w.cell to b L w.cell_is e g after in
-          subst (λ o. NextFits (with_value o s (λ v. with_value (read f.registers b) s (λ new. answered f (Some to) (kept b new f.registers) at below s (swap field v new s))))) (sym w.reads)
-          (subst (λ o. NextFits (with_value o s (λ new. answered f (Some to) (kept b new f.registers) at below s (swap field w.value new s)))) (sym F.took_it.is)
+          subst (λ o. NextFits code facts (with_value o s (λ v. with_value (read f.registers b) s (λ new. answered f (Some to) (kept b new f.registers) at below s (swap field v new s))))) (sym w.reads)
+          (subst (λ o. NextFits code facts (with_value o s (λ new. answered f (Some to) (kept b new f.registers) at below s (swap field w.value new s)))) (sym F.took_it.is)
           (on_name (Some to) (kept b F.took_it.value f.registers) at w.value w.name (λ n o. swapped_in (slice_get o.values field) n o field F.took_it.value s) w.named (λ o lives.
           let st = struct_at code facts cert s.world heap field w.kind w.cell w.name o w.cell_of w.names lives in
           let old = cell_there code s.world st.tys o.values field w.cell st.values st.at_field in
-          subst (λ x. NextFits (answered f (Some to) (kept b F.took_it.value f.registers) at below s (swapped_in x w.name o field F.took_it.value s))) (sym old.1)
+          subst (λ x. NextFits code facts (answered f (Some to) (kept b F.took_it.value f.registers) at below s (swapped_in x w.name o field F.took_it.value s))) (sym old.1)
           (stores on to b w.cell F w.name o field old.0 lives old.1 old.2 (struct_written field w.cell o F.took_it.value st F.took_it.has)))))
 
       -- an element is swapped, or the run traps
       element_swaps : (through : Answer → Answer) → ((v : Value) (u : State) → through (gives (Some v) u) ≡ gives (Some v) u) → through (traps IndexOutOfRange) ≡ traps IndexOutOfRange
           → (to : ℕ) (regs : Registers) (at : Spot) (u : Value) (n : ℕ) (o : Object) (new : Value) → value_has t.Int u ≡ true
-          → ((i : ℕ) (old : Value) → slice_get o.values i ≡ Some old → NextFits (onward f (put regs to (Some old)) below (changed n o (slice_set o.values i new) s)))
-          → NextFits (answered f (Some to) regs at below s (through (element_swapped_at u n o new s)))
+          → ((i : ℕ) (old : Value) → slice_get o.values i ≡ Some old → NextFits code facts (onward f (put regs to (Some old)) below (changed n o (slice_set o.values i new) s)))
+          → NextFits code facts (answered f (Some to) regs at below s (through (element_swapped_at u n o new s)))
       element_swaps through gives_same traps_same to regs at (Int (pos i)) n o new e each = from (slice_get o.values i) refl
         where
-          from : (x : Option Value) → slice_get o.values i ≡ x → NextFits (answered f (Some to) regs at below s (through (element_swapped_in x n o i new s)))
-          from None q = subst (λ x. NextFits (answered f (Some to) regs at below s x)) (sym traps_same) (a_trap IndexOutOfRange at (Running f ∷ below) s)
-          from (Some v) q = subst (λ x. NextFits (answered f (Some to) regs at below s x)) (sym (gives_same v (changed n o (slice_set o.values i new) s))) (each i v q)
-      element_swaps through gives_same traps_same to regs at (Int (negsuc i)) n o new e each = subst (λ x. NextFits (answered f (Some to) regs at below s x)) (sym traps_same) (a_trap IndexOutOfRange at (Running f ∷ below) s)
+          from : (x : Option Value) → slice_get o.values i ≡ x → NextFits code facts (answered f (Some to) regs at below s (through (element_swapped_in x n o i new s)))
+          from None q = subst (λ x. NextFits code facts (answered f (Some to) regs at below s x)) (sym traps_same) (a_trap code facts IndexOutOfRange at (Running f ∷ below) s)
+          from (Some v) q = subst (λ x. NextFits code facts (answered f (Some to) regs at below s x)) (sym (gives_same v (changed n o (slice_set o.values i new) s))) (each i v q)
+      element_swaps through gives_same traps_same to regs at (Int (negsuc i)) n o new e each = subst (λ x. NextFits code facts (answered f (Some to) regs at below s x)) (sym traps_same) (a_trap code facts IndexOutOfRange at (Running f ∷ below) s)
       element_swaps through gives_same traps_same to regs at _ n o new e each = let x : ⊥ = cc in absurd x
 
       swap_element_own : Certified code facts → goes_on instr ≡ true → (to a x b : ℕ) (at : Spot)
           → (swaps S.known.depth S.known.regs (cell_by (item_of code) (owner_kind (fact_of S.known.regs a))) to b (reads S.known.regs x t.Int (leads_as_owner (item_of code) S.known.depth (fact_of S.known.regs a)))).kept.types ≡ true
           → (swaps S.known.depth S.known.regs (cell_by (item_of code) (owner_kind (fact_of S.known.regs a))) to b (reads S.known.regs x t.Int (leads_as_owner (item_of code) S.known.depth (fact_of S.known.regs a)))).kept.present ≡ true
           → row.after ≡ (swaps S.known.depth S.known.regs (cell_by (item_of code) (owner_kind (fact_of S.known.regs a))) to b (reads S.known.regs x t.Int (leads_as_owner (item_of code) S.known.depth (fact_of S.known.regs a)))).after
-          → NextFits (with_owner (read f.registers a) s (λ n. with_value (read f.registers x) s (λ u. with_value (read f.registers b) s (λ new. answered f (Some to) (kept b new f.registers) at below s (of_living (swap_element (Own n) u new s))))))
+          → NextFits code facts (with_owner (read f.registers a) s (λ n. with_value (read f.registers x) s (λ u. with_value (read f.registers b) s (λ new. answered f (Some to) (kept b new f.registers) at below s (of_living (swap_element (Own n) u new s))))))
       swap_element_own cert on to a x b at e g after =
           let fact = fact_of S.known.regs a in
           let L = leads_as_owner (item_of code) S.known.depth fact in
@@ -1085,10 +629,10 @@ module _ (code : Parts) (facts : List FuncFacts) where
           let w = owner_found (cell_by (item_of code)) a (is_usable S.known.depth fact) refl types.0 there.0 in
           let F = swap_found c w.cell to b K w.cell_is e g after in
           let ar = array_at code facts cert s.world heap w.kind w.cell w.name w.object w.cell_of w.names w.lives in
-          subst (λ o. NextFits (with_owner o s (λ n. with_value (read f.registers x) s (λ u. with_value (read f.registers b) s (λ new. answered f (Some to) (kept b new f.registers) at below s (of_living (swap_element (Own n) u new s))))))) (sym w.is)
+          subst (λ o. NextFits code facts (with_owner o s (λ n. with_value (read f.registers x) s (λ u. with_value (read f.registers b) s (λ new. answered f (Some to) (kept b new f.registers) at below s (of_living (swap_element (Own n) u new s))))))) (sym w.is)
           (reading x t.Int _ types.1 there.1 (λ u h.
-          subst (λ o. NextFits (with_value o s (λ new. answered f (Some to) (kept b new f.registers) at below s (of_living (swap_element (Own w.name) u new s))))) (sym F.took_it.is)
-          (subst (λ y. NextFits (answered f (Some to) (kept b F.took_it.value f.registers) at below s (of_living (on_object (found_or_dead w.name y) (λ n o. element_swapped_at u n o F.took_it.value s))))) (sym w.lives)
+          subst (λ o. NextFits code facts (with_value o s (λ new. answered f (Some to) (kept b new f.registers) at below s (of_living (swap_element (Own w.name) u new s))))) (sym F.took_it.is)
+          (subst (λ y. NextFits code facts (answered f (Some to) (kept b F.took_it.value f.registers) at below s (of_living (on_object (found_or_dead w.name y) (λ n o. element_swapped_at u n o F.took_it.value s))))) (sym w.lives)
           (element_swaps of_living (λ v u. refl) refl to (kept b F.took_it.value f.registers) at u w.name w.object F.took_it.value h.shape (λ i old q.
           stores on to b w.cell F w.name w.object i old w.lives q (each_at code s.world w.cell w.object.values i old ar.values q)
           (array_written w.cell w.object (slice_set w.object.values i F.took_it.value) ar (each_set code s.world w.cell w.object.values i F.took_it.value ar.values F.took_it.has)))))))
@@ -1097,7 +641,7 @@ module _ (code : Parts) (facts : List FuncFacts) where
           → (swaps S.known.depth S.known.regs (cell_by (item_of code) (reference_kind (fact_of S.known.regs a))) to b (reads S.known.regs x t.Int (leads_as_reference (item_of code) S.known.depth (fact_of S.known.regs a)))).kept.types ≡ true
           → (swaps S.known.depth S.known.regs (cell_by (item_of code) (reference_kind (fact_of S.known.regs a))) to b (reads S.known.regs x t.Int (leads_as_reference (item_of code) S.known.depth (fact_of S.known.regs a)))).kept.present ≡ true
           → row.after ≡ (swaps S.known.depth S.known.regs (cell_by (item_of code) (reference_kind (fact_of S.known.regs a))) to b (reads S.known.regs x t.Int (leads_as_reference (item_of code) S.known.depth (fact_of S.known.regs a)))).after
-          → NextFits (with_value (read f.registers a) s (λ v. with_value (read f.registers x) s (λ u. with_value (read f.registers b) s (λ new. answered f (Some to) (kept b new f.registers) at below s (swap_element v u new s)))))
+          → NextFits code facts (with_value (read f.registers a) s (λ v. with_value (read f.registers x) s (λ u. with_value (read f.registers b) s (λ new. answered f (Some to) (kept b new f.registers) at below s (swap_element v u new s)))))
       swap_element_found cert on to a x b at e g after =
           let fact = fact_of S.known.regs a in
           let L = leads_as_reference (item_of code) S.known.depth fact in
@@ -1107,9 +651,9 @@ module _ (code : Parts) (facts : List FuncFacts) where
           let there = and_parts L.present (is_there (fact_of S.known.regs x)) (swap_present c to b K g) in
           let w = read_found reference_kind (cell_by (item_of code)) a (is_usable S.known.depth fact) follows_reference refl types.0 there.0 in
           let F = swap_found c w.cell to b K w.cell_is e g after in
-          subst (λ o. NextFits (with_value o s (λ v. with_value (read f.registers x) s (λ u. with_value (read f.registers b) s (λ new. answered f (Some to) (kept b new f.registers) at below s (swap_element v u new s)))))) (sym w.reads)
+          subst (λ o. NextFits code facts (with_value o s (λ v. with_value (read f.registers x) s (λ u. with_value (read f.registers b) s (λ new. answered f (Some to) (kept b new f.registers) at below s (swap_element v u new s)))))) (sym w.reads)
           (reading x t.Int _ types.1 there.1 (λ u h.
-          subst (λ o. NextFits (with_value o s (λ new. answered f (Some to) (kept b new f.registers) at below s (swap_element w.value u new s)))) (sym F.took_it.is)
+          subst (λ o. NextFits code facts (with_value o s (λ new. answered f (Some to) (kept b new f.registers) at below s (swap_element w.value u new s)))) (sym F.took_it.is)
           (on_name (Some to) (kept b F.took_it.value f.registers) at w.value w.name (λ n o. element_swapped_at u n o F.took_it.value s) w.named (λ o lives.
           let ar = array_at code facts cert s.world heap w.kind w.cell w.name o w.cell_of w.names lives in
           element_swaps (λ x. x) (λ v u. refl) refl to (kept b F.took_it.value f.registers) at u w.name o F.took_it.value h.shape (λ i old q.
@@ -1124,7 +668,7 @@ module _ (code : Parts) (facts : List FuncFacts) where
           → (pushes S.known.depth S.known.regs (cell_by (item_of code) (reference_kind (fact_of S.known.regs a))) b (leads_as_reference (item_of code) S.known.depth (fact_of S.known.regs a))).kept.types ≡ true
           → (pushes S.known.depth S.known.regs (cell_by (item_of code) (reference_kind (fact_of S.known.regs a))) b (leads_as_reference (item_of code) S.known.depth (fact_of S.known.regs a))).kept.present ≡ true
           → row.after ≡ (pushes S.known.depth S.known.regs (cell_by (item_of code) (reference_kind (fact_of S.known.regs a))) b (leads_as_reference (item_of code) S.known.depth (fact_of S.known.regs a))).after
-          → NextFits (with_value (read f.registers a) s (λ v. with_value (read f.registers b) s (λ new. answered f None (kept b new f.registers) at below s (push v new s))))
+          → NextFits code facts (with_value (read f.registers a) s (λ v. with_value (read f.registers b) s (λ new. answered f None (kept b new f.registers) at below s (push v new s))))
       pushing cert on a b at e g after =
           let fact = fact_of S.known.regs a in
           let L = leads_as_reference (item_of code) S.known.depth fact in
@@ -1134,14 +678,14 @@ module _ (code : Parts) (facts : List FuncFacts) where
           let types : (pushes S.known.depth S.known.regs (Some w.cell) b L).kept.types ≡ true = subst (λ c. (pushes S.known.depth S.known.regs c b L).kept.types ≡ true) w.cell_is e in
           let there : (pushes S.known.depth S.known.regs (Some w.cell) b L).kept.present ≡ true = subst (λ c. (pushes S.known.depth S.known.regs c b L).kept.present ≡ true) w.cell_is g in
           let v = took code s.world w.cell S.known.regs b f.registers fits_here (and_parts L.types (has w.cell (fact_of S.known.regs b)) types).1 (and_parts L.present (is_there (fact_of S.known.regs b)) there).1 in
-          subst (λ o. NextFits (with_value o s (λ v. with_value (read f.registers b) s (λ new. answered f None (kept b new f.registers) at below s (push v new s))))) (sym w.reads)
-          (subst (λ o. NextFits (with_value o s (λ new. answered f None (kept b new f.registers) at below s (push w.value new s)))) (sym v.is)
+          subst (λ o. NextFits code facts (with_value o s (λ v. with_value (read f.registers b) s (λ new. answered f None (kept b new f.registers) at below s (push v new s))))) (sym w.reads)
+          (subst (λ o. NextFits code facts (with_value o s (λ new. answered f None (kept b new f.registers) at below s (push w.value new s)))) (sym v.is)
           (on_name None (kept b v.value f.registers) at w.value w.name (λ n o. if nat_lt (length o.values) width_limit then gives None (changed n o (o.values ++ v.value ∷ []) s) else traps ArrayTooLong) w.named (λ o lives.
           by_length w.cell w.name o v (after ∙ ap (λ c. (pushes S.known.depth S.known.regs c b L).after) w.cell_is) lives (array_at code facts cert s.world heap w.kind w.cell w.name o w.cell_of w.names lives) (nat_lt (length o.values) width_limit))))
         where
           by_length : (u : Ty) (n : ℕ) (o : Object) (v : Took code s.world u S.known.regs b f.registers) → row.after ≡ after_passing S.known.regs b u → object_at s.world n ≡ Some o → ArrayAt code s.world u o → (room : Bool)
-              → NextFits (answered f None (kept b v.value f.registers) at below s (if room then gives None (changed n o (o.values ++ v.value ∷ []) s) else traps ArrayTooLong))
-          by_length u n o v after lives ar false = a_trap ArrayTooLong at (Running f ∷ below) s
+              → NextFits code facts (answered f None (kept b v.value f.registers) at below s (if room then gives None (changed n o (o.values ++ v.value ∷ []) s) else traps ArrayTooLong))
+          by_length u n o v after lives ar false = a_trap code facts ArrayTooLong at (Running f ∷ below) s
           by_length u n o v after lives ar true =
               writes on n o (o.values ++ v.value ∷ []) (kept b v.value f.registers) lives (array_written u o (o.values ++ v.value ∷ []) ar (each_append code s.world u o.values v.value ar.values v.has))
               (subst (λ x. RegsFit code s.world x (kept b v.value f.registers)) (sym after) v.fits)
@@ -1155,20 +699,20 @@ module _ (code : Parts) (facts : List FuncFacts) where
           → (pops S.known.depth S.known.regs (cell_by (item_of code) (reference_kind (fact_of S.known.regs a))) to (leads_as_reference (item_of code) S.known.depth (fact_of S.known.regs a))).kept.types ≡ true
           → (pops S.known.depth S.known.regs (cell_by (item_of code) (reference_kind (fact_of S.known.regs a))) to (leads_as_reference (item_of code) S.known.depth (fact_of S.known.regs a))).kept.present ≡ true
           → row.after ≡ (pops S.known.depth S.known.regs (cell_by (item_of code) (reference_kind (fact_of S.known.regs a))) to (leads_as_reference (item_of code) S.known.depth (fact_of S.known.regs a))).after
-          → NextFits (with_value (read f.registers a) s (λ v. answered f (Some to) f.registers at below s (pop v s)))
+          → NextFits code facts (with_value (read f.registers a) s (λ v. answered f (Some to) f.registers at below s (pop v s)))
       popping cert on to a at e g after =
           let fact = fact_of S.known.regs a in
           let L = leads_as_reference (item_of code) S.known.depth fact in
           let c = cell_by (item_of code) (reference_kind fact) in
           let ok = back_parts c to L e g in
           let w = read_found reference_kind (cell_by (item_of code)) a (is_usable S.known.depth fact) follows_reference refl ok.0 ok.1 in
-          subst (λ o. NextFits (with_value o s (λ v. answered f (Some to) f.registers at below s (pop v s)))) (sym w.reads)
+          subst (λ o. NextFits code facts (with_value o s (λ v. answered f (Some to) f.registers at below s (pop v s)))) (sym w.reads)
           (on_name (Some to) f.registers at w.value w.name (λ n o. popped n o o.values s) w.named (λ o lives.
           by_values w.cell w.name o (after ∙ ap (λ c. (pops S.known.depth S.known.regs c to L).after) w.cell_is) lives (array_at code facts cert s.world heap w.kind w.cell w.name o w.cell_of w.names lives) o.values refl))
         where
           by_values : (u : Ty) (n : ℕ) (o : Object) → row.after ≡ slice_set S.known.regs to (Held u S.known.depth false) → object_at s.world n ≡ Some o → ArrayAt code s.world u o → (vs : List Value) → o.values ≡ vs
-              → NextFits (answered f (Some to) f.registers at below s (popped n o vs s))
-          by_values u n o after lives ar [] q = a_trap EmptyPop at (Running f ∷ below) s
+              → NextFits code facts (answered f (Some to) f.registers at below s (popped n o vs s))
+          by_values u n o after lives ar [] q = a_trap code facts EmptyPop at (Running f ∷ below) s
           by_values u n o after lives ar (v ∷ vs) q =
               let each : Each code s.world u (v ∷ vs) = subst (λ x. Each code s.world u x) q ar.values in
               let r = each_front code s.world u v vs each.0 each.1 in
@@ -1192,12 +736,12 @@ module _ (code : Parts) (facts : List FuncFacts) where
       -- the new object has the next name
       object_made : goes_on instr ≡ true → (kind : Kind) (tys : List Ty) (to : ℕ) (K : List RegFact) (regs : Registers) (vs : List Value) (u : State) → u.world ≡ s.world → cells_of (kind_of code kind) (length vs) ≡ Some tys → ArgsFit code s.world tys vs
           → RegsFit code s.world K regs → ((n : ℕ) → in_values n vs + in_regs n regs ≤ in_regs n f.registers) → row.after ≡ slice_set K to (Held (t.Own kind) S.known.depth false)
-          → NextFits (onward f (put regs to (Some (Own (next_name u.world)))) below (born kind vs u))
+          → NextFits code facts (onward f (put regs to (Some (Own (next_name u.world)))) below (born kind vs u))
       object_made on kind tys to K regs vs u e cells has fits fewer after =
-          subst (λ m. NextFits (onward f (put regs to (Some (Own m))) below (born kind vs u))) (sym (ap (λ w. next_name w) e))
+          subst (λ m. NextFits code facts (onward f (put regs to (Some (Own m))) below (born kind vs u))) (sym (ap (λ w. next_name w) e))
           (goes on (put regs to (Some (Own m))) (born kind vs u) (subst (λ w. RegsFit code w row.after (put regs to (Some (Own m)))) (sym same_world) there) (subst (λ w. Later s.world w) (sym same_world) later)
           (subst (λ w. WorldFits code w) (sym same_world) (born_fits code s.world o later heap (record { tys = tys; cells = cells; values = has })))
-          (subst (λ w. OwnedBeside w (λ n. in_regs n (put regs to (Some (Own m)))) below) (sym same_world) counts))
+          (subst (λ w. OwnedBeside code facts w (λ n. in_regs n (put regs to (Some (Own m)))) below) (sym same_world) counts))
         where
           o : Object
           o = record { region = Freeze u.regions; kind = kind; values = vs }
@@ -1217,9 +761,9 @@ module _ (code : Parts) (facts : List FuncFacts) where
           there : RegsFit code W row.after (put regs to (Some (Own m)))
           there = subst (λ x. RegsFit code W x (put regs to (Some (Own m)))) (sym after)
               (put_fits code W K regs to (Held (t.Own kind) S.known.depth false) (Some (Own m))
-              (Own m, refl, leading code W (t.Own kind) (Own m) kind m refl refl refl (names_it W m o (born_at s.world o))) (regs_later code s.world W K regs later fits))
+              (Own m, refl, leading code W (t.Own kind) (Own m) kind m refl refl refl (names_it code facts W m o (born_at s.world o))) (regs_later code s.world W K regs later fits))
 
-          counts : OwnedBeside W (λ n. in_regs n (put regs to (Some (Own m)))) below
+          counts : OwnedBeside code facts W (λ n. in_regs n (put regs to (Some (Own m)))) below
           counts n = let x = owned n in let y = put_owns n regs to (Some (Own m)) in let z = fewer n in let q = world_born n s.world o in let r = alive_born n s.world o in omega (arith, x, y, z, q, r)
 
       abbrev makes_it : Kind → ℕ → List ℕ → Next
@@ -1229,29 +773,29 @@ module _ (code : Parts) (facts : List FuncFacts) where
           → (owns S.known.depth kind to (takes_all S.known.depth tys args (record { kept = kept; after = S.known.regs }))).kept.types ≡ true
           → (owns S.known.depth kind to (takes_all S.known.depth tys args (record { kept = kept; after = S.known.regs }))).kept.present ≡ true
           → row.after ≡ (owns S.known.depth kind to (takes_all S.known.depth tys args (record { kept = kept; after = S.known.regs }))).after
-          → NextFits (makes_it kind to args)
+          → NextFits code facts (makes_it kind to args)
       made_of on to kind args tys kept cells e g after =
           let R : Row = record { kept = kept; after = S.known.regs } in
           let T = taking_all code s.world S.known.depth tys args R f.registers fits_here e (and_parts (takes_all S.known.depth tys args R).kept.present (known.is_free (fact_of (takes_all S.known.depth tys args R).after to)) g).0 in
           let long : length T.got.values ≡ length args = sym (args_length code s.world tys T.got.values T.has) ∙ takes_length tys args R e in
-          subst (λ o. NextFits (with_read o s (λ vs regs. after_tick s (λ u. certain f (Some to) regs below u (make kind vs u))))) (sym T.given)
-          (with_tick s _ (λ u same_world. object_made on kind tys to (takes_all S.known.depth tys args R).after T.got.after T.got.values u same_world (ap (λ n. cells_of (kind_of code kind) n) long ∙ cells) T.has T.fits T.owned after))
+          subst (λ o. NextFits code facts (with_read o s (λ vs regs. after_tick s (λ u. certain f (Some to) regs below u (make kind vs u))))) (sym T.given)
+          (with_tick code facts s _ (λ u same_world. object_made on kind tys to (takes_all S.known.depth tys args R).after T.got.after T.got.values u same_world (ap (λ n. cells_of (kind_of code kind) n) long ∙ cells) T.has T.fits T.owned after))
 
       making : goes_on instr ≡ true → (to : ℕ) (kind : Kind) (args : List ℕ) (info : Option KindInfo) → kind_of code kind ≡ info
           → (rules.makes S.known.depth S.known.regs info kind to args).kept.types ≡ true → (rules.makes S.known.depth S.known.regs info kind to args).kept.present ≡ true
-          → row.after ≡ (rules.makes S.known.depth S.known.regs info kind to args).after → NextFits (if holds_values info (length args) then makes_it kind to args else wrong s)
+          → row.after ≡ (rules.makes S.known.depth S.known.regs info kind to args).after → NextFits code facts (if holds_values info (length args) then makes_it kind to args else wrong s)
       making on to kind args None q e g after = let x : ⊥ = cc in absurd x
       making on to kind args (Some (k.Interface name methods)) q e g after = let x : ⊥ = cc in absurd x
       making on to kind args (Some (k.Struct name destructor fields)) q e g after =
           let R : Row = record { kept = rules.if_types true; after = S.known.regs } in
           let many : length fields ≡ length args = sym (fields_length fields) ∙ takes_length (types_of fields) args R e in
-          subst (λ b. NextFits (if b then makes_it kind to args else wrong s)) (sym (eq-eqb (length fields) (length args) many))
+          subst (λ b. NextFits code facts (if b then makes_it kind to args else wrong s)) (sym (eq-eqb (length fields) (length args) many))
           (made_of on to kind args (types_of fields) (rules.if_types true) (ap (λ i. cells_of i (length args)) q) e g after)
       making on to kind args (Some (k.Array item)) q e g after =
           let R : Row = record { kept = rules.if_types (nat_le (length args) width_limit); after = S.known.regs } in
           let tys = replicate (length args) item in
           let few = (takes_kept code s.world S.known.depth tys args R e (and_parts (takes_all S.known.depth tys args R).kept.present (known.is_free (fact_of (takes_all S.known.depth tys args R).after to)) g).0).0 in
-          subst (λ b. NextFits (if b then makes_it kind to args else wrong s)) (sym few)
+          subst (λ b. NextFits code facts (if b then makes_it kind to args else wrong s)) (sym few)
           (made_of on to kind args tys (rules.if_types (nat_le (length args) width_limit)) (ap (λ i. cells_of i (length args)) q) e g after)
 
       record PutAll (tys : List Ty) (tos : List ℕ) (R : Row) (regs : Registers) (vs : List Value) : Type 0 where
@@ -1288,7 +832,7 @@ module _ (code : Parts) (facts : List FuncFacts) where
 
       opening : Certified code facts → goes_on instr ≡ true → (tos : List ℕ) (a : ℕ) → (rules.opens code S.known.depth S.known.regs tos a).kept.types ≡ true → (rules.opens code S.known.depth S.known.regs tos a).kept.present ≡ true
           → row.after ≡ (rules.opens code S.known.depth S.known.regs tos a).after
-          → NextFits (with_owner (read f.registers a) s (λ n. with_choice (object_of n s) s (λ o. with_registers (put_all tos o.values (put f.registers a None)) s (λ regs. after_tick s (λ u. onward f regs below (dies n u))))))
+          → NextFits code facts (with_owner (read f.registers a) s (λ n. with_choice (object_of n s) s (λ o. with_registers (put_all tos o.values (put f.registers a None)) s (λ regs. after_tick s (λ u. onward f regs below (dies n u))))))
       opening cert on tos a e g after =
           let fact = fact_of S.known.regs a in
           let c = fields_by code (owner_kind fact) in
@@ -1297,18 +841,18 @@ module _ (code : Parts) (facts : List FuncFacts) where
           let w = owner_found (fields_by code) a (is_usable S.known.depth fact) refl ok.0 ok.1 in
           let types : (puts_all S.known.depth w.cell tos R).kept.types ≡ true = subst (λ c. (opens_of S.known.depth c tos R).kept.types ≡ true) w.cell_is e in
           let P = putting w.cell tos R (put f.registers a None) w.object.values (put_fits code s.world S.known.regs f.registers a Empty None tt fits_here) (struct_values code facts cert s.world heap w.kind w.cell w.name w.object w.cell_of w.names w.lives) types in
-          subst (λ o. NextFits (with_owner o s (λ n. with_choice (object_of n s) s (λ o. with_registers (put_all tos o.values (put f.registers a None)) s (λ regs. after_tick s (λ u. onward f regs below (dies n u))))))) (sym w.is)
-          (subst (λ x. NextFits (with_choice x s (λ o. with_registers (put_all tos o.values (put f.registers a None)) s (λ regs. after_tick s (λ u. onward f regs below (dies w.name u)))))) (sym w.lives)
-          (subst (λ x. NextFits (with_registers x s (λ regs. after_tick s (λ u. onward f regs below (dies w.name u))))) (sym P.is)
-          (with_tick s _ (λ u same_world. dead_now w.name w.object w.lives P.got (dies w.name u) (ap (λ x. died x w.name) same_world)
+          subst (λ o. NextFits code facts (with_owner o s (λ n. with_choice (object_of n s) s (λ o. with_registers (put_all tos o.values (put f.registers a None)) s (λ regs. after_tick s (λ u. onward f regs below (dies n u))))))) (sym w.is)
+          (subst (λ x. NextFits code facts (with_choice x s (λ o. with_registers (put_all tos o.values (put f.registers a None)) s (λ regs. after_tick s (λ u. onward f regs below (dies w.name u)))))) (sym w.lives)
+          (subst (λ x. NextFits code facts (with_registers x s (λ regs. after_tick s (λ u. onward f regs below (dies w.name u))))) (sym P.is)
+          (with_tick code facts s _ (λ u same_world. dead_now w.name w.object w.lives P.got (dies w.name u) (ap (λ x. died x w.name) same_world)
           (subst (λ x. RegsFit code s.world x P.got) (sym (after ∙ ap (λ c. (opens_of S.known.depth c tos R).after) w.cell_is)) P.fits)
           (λ n. let x = P.fewer n in let y = put_owns n f.registers a None in let z = ap (λ o. own_in n o) w.is in omega (arith, x, y, z))))))
         where
-          dead_now : (n : ℕ) (o : Object) → object_at s.world n ≡ Some o → (regs : Registers) (u : State) → u.world ≡ died s.world n → RegsFit code s.world row.after regs → ((m : ℕ) → in_regs m regs + same m n ≤ in_regs m f.registers + in_values m o.values) → NextFits (onward f regs below u)
+          dead_now : (n : ℕ) (o : Object) → object_at s.world n ≡ Some o → (regs : Registers) (u : State) → u.world ≡ died s.world n → RegsFit code s.world row.after regs → ((m : ℕ) → in_regs m regs + same m n ≤ in_regs m f.registers + in_values m o.values) → NextFits code facts (onward f regs below u)
           dead_now n o lives regs u q fits fewer =
               goes on regs u (subst (λ w. RegsFit code w row.after regs) (sym q) (regs_later code s.world (died s.world n) row.after regs (later_died s.world n) fits)) (subst (λ w. Later s.world w) (sym q) (later_died s.world n))
               (subst (λ w. WorldFits code w) (sym q) (died_fits code s.world n (later_died s.world n) heap))
-              (subst (λ w. OwnedBeside w (λ m. in_regs m regs) below) (sym q) (λ m. let x = owned m in let y = fewer m in let z = world_set m s.world n o None lives in let r = alive_died m s.world n o lives in omega (arith, x, y, z, r)))
+              (subst (λ w. OwnedBeside code facts w (λ m. in_regs m regs) below) (sym q) (λ m. let x = owned m in let y = fewer m in let z = world_set m s.world n o None lives in let r = alive_died m s.world n o lives in omega (arith, x, y, z, r)))
 
       -- ---- views
 
@@ -1324,13 +868,13 @@ module _ (code : Parts) (facts : List FuncFacts) where
 
       upcasting : Certified code facts → goes_on instr ≡ true → (to a : ℕ) (interface : Kind) (fact : RegFact) → Holds code s.world fact (read f.registers a) → is_raised code.impls interface fact ≡ true → is_there fact ≡ true
           → row.after ≡ slice_set (after_taking S.known.regs a fact) to (raised_to S.known.depth interface fact)
-          → NextFits (with_value (read f.registers a) s (λ v. gets f to (act_on.leading v) (kept a v f.registers) below s))
+          → NextFits code facts (with_value (read f.registers a) s (λ v. gets f to (act_on.leading v) (kept a v f.registers) below s))
       upcasting cert on to a interface Empty h e there after = let x : ⊥ = cc in absurd x
       upcasting cert on to a interface (Held u d l) h e there after =
           let r = raised_has cert interface u h.0 e h.2 h.2.shape in
           let st = stays code s.world u S.known.regs a f.registers h.0 fits_here h.1 h.2.shape in
-          subst (λ o. NextFits (with_value o s (λ v. gets f to (act_on.leading v) (kept a v f.registers) below s))) (sym h.1)
-          (subst (λ o. NextFits (gets f to o (kept a h.0 f.registers) below s)) (sym r.1)
+          subst (λ o. NextFits code facts (with_value o s (λ v. gets f to (act_on.leading v) (kept a v f.registers) below s))) (sym h.1)
+          (subst (λ o. NextFits code facts (gets f to o (kept a h.0 f.registers) below s)) (sym r.1)
           (stays_on on (put (kept a h.0 f.registers) to (Some h.0)) s refl
           (subst (λ x. RegsFit code s.world x (put (kept a h.0 f.registers) to (Some h.0))) (sym after)
           (put_fits code s.world (after_passing S.known.regs a u) (kept a h.0 f.registers) to (Held (raised interface u) S.known.depth l) (Some h.0) (h.0, refl, r.0) st.0))
@@ -1395,10 +939,10 @@ module _ (code : Parts) (facts : List FuncFacts) where
       receives_has : (impl : Impl) (n : ℕ) (o : Object) (x y : Ty) → object_at s.world n ≡ Some o → (impl.of.0 == o.kind.0) ≡ true → receives impl x y ≡ true → Has code s.world y (Ref n)
       receives_has impl n o (t.Ref q) (t.Ref b) lives of e =
           let same_kind : b ≡ o.kind = kind_is b impl.of (and_parts (q.0 == impl.interface.0) (b.0 == impl.of.0) e).1 ∙ kind_is impl.of o.kind of in
-          leading code s.world (t.Ref b) (Ref n) b n refl refl refl (subst (λ k. NameFits code s.world k n) (sym same_kind) (names_it s.world n o lives))
+          leading code s.world (t.Ref b) (Ref n) b n refl refl refl (subst (λ k. NameFits code s.world k n) (sym same_kind) (names_it code facts s.world n o lives))
       receives_has impl n o (t.Frozen q) (t.Frozen b) lives of e =
           let same_kind : b ≡ o.kind = kind_is b impl.of (and_parts (q.0 == impl.interface.0) (b.0 == impl.of.0) e).1 ∙ kind_is impl.of o.kind of in
-          leading code s.world (t.Frozen b) (Ref n) b n refl refl refl (subst (λ k. NameFits code s.world k n) (sym same_kind) (names_it s.world n o lives))
+          leading code s.world (t.Frozen b) (Ref n) b n refl refl refl (subst (λ k. NameFits code s.world k n) (sym same_kind) (names_it code facts s.world n o lives))
       receives_has impl n o _ _ lives of e = let x : ⊥ = cc in absurd x
 
       params_fit : (impl : Impl) (n : ℕ) (o : Object) (x : Ty) (tys ps : List Ty) (vs : List Value) → object_at s.world n ≡ Some o → (impl.of.0 == o.kind.0) ≡ true → same_params impl (x ∷ tys) ps ≡ true → ArgsFit code s.world tys vs
@@ -1437,7 +981,7 @@ module _ (code : Parts) (facts : List FuncFacts) where
             if_called form s (with_read (give_all (without_first func.params) args f.registers) s (λ vs regs.
             enter g form func (record { what = text_at code func.name; at = at }) (result_to func.result to) (Ref n ∷ vs) (behind f regs ∷ below) s))
 
-        method_entered : (impl : Impl) (o : Object) (g : ℕ) (h : Option Func) → object_at s.world got.name ≡ Some o → (impl.of.0 == o.kind.0) ≡ true → slice_get code.funcs g ≡ h → implements_method impl m h ≡ true → NextFits (with_func h s (calls_of got.name g))
+        method_entered : (impl : Impl) (o : Object) (g : ℕ) (h : Option Func) → object_at s.world got.name ≡ Some o → (impl.of.0 == o.kind.0) ≡ true → slice_get code.funcs g ≡ h → implements_method impl m h ≡ true → NextFits code facts (with_func h s (calls_of got.name g))
         method_entered impl o g None lives of q e = let y : ⊥ = cc in absurd y
         method_entered impl o g (Some func) lives of q e =
             let p = and_parts ((func.form == form_for m.is_pure) && same_params impl m.params func.params) (same_type m.result func.result) e in
@@ -1445,23 +989,23 @@ module _ (code : Parts) (facts : List FuncFacts) where
             let plain : func.form ≡ 0 = let y : (func.form == 0) ≡ true = subst (λ b. (func.form == form_for b) ≡ true) impure r.0 in grind arith in
             let fit = params_fit impl got.name o x tys func.params got.rest.got.values lives of (subst (λ ps. same_params impl ps func.params ≡ true) params r.1) got.rest.has in
             let result = type_is m.result func.result p.1 in
-            subst (λ n. NextFits (with_form (form_of n) func s (calls_of got.name g))) (sym plain)
-            (subst (λ o. NextFits (with_read o s (λ vs regs. enter g Plain func (record { what = text_at code func.name; at = at }) (result_to func.result to) (Ref got.name ∷ vs) (behind f regs ∷ below) s))) (sym (ap (λ ps. give_all ps args f.registers) fit.1 ∙ got.rest.given))
-            (entered cert g Plain func (record { what = text_at code func.name; at = at }) (result_to func.result to) (Ref got.name ∷ got.rest.got.values) (behind f got.rest.got.after ∷ below) s q tt (subst (λ n. Quiet (form_of n)) (sym plain) tt) fit.0
-            (subst (λ rt. StackFits s.world rt (result_to rt to) (behind f got.rest.got.after ∷ below)) result (waiting cert on to g args at m.result (passes_all S.known.depth tys args (passed S.known.depth a x (found_row a))) got.rest.got.after after got.rest.fits))
+            subst (λ n. NextFits code facts (with_form (form_of n) func s (calls_of got.name g))) (sym plain)
+            (subst (λ o. NextFits code facts (with_read o s (λ vs regs. enter g Plain func (record { what = text_at code func.name; at = at }) (result_to func.result to) (Ref got.name ∷ vs) (behind f regs ∷ below) s))) (sym (ap (λ ps. give_all ps args f.registers) fit.1 ∙ got.rest.given))
+            (entered code facts cert g Plain func (record { what = text_at code func.name; at = at }) (result_to func.result to) (Ref got.name ∷ got.rest.got.values) (behind f got.rest.got.after ∷ below) s q tt (subst (λ n. Quiet (form_of n)) (sym plain) tt) fit.0
+            (subst (λ rt. StackFits code facts s.world rt (result_to rt to) (behind f got.rest.got.after ∷ below)) result (waiting cert on to g args at m.result (passes_all S.known.depth tys args (passed S.known.depth a x (found_row a))) got.rest.got.after after got.rest.fits))
             heap (λ n. let y = got.rest.owned n in let z = owned n in omega (arith, y, z))))
 
-        dispatched : NextFits (with_value (read f.registers a) s (λ v. on_looked (look v s) s (trap DeadReference at (Running f ∷ below) s) (λ n o. with_choice (method_in code.impls kind.0 method o.kind) s (λ g. with_func (slice_get code.funcs g) s (calls_of n g)))))
+        dispatched : NextFits code facts (with_value (read f.registers a) s (λ v. on_looked (look v s) s (trap DeadReference at (Running f ∷ below) s) (λ n o. with_choice (method_in code.impls kind.0 method o.kind) s (λ g. with_func (slice_get code.funcs g) s (calls_of n g)))))
         dispatched =
-            subst (λ o. NextFits (with_value o s (λ v. on_looked (look v s) s (trap DeadReference at (Running f ∷ below) s) (λ n o. with_choice (method_in code.impls kind.0 method o.kind) s (λ g. with_func (slice_get code.funcs g) s (calls_of n g)))))) (sym got.is)
-            (subst (λ y. NextFits (on_looked (look_up y s) s (trap DeadReference at (Running f ∷ below) s) (λ n o. with_choice (method_in code.impls kind.0 method o.kind) s (λ g. with_func (slice_get code.funcs g) s (calls_of n g))))) (sym got.named_it)
+            subst (λ o. NextFits code facts (with_value o s (λ v. on_looked (look v s) s (trap DeadReference at (Running f ∷ below) s) (λ n o. with_choice (method_in code.impls kind.0 method o.kind) s (λ g. with_func (slice_get code.funcs g) s (calls_of n g)))))) (sym got.is)
+            (subst (λ y. NextFits code facts (on_looked (look_up y s) s (trap DeadReference at (Running f ∷ below) s) (λ n o. with_choice (method_in code.impls kind.0 method o.kind) s (λ g. with_func (slice_get code.funcs g) s (calls_of n g))))) (sym got.named_it)
             (from (object_at s.world got.name) refl))
           where
-            from : (y : Option Object) → object_at s.world got.name ≡ y → NextFits (on_looked (found_or_dead got.name y) s (trap DeadReference at (Running f ∷ below) s) (λ n o. with_choice (method_in code.impls kind.0 method o.kind) s (λ g. with_func (slice_get code.funcs g) s (calls_of n g))))
-            from None q = a_trap DeadReference at (Running f ∷ below) s
+            from : (y : Option Object) → object_at s.world got.name ≡ y → NextFits code facts (on_looked (found_or_dead got.name y) s (trap DeadReference at (Running f ∷ below) s) (λ n o. with_choice (method_in code.impls kind.0 method o.kind) s (λ g. with_func (slice_get code.funcs g) s (calls_of n g))))
+            from None q = a_trap code facts DeadReference at (Running f ∷ below) s
             from (Some o) q =
                 let M = method_found code facts cert kind o.kind method m is_method (sees_interface kind method got.name m o is_method q (got.names.fits o q)) in
-                subst (λ y. NextFits (with_choice y s (λ g. with_func (slice_get code.funcs g) s (calls_of got.name g)))) (sym M.dispatch)
+                subst (λ y. NextFits code facts (with_choice y s (λ g. with_func (slice_get code.funcs g) s (calls_of got.name g)))) (sym M.dispatch)
                 (method_entered M.impl o M.g (slice_get code.funcs M.g) q M.of_is refl M.lawful)
 
       abbrev dispatches_it : ℕ → ℕ → ℕ → ℕ → List ℕ → Spot → Next
@@ -1473,7 +1017,7 @@ module _ (code : Parts) (facts : List FuncFacts) where
       by_params : (cert : Certified code facts) → goes_on instr ≡ true → (to interface method a : ℕ) (args : List ℕ) (at : Spot) (m : MethodInfo) → method_of code interface method ≡ Some m → m.is_pure ≡ false
           → (ps : List Ty) → m.params ≡ ps → takes_receiver interface m.is_pure ps ≡ true
           → (comes_back S.known.depth m.result to (passes_all S.known.depth ps (a ∷ args) (found_row a))).kept.types ≡ true → (comes_back S.known.depth m.result to (passes_all S.known.depth ps (a ∷ args) (found_row a))).kept.present ≡ true
-          → row.after ≡ (comes_back S.known.depth m.result to (passes_all S.known.depth ps (a ∷ args) (found_row a))).after → NextFits (dispatches_it to interface method a args at)
+          → row.after ≡ (comes_back S.known.depth m.result to (passes_all S.known.depth ps (a ∷ args) (found_row a))).after → NextFits code facts (dispatches_it to interface method a args at)
       by_params cert on to interface method a args at m is_method impure (t.Ref q ∷ tys) params r e g after =
           let ok = back_kept cert on to 0 args at m.result (passes_all S.known.depth tys args (passed S.known.depth a (t.Ref q) (found_row a))) e g in
           dispatched cert on to method a (record { 0 = interface }) args at m (t.Ref q) tys is_method impure params (received_ref (record { 0 = interface }) q tys a args (and_parts (q.0 == interface) (not m.is_pure) r).0 ok.0 ok.1) after
@@ -1484,14 +1028,14 @@ module _ (code : Parts) (facts : List FuncFacts) where
 
       by_purity : (cert : Certified code facts) → goes_on instr ≡ true → (to interface method a : ℕ) (args : List ℕ) (at : Spot) (m : MethodInfo) → method_of code interface method ≡ Some m → (b : Bool) → m.is_pure ≡ b
           → (rules.method_by_purity b S.known.depth S.known.regs m to a args).kept.types ≡ true → (rules.method_by_purity b S.known.depth S.known.regs m to a args).kept.present ≡ true
-          → row.after ≡ (rules.method_by_purity b S.known.depth S.known.regs m to a args).after → NextFits (dispatches_it to interface method a args at)
+          → row.after ≡ (rules.method_by_purity b S.known.depth S.known.regs m to a args).after → NextFits code facts (dispatches_it to interface method a args at)
       by_purity cert on to interface method a args at m is_method true impure e g after = let y : ⊥ = cc in absurd y
       by_purity cert on to interface method a args at m is_method false impure e g after =
           by_params cert on to interface method a args at m is_method impure m.params refl (receiver code facts cert (record { 0 = interface }) method m is_method) e g after
 
       method_called : (cert : Certified code facts) → goes_on instr ≡ true → (to interface method a : ℕ) (args : List ℕ) (at : Spot) (o : Option MethodInfo) → method_of code interface method ≡ o
           → (rules.calls_method S.known.depth S.known.regs o to a args).kept.types ≡ true → (rules.calls_method S.known.depth S.known.regs o to a args).kept.present ≡ true
-          → row.after ≡ (rules.calls_method S.known.depth S.known.regs o to a args).after → NextFits (dispatches_it to interface method a args at)
+          → row.after ≡ (rules.calls_method S.known.depth S.known.regs o to a args).after → NextFits code facts (dispatches_it to interface method a args at)
       method_called cert on to interface method a args at None q e g after = let y : ⊥ = cc in absurd y
       method_called cert on to interface method a args at (Some m) q e g after = by_purity cert on to interface method a args at m q m.is_pure refl e g after
 
@@ -1500,20 +1044,20 @@ module _ (code : Parts) (facts : List FuncFacts) where
       unary : goes_on instr ≡ true → (of result : Ty) (to a : ℕ) (at : Spot) (op : Value → Answer) → row.after ≡ slice_set S.known.regs to (Held result S.known.depth false)
           → has of (fact_of S.known.regs a) ≡ true → (is_there (fact_of S.known.regs a) && known.is_free (fact_of S.known.regs to)) ≡ true
           → kind_seen result ≡ None → ((v : Value) → value_has of v ≡ true → Answers s.world result (op v))
-          → NextFits (with_value (read f.registers a) s (λ v. answered f (Some to) f.registers at below s (op v)))
+          → NextFits code facts (with_value (read f.registers a) s (λ v. answered f (Some to) f.registers at below s (op v)))
       unary on of result to a at op e h there none each = reading a of _ h (and_parts _ _ there).0 (λ v g. answering on result to S.known.depth at (op v) e none (each v g.shape))
 
       sure : goes_on instr ≡ true → (of result : Ty) (to a : ℕ) (op : Value → Answer) → row.after ≡ slice_set S.known.regs to (Held result S.known.depth false)
           → has of (fact_of S.known.regs a) ≡ true → (is_there (fact_of S.known.regs a) && known.is_free (fact_of S.known.regs to)) ≡ true
           → kind_seen result ≡ None → ((v : Value) → value_has of v ≡ true → Surely s.world result (op v))
-          → NextFits (with_value (read f.registers a) s (λ v. certain f (Some to) f.registers below s (op v)))
+          → NextFits code facts (with_value (read f.registers a) s (λ v. certain f (Some to) f.registers below s (op v)))
       sure on of result to a op e h there none each = reading a of _ h (and_parts _ _ there).0 (λ v g. surely on result to S.known.depth (op v) e none (each v g.shape))
 
       binary : goes_on instr ≡ true → (of with_it result : Ty) (to a b : ℕ) (at : Spot) (op : Value → Value → Answer) → row.after ≡ slice_set S.known.regs to (Held result S.known.depth false)
           → (has of (fact_of S.known.regs a) && has with_it (fact_of S.known.regs b)) ≡ true
           → ((is_there (fact_of S.known.regs a) && is_there (fact_of S.known.regs b)) && known.is_free (fact_of S.known.regs to)) ≡ true
           → kind_seen result ≡ None → ((v w : Value) → value_has of v ≡ true → value_has with_it w ≡ true → Answers s.world result (op v w))
-          → NextFits (with_value (read f.registers a) s (λ v. with_value (read f.registers b) s (λ w. answered f (Some to) f.registers at below s (op v w))))
+          → NextFits code facts (with_value (read f.registers a) s (λ v. with_value (read f.registers b) s (λ w. answered f (Some to) f.registers at below s (op v w))))
       binary on of with_it result to a b at op e h there none each =
           let x = and_parts _ _ h in let y = and_parts _ _ (and_parts _ _ there).0 in
           reading a of _ x.0 y.0 (λ v g. reading b with_it _ x.1 y.1 (λ w q. answering on result to S.known.depth at (op v w) e none (each v w g.shape q.shape)))
@@ -1562,21 +1106,21 @@ module _ (code : Parts) (facts : List FuncFacts) where
 
     -- ---- the instructions
 
-    acts : Certified code facts → (instr : Instr) (instrs : List Instr) → F.rest ≡ instr ∷ instrs → Stepped code F.func F.of.labels F.is_judged.base f.place instr instrs (Some F.known) → numbers code F.func.registers instr ≡ true → NextFits (act code last f below s instr)
+    acts : Certified code facts → (instr : Instr) (instrs : List Instr) → F.rest ≡ instr ∷ instrs → Stepped code F.func F.of.labels F.is_judged.base f.place instr instrs (Some F.known) → numbers code F.func.registers instr ≡ true → NextFits code facts (act code last f below s instr)
     acts cert (i.Int to n) is e S num = setting (i.Int to n) is e S refl t.Int to S.known.depth (Int n) refl refl refl
     acts cert (i.Truth to choice) is e S num =
         let b = truth_is choice (and_parts _ _ num).1 in
-        subst (λ o. NextFits (with_choice o s (λ b. onward f (put f.registers to (Some (Truth b))) below s))) (sym b.1)
+        subst (λ o. NextFits code facts (with_choice o s (λ b. onward f (put f.registers to (Some (Truth b))) below s))) (sym b.1)
         (setting (i.Truth to choice) is e S refl t.Truth to S.known.depth (Truth b.0) refl refl refl)
     acts cert (i.Text to n) is e S num = from (slice_get code.texts n) S.keeps.types
       where
-        from : (o : Option (List ℕ)) → is_short o ≡ true → NextFits (with_choice o s (λ t. onward f (put f.registers to (Some (Text t))) below s))
+        from : (o : Option (List ℕ)) → is_short o ≡ true → NextFits code facts (with_choice o s (λ t. onward f (put f.registers to (Some (Text t))) below s))
         from None h = let x : ⊥ = cc in absurd x
         from (Some text) h = setting (i.Text to n) is e S refl t.Text to S.known.depth (Text text) refl refl refl
     acts cert (i.Copy to a) is e S num =
         let c = a_copy S.known.depth (fact_of S.known.regs a) (read f.registers a) S.keeps.types (and_parts _ _ S.keeps.present).0 ((fits_here (i.Copy to a) is e S).each a) in
-        subst (λ o. NextFits (with_value o s (λ v. gets f to (copied v) f.registers below s))) (sym c.1)
-        (subst (λ o. NextFits (gets f to o f.registers below s)) (sym c.2)
+        subst (λ o. NextFits code facts (with_value o s (λ v. gets f to (copied v) f.registers below s))) (sym c.1)
+        (subst (λ o. NextFits code facts (gets f to o f.registers below s)) (sym c.2)
         (stays_on (i.Copy to a) is e S refl (put f.registers to (Some c.0)) s refl (put_fits code s.world S.known.regs f.registers to (copy_of S.known.depth (fact_of S.known.regs a)) (Some c.0) c.3 (fits_here (i.Copy to a) is e S))
         (λ n. let x = put_owns n f.registers to (Some c.0) in let y = c.4 n in omega (arith, x, y))))
     acts cert (i.Add to a b at) is e S num = binary (i.Add to a b at) is e S refl t.Int t.Int t.Int to a b at (λ v w. step.add v w s) refl S.keeps.types S.keeps.present refl (λ v w. add_answers v w s)
@@ -1589,9 +1133,9 @@ module _ (code : Parts) (facts : List FuncFacts) where
         let types = and_parts _ _ S.keeps.types in let each = and_parts _ _ types.0 in let there = and_parts _ _ (and_parts _ _ S.keeps.present).0 in
         let fits = fits_here (i.Cmp to choice a b) is e S in
         let c = compared choice (fact_of S.known.regs a) (fact_of S.known.regs b) (read f.registers a) (read f.registers b) each.0 types.1 there.0 there.1 (fits.each a) (fits.each b) in
-        subst (λ o. NextFits (with_choice o s (λ c. with_value (read f.registers a) s (λ v. with_value (read f.registers b) s (λ w. certain f (Some to) f.registers below s (step.compare c v w s)))))) (sym q.1)
-        (subst (λ o. NextFits (with_value o s (λ v. with_value (read f.registers b) s (λ w. certain f (Some to) f.registers below s (step.compare q.0 v w s))))) (sym c.left_is)
-        (subst (λ o. NextFits (with_value o s (λ w. certain f (Some to) f.registers below s (step.compare q.0 c.left w s)))) (sym c.right_is)
+        subst (λ o. NextFits code facts (with_choice o s (λ c. with_value (read f.registers a) s (λ v. with_value (read f.registers b) s (λ w. certain f (Some to) f.registers below s (step.compare c v w s)))))) (sym q.1)
+        (subst (λ o. NextFits code facts (with_value o s (λ v. with_value (read f.registers b) s (λ w. certain f (Some to) f.registers below s (step.compare q.0 v w s))))) (sym c.left_is)
+        (subst (λ o. NextFits code facts (with_value o s (λ w. certain f (Some to) f.registers below s (step.compare q.0 c.left w s)))) (sym c.right_is)
         (surely (i.Cmp to choice a b) is e S refl t.Truth to S.known.depth (step.compare q.0 c.left c.right s) refl refl (compare_answers choice q.0 c.of c.left c.right s q.1 c.ordered c.left_has c.right_has))))
     acts cert (i.Not to a) is e S num = sure (i.Not to a) is e S refl t.Truth t.Truth to a (λ v. step.opposite v s) refl S.keeps.types S.keeps.present refl (λ v. opposite_answers v s)
     acts cert (i.Join to a b at) is e S num = binary (i.Join to a b at) is e S refl t.Text t.Text t.Text to a b at (λ v w. step.join v w s) refl S.keeps.types S.keeps.present refl (λ v w. join_answers v w s)
@@ -1610,23 +1154,23 @@ module _ (code : Parts) (facts : List FuncFacts) where
     acts cert (i.Print a choice) is e S num =
         let b = truth_is choice (and_parts _ _ num).1 in
         let p = printable (fact_of S.known.regs a) (read f.registers a) S.keeps.types S.keeps.present ((fits_here (i.Print a choice) is e S).each a) in
-        subst (λ o. NextFits (with_choice o s (λ line. with_value (read f.registers a) s (λ v. certain f None f.registers below s (print line v s))))) (sym b.1)
-        (subst (λ o. NextFits (with_value o s (λ v. certain f None f.registers below s (print b.0 v s)))) (sym p.1.1)
+        subst (λ o. NextFits code facts (with_choice o s (λ line. with_value (read f.registers a) s (λ v. certain f None f.registers below s (print line v s))))) (sym b.1)
+        (subst (λ o. NextFits code facts (with_value o s (λ v. certain f None f.registers below s (print b.0 v s)))) (sym p.1.1)
         (nothing (i.Print a choice) is e S refl (print b.0 p.1.0 s) refl (print_answers b.0 p.0 p.1.0 s p.1.2 p.1.3)))
     acts cert (i.Jump q) is e S num = jumping (i.Jump q) is e S q refl refl
     acts cert (i.Unless a q) is e S num =
         let v = reg_value code s.world S.known.regs f.registers a t.Truth (fits_here (i.Unless a q) is e S) S.keeps.types S.keeps.present in
-        subst (λ o. NextFits (with_truth o s (jump_unless code f q below s))) (sym v.1)
-        (as_truth v.0 (λ v. NextFits (with_truth (Some v) s (jump_unless code f q below s))) v.2.shape from)
+        subst (λ o. NextFits code facts (with_truth o s (jump_unless code f q below s))) (sym v.1)
+        (as_truth v.0 (λ v. NextFits code facts (with_truth (Some v) s (jump_unless code f q below s))) v.2.shape from)
       where
-        from : (b : Bool) → NextFits (jump_unless code f q below s b)
+        from : (b : Bool) → NextFits code facts (jump_unless code f q below s b)
         from true = stays_on (i.Unless a q) is e S refl f.registers s refl (fits_here (i.Unless a q) is e S) (λ n. omega arith)
         from false = jumping (i.Unless a q) is e S q refl refl
-    acts cert i.Tick is e S num = with_tick s _ (λ u same_world. stays_on i.Tick is e S refl f.registers u same_world (fits_here i.Tick is e S) (λ n. omega arith))
+    acts cert i.Tick is e S num = with_tick code facts s _ (λ u same_world. stays_on i.Tick is e S refl f.registers u same_world (fits_here i.Tick is e S) (λ n. omega arith))
     acts cert (i.Call to g args at) is e S num = calling (i.Call to g args at) is e S cert refl to g args at (slice_get code.funcs g) refl S.keeps.types S.keeps.present refl
     acts cert (i.Ret a) is e S num =
         let v = reg_value code s.world S.known.regs f.registers a F.func.result (fits_here (i.Ret a) is e S) S.keeps.types (and_parts _ _ S.keeps.present).0 in
-        subst (λ o. NextFits (with_value o s (λ v. function code f.function s (λ form func. leave_function form f.dest (Some v) below s)))) (sym v.1)
+        subst (λ o. NextFits code facts (with_value o s (λ v. function code f.function s (λ form func. leave_function form f.dest (Some v) below s)))) (sym v.1)
         (leaving (i.Ret a) is e S (Some v.0) (returned F.func.result v.0 v.2) (λ n. let x = put_owns n f.registers a None in let y = ap (λ o. own_in n o) v.1 in omega (arith, x, y)))
     acts cert i.RetVoid is e S num = leaving i.RetVoid is e S None (returned_nothing F.func.result S.keeps.types) (λ n. omega arith)
     acts cert (i.Move to a) is e S num = moving (i.Move to a) is e S refl to a S.keeps.types S.keeps.present refl
@@ -1658,10 +1202,10 @@ module _ (code : Parts) (facts : List FuncFacts) where
     numbers_at (x ∷ before) instr instrs e = numbers_at before instr instrs (and_parts _ _ e).1
 
     -- a step leads on to what fits, or ends otherwise than wrong
-    step_fits : Certified code facts → NextFits (step_of code last (Running f) below s)
+    step_fits : Certified code facts → NextFits code facts (step_of code last (Running f) below s)
     step_fits cert = from F.rest refl F.walks
       where
-        from : (is : List Instr) → F.rest ≡ is → walk code F.func F.of.labels F.is_judged.base f.place is F.came (Some F.known) ≡ None → NextFits (step_of code last (Running f) below s)
+        from : (is : List Instr) → F.rest ≡ is → walk code F.func F.of.labels F.is_judged.base f.place is F.came (Some F.known) ≡ None → NextFits code facts (step_of code last (Running f) below s)
         from [] e w =
             let whole : F.func.body ≡ F.before ++ [] = F.split ∙ ap (λ l. F.before ++ l) e in
             let long : length F.func.body ≡ length (F.before ++ []) = ap length whole in
@@ -1672,21 +1216,21 @@ module _ (code : Parts) (facts : List FuncFacts) where
             let here : slice_get (F.before ++ instr ∷ instrs) (length F.before) ≡ Some instr = slice_get-get_or (F.before ++ instr ∷ instrs) (length F.before) instr within ∙ ap Some (get_or-append_seam F.before instr instrs instr) in
             let fetched : fetch code f.function f.place ≡ Some instr =
             ap (λ o. Rattle.vale_code.specs.Instructions.instruction_in o f.place) F.found ∙ ap (λ l. slice_get l f.place) whole ∙ ap (λ n. slice_get (F.before ++ instr ∷ instrs) n) (sym F.at) ∙ here in
-            subst (λ o. NextFits (act_if code last f below s o)) (sym fetched)
+            subst (λ o. NextFits code facts (act_if code last f below s o)) (sym fetched)
             (acts cert instr instrs e (stepped code F.func F.of.labels F.is_judged.base f.place instr instrs F.came (Some F.known) w)
             (numbers_at F.before instr instrs (subst (λ l. list_all (numbers code F.func.registers) l ≡ true) whole F.is_judged.numbered)))
 
-  config_step : Certified code facts → (last : Config → State) (ty : Ty) (top : Frame) (below : List Frame) (s : State) → FrameFits s.world ty top → StackFits s.world ty (dest_of top) below → WorldFits code s.world
-      → OwnedBeside s.world (λ n. in_frame n top) below → NextFits (step_of code last top below s)
+  config_step : Certified code facts → (last : Config → State) (ty : Ty) (top : Frame) (below : List Frame) (s : State) → FrameFits code facts s.world ty top → StackFits code facts s.world ty (dest_of top) below → WorldFits code s.world
+      → OwnedBeside code facts s.world (λ n. in_frame n top) below → NextFits code facts (step_of code last top below s)
   config_step cert last ty (Running f) below s fits st heap owned = step_fits last ty f below s fits st heap owned cert
-  config_step cert last ty (Dropping f) below s fits st heap owned = drops_on cert f.rest f below s (subst (λ ty. StackFits s.world ty None below) fits st) heap owned
+  config_step cert last ty (Dropping f) below s fits st heap owned = drops_on code facts cert f.rest f below s (subst (λ ty. StackFits code facts s.world ty None below) fits st) heap owned
   config_step cert last ty (Looping f) below s fits st heap owned = absurd fits
   config_step cert last ty (Alone v) below s fits st heap owned = absurd fits
 
-  pub never_wrong : Certified code facts → (last : Config → State) (n : ℕ) (c : Config) (e : Ending) → ConfigFits c → exec_by code last n c ≡ Some e → e.end ≢ Wrong
+  pub never_wrong : Certified code facts → (last : Config → State) (n : ℕ) (c : Config) (e : Ending) → ConfigFits code facts c → exec_by code last n c ≡ Some e → e.end ≢ Wrong
   never_wrong cert last zero c e fits h = let x : ⊥ = cc in absurd x
   never_wrong cert last (suc n) c e fits h = from (step_by code last c) (config_step cert last fits.ty c.top c.below c.state fits.top fits.below fits.heap fits.owned) h (λ d g q. never_wrong cert last n d e g q)
     where
-      from : (x : Next) → NextFits x → then_go x (exec_by code last n) ≡ Some e → ((d : Config) → ConfigFits d → exec_by code last n d ≡ Some e → e.end ≢ Wrong) → e.end ≢ Wrong
+      from : (x : Next) → NextFits code facts x → then_go x (exec_by code last n) ≡ Some e → ((d : Config) → ConfigFits code facts d → exec_by code last n d ≡ Some e → e.end ≢ Wrong) → e.end ≢ Wrong
       from (On d) g q rest = rest d g q
       from (Over end v u) g q rest = λ w. g (let x : end ≡ Wrong = cc in x)

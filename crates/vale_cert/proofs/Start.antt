@@ -24,7 +24,8 @@ use Rattle.vale_cert.specs.declared.facts.FuncFacts.{FuncFacts}
 use Rattle.vale_cert.proofs.Cells.{Each, leading, to_each, born_fits}
 use Rattle.vale_cert.proofs.Fit.{ArgsFit, WorldFits, has_plain}
 use Rattle.vale_cert.proofs.Heap.{in_values, in_world, alive, later_born, state_born, world_born, alive_born}
-use Rattle.vale_cert.proofs.Safe.{NextFits, Quiet, names_it, entered, with_tick, never_wrong}
+use Rattle.vale_cert.proofs.Safe.{never_wrong}
+use Rattle.vale_cert.proofs.Standing.{NextFits, Quiet, names_it, entered, with_tick}
 use Rattle.vale_cert.proofs.Walks.{main_is_there, main_lawful}
 
 found_at : (fs : List Func) (n : ℕ) → n < length fs → (f : Func) × (slice_get fs n ≡ Some f)
