@@ -102,11 +102,11 @@ later_written w m p vs here = record {
       (λ o h. (p, here, sym (ap (λ x. kind_in p.kind x) h))) (λ k o h. (o, h, refl)) e;
 }
 
-relabelled_at : (w : World) (from to : Region) (n : ℕ) (o : Object) → object_at (relabelled from to w) n ≡ Some o → (p : Object) × (object_at w n ≡ Some p) × (o.kind ≡ p.kind) × (o.values ≡ p.values)
-relabelled_at [] from to n o e = let y : ⊥ = cc in absurd y
-relabelled_at (None ∷ w) from to zero o e = let y : ⊥ = cc in absurd y
-relabelled_at (Some p ∷ w) from to zero o e = (p, refl, sym (ap (λ x. kind_in p.kind x) e), sym (ap values_or e))
-relabelled_at (x ∷ w) from to (suc n) o e = relabelled_at w from to n o e
+pub relabelled_each : (w : World) (from to : Region) (n : ℕ) (o : Object) → object_at (relabelled from to w) n ≡ Some o → (p : Object) × (object_at w n ≡ Some p) × (o.kind ≡ p.kind) × (o.values ≡ p.values)
+relabelled_each [] from to n o e = let y : ⊥ = cc in absurd y
+relabelled_each (None ∷ w) from to zero o e = let y : ⊥ = cc in absurd y
+relabelled_each (Some p ∷ w) from to zero o e = (p, refl, sym (ap (λ x. kind_in p.kind x) e), sym (ap values_or e))
+relabelled_each (x ∷ w) from to (suc n) o e = relabelled_each w from to n o e
 
 relabelled_length : (w : World) (from to : Region) → length (relabelled from to w) ≡ length w
 relabelled_length [] from to = refl
@@ -115,11 +115,8 @@ relabelled_length (x ∷ w) from to = ap suc (relabelled_length w from to)
 pub later_relabelled : (w : World) (from to : Region) → Later w (relabelled from to w)
 later_relabelled w from to = record {
   longer = let x = relabelled_length w from to in omega (arith, x);
-  same = λ n lt o e. let p = relabelled_at w from to n o e in (p.0, p.1, p.2);
+  same = λ n lt o e. let p = relabelled_each w from to n o e in (p.0, p.1, p.2);
 }
-
-pub relabelled_each : (w : World) (from to : Region) (n : ℕ) (o : Object) → object_at (relabelled from to w) n ≡ Some o → (p : Object) × (object_at w n ≡ Some p) × (o.kind ≡ p.kind) × (o.values ≡ p.values)
-relabelled_each w from to n o e = relabelled_at w from to n o e
 
 -- ---- how often a name is owned
 

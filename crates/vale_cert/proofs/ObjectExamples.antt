@@ -707,3 +707,19 @@ calls_over_an_owner = refl
 
 calls_a_method_of_an_outer_reference : deeper shape_ref (i.CallM 2 4 0 0 (1 ∷ []) at ∷ i.RetVoid ∷ []) ≡ fails 4 2
 calls_a_method_of_an_outer_reference = refl
+
+-- ---- destructors
+
+abbrev of_destructor : List Instr → Option Fault
+of_destructor body =
+    first_fault (code (k.Struct 0 (Some 1) (field false t.Int ∷ []) ∷ []) [] (plain [] t.Void (i.RetVoid ∷ []) ∷ function 3 (cell ∷ []) t.Void body ∷ [])) (facts [] ∷ facts [] ∷ [])
+
+takes_its_object_apart : of_destructor (i.Open (1 ∷ []) 0 ∷ i.Print 1 1 ∷ i.RetVoid ∷ []) ≡ None
+takes_its_object_apart = refl
+
+-- it would be called again, up to the depth that a run may have
+destroys_its_object : of_destructor (i.Destroy 0 at ∷ i.RetVoid ∷ []) ≡ None
+destroys_its_object = refl
+
+leaves_its_object : of_destructor (i.RetVoid ∷ []) ≡ fails 3 1
+leaves_its_object = refl

@@ -102,11 +102,7 @@ module _ (code : Parts) (facts : List FuncFacts) where
   stack_later w u ty dest [] l h = tt
   stack_later w u ty dest (f ∷ fs) l h = (h.0, (λ x o m r. h.1 x o (later_later w u x l m) r), stack_later w u h.0 (dest_of f) fs l h.2)
 
-  -- each name is owned at most once, and while it lives
-  abbrev pub OwnedOnce : World → List Frame → Type 0
-  OwnedOnce w fs = (n : ℕ) → in_frames n fs + in_world n w ≤ alive n w
-
-  -- the same, with these names owned beside
+  -- each name is owned at most once, and while it lives, where these names are owned beside
   abbrev pub OwnedBeside : World → (ℕ → ℕ) → List Frame → Type 0
   OwnedBeside w beside fs = (n : ℕ) → beside n + in_frames n fs + in_world n w ≤ alive n w
 
