@@ -2,9 +2,9 @@
 use Rattle.std.proofs.Common.{◌≡◌, ◌≢◌, ℕ, zero, suc, ◌<◌, List, [], ◌∷◌, length, Option, Some, None, Bool, true, false, ◌==◌, refl, sym, ap, ◌∙◌, subst, arith}
 use Rattle.std.specs.Prelude.{slice_get}
 use Rattle.std.proofs.lemmas.Bool.{and_parts}
-use Rattle.vale_base.specs.Outcome.{End, Wrong}
-use Rattle.vale_base.specs.State.{State, Given, no_input, numbers, lines, ints, texts, given, begin, born, function_frame}
-use Rattle.vale_base.specs.World.{Value, Own, next_name}
+use Rattle.vale_state_spec.specs.Outcome.{End, Wrong}
+use Rattle.vale_state_spec.specs.State.{State, Given, no_input, numbers, lines, ints, texts, given, begin, born, function_frame}
+use Rattle.vale_state_spec.specs.World.{Value, Own, next_name}
 use Rattle.vale_base.specs.declared.name.Kind.{Kind}
 use Rattle.vale_code.specs.Enter.{Form, Plain, form_of, function, with_func, with_form, enter}
 use Rattle.vale_code.specs.Frames.{Config, Next, On, Over, wrong}

@@ -1,8 +1,8 @@
 -- Steps on values of the right types have an answer.
 use Rattle.std.proofs.Common.{◌≡◌, ◌<◌, ℕ, zero, suc, ℤ, List, [], ◌∷◌, length, Option, Some, None, Bool, true, false, ◌⊎◌, inl, inr, refl, sym, ap, ◌∙◌, subst, arith}
 use Rattle.std.specs.Prelude.{nat_lt, Result, Ok, Err}
-use Rattle.vale_base.specs.State.{State, Answer, gives, traps, fails, print, print_text, shown}
-use Rattle.vale_base.specs.World.{Value, Int, Truth, Text, Own, Ref, Iso}
+use Rattle.vale_state_spec.specs.State.{State, Answer, gives, traps, fails, print, print_text, shown}
+use Rattle.vale_state_spec.specs.World.{Value, Int, Truth, Text, Own, Ref, Iso}
 use Rattle.vale_base.specs.declared.trap.TrapKind.{TrapKind}
 use Rattle.vale_text.specs.Operations as o
 use Rattle.vale_text.specs.Steps as step

@@ -1,6 +1,6 @@
 -- Which input a code takes.
 use Rattle.std.specs.Prelude.{List, [], ◌∷◌, Option, Some, None, Bool, true, false, slice_get}
-use Rattle.vale_base.specs.State.{Given, no_input, numbers, lines}
+use Rattle.vale_state_spec.specs.State.{Given, no_input, numbers, lines}
 use Rattle.vale_code.specs.Kinds.{kind_of}
 use Rattle.vale_code.specs.Parts.{Parts}
 use Rattle.vale_code.specs.declared.func.Func.{Func}

@@ -1,8 +1,8 @@
 //! What certified code never does: the contract of a function that does nothing.
 
 ghost use Rattle.std.specs.Prelude.{◌≡◌, ◌≢◌, ℕ, List, true};
-ghost use Rattle.vale_base.specs.Outcome.{Wrong};
-ghost use Rattle.vale_base.specs.State.{Given};
+ghost use Rattle.vale_state_spec.specs.Outcome.{Wrong};
+ghost use Rattle.vale_state_spec.specs.State.{Given};
 ghost use Rattle.vale_code.specs.Parts.{Parts};
 ghost use Rattle.vale_code.specs.Run.{run_code};
 ghost use Rattle.vale_cert.specs.Certificate.{Certified};

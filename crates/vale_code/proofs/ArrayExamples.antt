@@ -2,8 +2,8 @@
 use Rattle.std.proofs.Common.{◌≡◌, ℕ, pos, negsuc, List, [], ◌∷◌, ◌++◌, refl}
 use Rattle.std.specs.Fmt.{digits}
 use Rattle.std.specs.Prelude.{codes}
-use Rattle.vale_base.specs.Outcome.{Done, Wrong}
-use Rattle.vale_base.specs.State.{no_input}
+use Rattle.vale_state_spec.specs.Outcome.{Done, Wrong}
+use Rattle.vale_state_spec.specs.State.{no_input}
 use Rattle.vale_base.specs.declared.trap.TrapKind.{TrapKind}
 use Rattle.vale_base.specs.declared.trap.TrapKind.TheVariants.{DeadReference, IndexOutOfRange, EmptyPop}
 use Rattle.vale_code.proofs.Codes.{at, kind, main_of, code_of, piece, gives, in_main, trap}

@@ -2,9 +2,9 @@
 use Rattle.std.proofs.Common.{◌≡◌, ℕ, ◌+◌, ◌≤◌, ℤ, pos, negsuc, List, [], ◌∷◌, ◌++◌, length, Option, Some, None, Result, Ok, Err, Bool, true, false, nat_lt, if◌then◌else◌, refl, ap}
 use Rattle.std.specs.Prelude.{slice_get, max}
 use Rattle.vale_base.specs.Limits.{width_limit}
-use Rattle.vale_base.specs.State.{State, Answer, gives, traps, fails, Looked, found, dead, nowhere, on_object, with_object, look_up, found_or_dead, object_of, name_of, field_in, load, swapped_in, swap, element_in, element_at, element, element_swapped_in, element_swapped_at, swap_element, push, popped, pop, merge, print, print_text, shown, born, changed, here, live, thaw, thaw_iteration, RegionEnd, merged, kept, cleared, end_of_pure, end_of_isolate}
-use Rattle.vale_base.specs.World.{Value, Int, Truth, Text, Own, Ref, Iso, Object}
-use Rattle.vale_base.specs.World as w
+use Rattle.vale_state_spec.specs.State.{State, Answer, gives, traps, fails, Looked, found, dead, nowhere, on_object, with_object, look_up, found_or_dead, object_of, name_of, field_in, load, swapped_in, swap, element_in, element_at, element, element_swapped_in, element_swapped_at, swap_element, push, popped, pop, merge, print, print_text, shown, born, changed, here, live, thaw, thaw_iteration, RegionEnd, merged, kept, cleared, end_of_pure, end_of_isolate}
+use Rattle.vale_state_spec.specs.World.{Value, Int, Truth, Text, Own, Ref, Iso, Object}
+use Rattle.vale_state_spec.specs.World as w
 use Rattle.vale_base.specs.declared.name.Kind.{Kind}
 use Rattle.vale_base.specs.declared.trap.TrapKind.{TrapKind}
 use Rattle.vale_base.specs.declared.trap.TrapKind.TheVariants.{DeadReference, ArrayTooLong}

@@ -2,8 +2,8 @@
 use Rattle.std.proofs.Common.{◌≡◌, ℕ, pos, negsuc, List, [], ◌∷◌, ◌++◌, None, false, refl}
 use Rattle.std.specs.Fmt.{digits}
 use Rattle.std.specs.Prelude.{codes}
-use Rattle.vale_base.specs.Outcome.{Done, Cut, Wrong}
-use Rattle.vale_base.specs.State.{no_input, numbers, lines}
+use Rattle.vale_state_spec.specs.Outcome.{Done, Cut, Wrong}
+use Rattle.vale_state_spec.specs.State.{no_input, numbers, lines}
 use Rattle.vale_base.specs.declared.trap.TrapKind.TheVariants.{DeadReference, Overflow}
 use Rattle.vale_code.proofs.Codes.{at, kind, function, main_of, code_of, alone, with_f, struct, line, piece, gives, frame, in_main, trap}
 use Rattle.vale_code.specs.Parts.{Parts}

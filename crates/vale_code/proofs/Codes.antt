@@ -1,7 +1,7 @@
 -- Words for the short codes of the examples.
 use Rattle.std.proofs.Common.{ℕ, List, [], ◌∷◌, ◌++◌, Option, true}
 use Rattle.std.specs.Prelude.{codes}
-use Rattle.vale_base.specs.Outcome.{Outcome, End, Trap}
+use Rattle.vale_state_spec.specs.Outcome.{Outcome, End, Trap}
 use Rattle.vale_base.specs.declared.name.Kind.{Kind}
 use Rattle.vale_base.specs.declared.spot.Spot.{Spot}
 use Rattle.vale_base.specs.declared.piece.Piece.{Piece}

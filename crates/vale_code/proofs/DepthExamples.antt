@@ -1,8 +1,8 @@
 -- Where the depth ends: steps of codes at a state with many open freezes.
 use Rattle.std.proofs.Common.{◌≡◌, ℕ, pos, [], ◌∷◌, Some, None, true, refl}
 use Rattle.std.specs.Prelude.{codes}
-use Rattle.vale_base.specs.State.{State, begin}
-use Rattle.vale_base.specs.World.{Own, Freeze}
+use Rattle.vale_state_spec.specs.State.{State, begin}
+use Rattle.vale_state_spec.specs.World.{Own, Freeze}
 use Rattle.vale_base.specs.declared.trap.TrapKind.TheVariants.{CallDepth}
 use Rattle.vale_code.proofs.Codes.{at, kind, function, main_of, code_of, struct, frame, in_main, trap}
 use Rattle.vale_code.specs.Frames.{Frame, Running, Looping, Numbers, Config, Next, On, Over}

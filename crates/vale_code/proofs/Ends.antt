@@ -3,14 +3,14 @@ use Rattle.std.proofs.Common.{◌≡◌, ℕ, zero, suc, ◌+◌, ◌<◌, ◌�
 use Rattle.std.specs.Prelude.{slice_get}
 use Rattle.std.proofs.lemmas.Bool.{cases_lt}
 use Rattle.vale_base.specs.Limits.{width_limit}
-use Rattle.vale_base.specs.State.{State, dies, Answer, gives, traps, fails, Given, begin, object_of, join_isolate, is_outermost, look, freeze, born, make, width_of}
-use Rattle.vale_base.specs.World.{Value, Int, Truth, Text, Own, Ref, Iso, Object}
+use Rattle.vale_state_spec.specs.State.{State, dies, Answer, gives, traps, fails, Given, begin, object_of, join_isolate, is_outermost, look, freeze, born, make, width_of}
+use Rattle.vale_state_spec.specs.World.{Value, Int, Truth, Text, Own, Ref, Iso, Object}
 use Rattle.vale_base.specs.declared.name.Kind.{Kind}
 use Rattle.vale_base.specs.declared.spot.Spot.{Spot}
 use Rattle.vale_base.specs.declared.trap.FrameAt.{FrameAt}
 use Rattle.vale_base.specs.declared.trap.TrapKind.TheVariants.{DeadReference, LoopTooWide}
-use Rattle.vale_base.specs.State as region
-use Rattle.vale_base.specs.State.{merged, cleared}
+use Rattle.vale_state_spec.specs.State as region
+use Rattle.vale_state_spec.specs.State.{merged, cleared}
 use Rattle.vale_text.specs.Operations as operations
 use Rattle.vale_code.proofs.Fits as fits
 use Rattle.vale_code.proofs.Fits.{ticks, ticks_fewer, Fits, fetch_within, top_most}

@@ -2,9 +2,9 @@
 use Rattle.std.proofs.Common.{◌≡◌, ℕ, zero, suc, ◌+◌, ◌*◌, ◌<◌, ◌≤◌, ℤ, List, [], ◌∷◌, length, Option, Some, None, Bool, true, false, if◌then◌else◌, refl, sym, subst, arith}
 use Rattle.std.specs.Prelude.{slice_get}
 use Rattle.std.proofs.lemmas.Option.{slice_get_within}
-use Rattle.vale_base.specs.Outcome.{Wrong}
-use Rattle.vale_base.specs.State.{State, has_depth, spend_of, Looked, found, dead, nowhere, end_of_pure, end_of_isolate}
-use Rattle.vale_base.specs.World.{Value, Int, Truth, Text, Own, Ref, Iso, Object}
+use Rattle.vale_state_spec.specs.Outcome.{Wrong}
+use Rattle.vale_state_spec.specs.State.{State, has_depth, spend_of, Looked, found, dead, nowhere, end_of_pure, end_of_isolate}
+use Rattle.vale_state_spec.specs.World.{Value, Int, Truth, Text, Own, Ref, Iso, Object}
 use Rattle.vale_base.specs.declared.spot.Spot.{Spot}
 use Rattle.vale_base.specs.declared.trap.FrameAt.{FrameAt}
 use Rattle.vale_base.specs.declared.trap.TrapKind.{TrapKind}

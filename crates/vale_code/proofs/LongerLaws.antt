@@ -1,8 +1,8 @@
 -- A run with more ticks does the same, but where it is cut with fewer: there it goes on from what was printed.
 use Rattle.std.proofs.Common.{◌≡◌, ◌≢◌, ℕ, zero, suc, ◌≤◌, List, [], ◌∷◌, append-nil, Option, Some, None, refl, sym, ap, ◌∙◌, subst}
-use Rattle.vale_base.specs.Outcome.{End, Done, Trap, Cut, Wrong, Outcome}
-use Rattle.vale_base.specs.State.{State, Given, given, begin, born, function_frame}
-use Rattle.vale_base.specs.World.{Value, Own, next_name}
+use Rattle.vale_state_spec.specs.Outcome.{End, Done, Trap, Cut, Wrong, Outcome}
+use Rattle.vale_state_spec.specs.State.{State, Given, given, begin, born, function_frame}
+use Rattle.vale_state_spec.specs.World.{Value, Own, next_name}
 use Rattle.vale_text.specs.Later.{Begins, Later}
 use Rattle.vale_code.proofs.Beside as side
 use Rattle.vale_code.proofs.Beside.{Beside, beside}

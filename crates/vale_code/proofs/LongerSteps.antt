@@ -2,10 +2,10 @@
 use Rattle.std.proofs.Common.{◌≡◌, ℕ, zero, suc, ◌+◌, ◌≤◌, ℤ, List, [], ◌∷◌, length, Option, Some, None, Bool, true, false, ◌||◌, nat_lt, nat_le, if◌then◌else◌, refl, sym, ap, subst, arith}
 use Rattle.std.specs.Prelude.{slice_get}
 use Rattle.vale_base.specs.Limits.{width_limit}
-use Rattle.vale_base.specs.Outcome.{End, Done, Cut}
-use Rattle.vale_base.specs.State.{State, Answer, gives, traps, fails, has_depth, spend_of, Looked, found, dead, nowhere, look, look_up, found_or_dead, name_of, object_of, dies, join_isolate, is_outermost, born, make, freeze, thaw, merged, cleared, width_of}
-use Rattle.vale_base.specs.State as region
-use Rattle.vale_base.specs.World.{Value, Int, Truth, Text, Own, Ref, Iso, Object, next_name}
+use Rattle.vale_state_spec.specs.Outcome.{End, Done, Cut}
+use Rattle.vale_state_spec.specs.State.{State, Answer, gives, traps, fails, has_depth, spend_of, Looked, found, dead, nowhere, look, look_up, found_or_dead, name_of, object_of, dies, join_isolate, is_outermost, born, make, freeze, thaw, merged, cleared, width_of}
+use Rattle.vale_state_spec.specs.State as region
+use Rattle.vale_state_spec.specs.World.{Value, Int, Truth, Text, Own, Ref, Iso, Object, next_name}
 use Rattle.vale_base.specs.declared.name.Kind.{Kind}
 use Rattle.vale_base.specs.declared.piece.Piece.{Piece}
 use Rattle.vale_base.specs.declared.spot.Spot.{Spot}

@@ -2,8 +2,8 @@
 use Rattle.std.proofs.Common.{◌≡◌, ℕ, pos, List, [], ◌∷◌, ◌++◌, Option, Some, None, refl}
 use Rattle.std.specs.Fmt.{digits}
 use Rattle.std.specs.Prelude.{codes}
-use Rattle.vale_base.specs.Outcome.{Done, Cut, Wrong}
-use Rattle.vale_base.specs.State.{no_input}
+use Rattle.vale_state_spec.specs.Outcome.{Done, Cut, Wrong}
+use Rattle.vale_state_spec.specs.State.{no_input}
 use Rattle.vale_base.specs.declared.trap.TrapKind.TheVariants.{DeadReference}
 use Rattle.vale_code.proofs.Codes.{at, kind, function, main_of, code_of, field, struct, line, piece, gives, frame, in_main, trap}
 use Rattle.vale_code.specs.Parts.{Parts}

@@ -1,8 +1,8 @@
 -- Runs go on as they should: ticks are only spent, pieces are only added, and names never return.
 use Rattle.std.proofs.Common.{◌≡◌, ℕ, zero, suc, ◌≤◌, List, [], ◌∷◌, Option, Some, None, sym, ap, subst, arith}
-use Rattle.vale_base.specs.Outcome.{End, Cut}
-use Rattle.vale_base.specs.State.{State, Given, given, begin, born, function_frame, living}
-use Rattle.vale_base.specs.World.{Value, Own, IsDead, next_name}
+use Rattle.vale_state_spec.specs.Outcome.{End, Cut}
+use Rattle.vale_state_spec.specs.State.{State, Given, given, begin, born, function_frame, living}
+use Rattle.vale_state_spec.specs.World.{Value, Own, IsDead, next_name}
 use Rattle.vale_text.proofs.StateLaws.{later_refl, later_trans, born_later_state}
 use Rattle.vale_text.specs.Later.{Later, EndsRight, StampsRise}
 use Rattle.vale_code.proofs.Ends.{step_less, run_ends}

@@ -1,9 +1,9 @@
 -- What each instruction does (docs/FORMATS.md, "Instructions").
 use Rattle.std.specs.Prelude.{ℕ, ℤ, List, [], ◌∷◌, length, Option, Some, None, slice_get, nat_le, if◌then◌else◌}
 use Rattle.vale_base.specs.Limits.{width_limit}
-use Rattle.vale_base.specs.Outcome.{Done}
-use Rattle.vale_base.specs.State.{State, Answer, print, make, dies, object_of, name_of, look, Looked, found, dead, nowhere, load, swap, element, swap_element, push, pop, freeze, thaw, merged, kept, cleared, merge, width_of}
-use Rattle.vale_base.specs.World.{Value, Int, Truth, Text, Own, Ref, Iso, Object}
+use Rattle.vale_state_spec.specs.Outcome.{Done}
+use Rattle.vale_state_spec.specs.State.{State, Answer, print, make, dies, object_of, name_of, look, Looked, found, dead, nowhere, load, swap, element, swap_element, push, pop, freeze, thaw, merged, kept, cleared, merge, width_of}
+use Rattle.vale_state_spec.specs.World.{Value, Int, Truth, Text, Own, Ref, Iso, Object}
 use Rattle.vale_base.specs.declared.name.Kind.{Kind}
 use Rattle.vale_base.specs.declared.spot.Spot.{Spot}
 use Rattle.vale_base.specs.declared.trap.TrapKind.TheVariants.{DeadReference, LoopTooWide}

@@ -1,7 +1,7 @@
 -- How objects are destroyed.
 use Rattle.std.specs.Prelude.{ℕ, List, [], ◌∷◌, Option, Some, None}
-use Rattle.vale_base.specs.State.{State, object_of, dies, join_isolate, drop_frame}
-use Rattle.vale_base.specs.World.{Value, Own, Iso, Object}
+use Rattle.vale_state_spec.specs.State.{State, object_of, dies, join_isolate, drop_frame}
+use Rattle.vale_state_spec.specs.World.{Value, Own, Iso, Object}
 use Rattle.vale_base.specs.declared.spot.Spot.{Spot}
 use Rattle.vale_code.specs.Enter.{function, enter, if_destructor}
 use Rattle.vale_code.specs.Frames.{Frame, Dropping, Emptying, Next, on, wrong, deeper, after_tick, leave}

@@ -1,7 +1,7 @@
 -- How functions are entered and left.
 use Rattle.std.specs.Prelude.{ℕ, zero, suc, List, Option, Some, None, slice_get}
-use Rattle.vale_base.specs.State.{State, freeze, freeze_iteration, thaw, thaw_iteration, end_of_pure, end_of_isolate, isolated}
-use Rattle.vale_base.specs.World.{Value}
+use Rattle.vale_state_spec.specs.State.{State, freeze, freeze_iteration, thaw, thaw_iteration, end_of_pure, end_of_isolate, isolated}
+use Rattle.vale_state_spec.specs.World.{Value}
 use Rattle.vale_base.specs.declared.trap.FrameAt.{FrameAt}
 use Rattle.vale_code.specs.Frames.{Frame, Running, Next, on, wrong, deeper, after_tick, leave}
 use Rattle.vale_code.specs.Parts.{Parts}

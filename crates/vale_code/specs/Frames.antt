@@ -1,8 +1,8 @@
 -- What is under way when code runs, and what a step leads to.
 use Rattle.std.specs.Prelude.{ℕ, zero, suc, ℤ, pos, ◌+ℤ◌, List, [], ◌∷◌, ◌++◌, Option, Some, None, Bool, if◌then◌else◌}
-use Rattle.vale_base.specs.Outcome.{End, Done, Cut, Wrong}
-use Rattle.vale_base.specs.State.{State, Calls, has_depth, spend, trap_under}
-use Rattle.vale_base.specs.World.{Value, Int}
+use Rattle.vale_state_spec.specs.Outcome.{End, Done, Cut, Wrong}
+use Rattle.vale_state_spec.specs.State.{State, Calls, has_depth, spend, trap_under}
+use Rattle.vale_state_spec.specs.World.{Value, Int}
 use Rattle.vale_base.specs.declared.spot.Spot.{Spot}
 use Rattle.vale_base.specs.declared.trap.FrameAt.{FrameAt}
 use Rattle.vale_base.specs.declared.trap.TrapKind.{TrapKind}

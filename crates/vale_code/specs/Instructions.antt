@@ -1,7 +1,7 @@
 -- What instructions do that are no calls: they go on in the same function, trap, or have no rule.
 use Rattle.std.specs.Prelude.{ℕ, zero, suc, ◌+◌, ℤ, pos, List, ◌∷◌, length, Option, Some, None, Bool, true, false, slice_get, nat_lt, ◌||◌}
-use Rattle.vale_base.specs.State.{State, Answer, gives, traps, fails, with_object}
-use Rattle.vale_base.specs.World.{Value, Int, Truth, Own, Ref, Iso}
+use Rattle.vale_state_spec.specs.State.{State, Answer, gives, traps, fails, with_object}
+use Rattle.vale_state_spec.specs.World.{Value, Int, Truth, Own, Ref, Iso}
 use Rattle.vale_base.specs.declared.spot.Spot.{Spot}
 use Rattle.vale_base.specs.declared.trap.TrapKind.TheVariants.{DeadReference}
 use Rattle.vale_text.specs.Steps.{Comparison, equal, not_equal, less, less_equal, greater, greater_equal, on_text}

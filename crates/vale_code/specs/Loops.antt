@@ -1,7 +1,7 @@
 -- Parallel loops: their iterations run one after another, each in a region of its own.
 use Rattle.std.specs.Prelude.{ℕ, ◌+◌, List, [], ◌∷◌, Option, Some, None, Bool, true, false}
-use Rattle.vale_base.specs.State.{State, born, alone, loop_counted, is_outermost, iteration_frame}
-use Rattle.vale_base.specs.World.{Value, Own, next_name}
+use Rattle.vale_state_spec.specs.State.{State, born, alone, loop_counted, is_outermost, iteration_frame}
+use Rattle.vale_state_spec.specs.World.{Value, Own, next_name}
 use Rattle.vale_base.specs.declared.name.Kind.{Kind}
 use Rattle.vale_code.specs.Enter.{function, enter, if_iteration}
 use Rattle.vale_code.specs.Frames.{Frame, Looping, Alone, Iterating, Item, Config, Next, On, Over, on, wrong, after_tick, leave, next_item, all_items}

@@ -1,6 +1,6 @@
 -- How many frames a run of code may need.
 use Rattle.std.specs.Prelude.{ℕ, ◌+◌, ◌-◌, ◌/◌, ◌^◌, nat_lt, if◌then◌else◌}
-use Rattle.vale_base.specs.State.{State, Given}
+use Rattle.vale_state_spec.specs.State.{State, Given}
 use Rattle.vale_code.specs.Parts.{Parts}
 use Rattle.vale_code.specs.Run.{ending_of}
 

@@ -1,7 +1,7 @@
 -- The registers of a function: each has a value or is empty.
 use Rattle.std.specs.Prelude.{ℕ, zero, suc, ◌-◌, List, [], ◌∷◌, ◌++◌, length, map, replicate, Option, Some, None}
-use Rattle.vale_base.specs.World.{Value, Own, Ref, Iso}
-use Rattle.vale_base.specs.State.{name_of}
+use Rattle.vale_state_spec.specs.World.{Value, Own, Ref, Iso}
+use Rattle.vale_state_spec.specs.State.{name_of}
 use Rattle.vale_code.specs.declared.ty.Ty.{Ty}
 use Rattle.vale_code.specs.declared.ty.Ty.TheVariants as t
 

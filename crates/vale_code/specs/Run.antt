@@ -1,8 +1,8 @@
 -- What a run of code gives.
 use Rattle.std.specs.Prelude.{◌≡◌, ℕ, zero, suc, List, [], ◌∷◌, Option, Some, None}
-use Rattle.vale_base.specs.Outcome.{Outcome, End, Wrong}
-use Rattle.vale_base.specs.State.{State, Given, given, begin, born, function_frame, outcome}
-use Rattle.vale_base.specs.World.{Value, Own, next_name}
+use Rattle.vale_state_spec.specs.Outcome.{Outcome, End, Wrong}
+use Rattle.vale_state_spec.specs.State.{State, Given, given, begin, born, function_frame, outcome}
+use Rattle.vale_state_spec.specs.World.{Value, Own, next_name}
 use Rattle.vale_base.specs.declared.spot.Spot.{Spot}
 use Rattle.vale_code.specs.Act.{step_by}
 use Rattle.vale_code.specs.Enter.{Form, Plain, function, enter}

@@ -1,9 +1,9 @@
 //! What holds of every run of every code: laws of the definitions, each the contract of a function that does nothing.
 
 ghost use Rattle.std.specs.Prelude.{◌≡◌, ◌≢◌, ◌≤◌, ℕ, List, None, slice_get};
-ghost use Rattle.vale_base.specs.Outcome.{Cut, Wrong};
-ghost use Rattle.vale_base.specs.State.{State, Given};
-ghost use Rattle.vale_base.specs.World.{Own, IsDead};
+ghost use Rattle.vale_state_spec.specs.Outcome.{Cut, Wrong};
+ghost use Rattle.vale_state_spec.specs.State.{State, Given};
+ghost use Rattle.vale_state_spec.specs.World.{Own, IsDead};
 ghost use Rattle.vale_base.specs.declared.spot.Spot.{Spot};
 ghost use Rattle.vale_text.specs.Later.{Begins, StampsRise, NameLater};
 ghost use Rattle.vale_code.specs.Destroy.{destroy};

@@ -24,8 +24,8 @@ use Rattle.vale_core.specs.declared.tree.Stmt.{Stmt}
 use Rattle.vale_core.specs.declared.tree.Stmt.TheVariants as m
 use Rattle.vale_core.specs.declared.tree.Block.{Block, roll-Block}
 use Rattle.vale_core.specs.declared.tree.ElseIf.{ElseIf, roll-ElseIf}
-use Rattle.vale_syntax.specs.Types as y
-use Rattle.vale_syntax.specs.Typed as t
+use Rattle.vale_rules_spec.specs.Types as y
+use Rattle.vale_rules_spec.specs.Typed as t
 use Rattle.vale_core.specs.View.{exprs_of, links_of, steps_of, elses_of, stmts_of, return_of, view_ty, view_view, view_seen, view_callee, view_expr, view_node, view_form, view_step, view_stmt, view_block, view_else_if, view_link}
 
 -- ---- types

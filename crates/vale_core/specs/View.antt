@@ -22,8 +22,8 @@ use Rattle.vale_core.specs.declared.tree.Item.{Item}
 use Rattle.vale_core.specs.declared.tree.Item.TheVariants as item
 use Rattle.vale_core.specs.declared.tree.Core.{Core}
 use Rattle.vale_syntax.specs.View.{listed, view_head, view_field}
-use Rattle.vale_syntax.specs.Types as y
-use Rattle.vale_syntax.specs.Typed as t
+use Rattle.vale_rules_spec.specs.Types as y
+use Rattle.vale_rules_spec.specs.Typed as t
 
 -- ---- what is known of an expression
 

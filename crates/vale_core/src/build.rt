@@ -1,8 +1,8 @@
 //! The nodes of the typed tree, each with its view. What takes an allocator wants memory for its parts.
 
 ghost use Rattle.std.specs.Prelude.{◌≡◌, map, option_map, IfOk};
-ghost use Rattle.vale_syntax.specs.Types as y;
-ghost use Rattle.vale_syntax.specs.Typed as t;
+ghost use Rattle.vale_rules_spec.specs.Types as y;
+ghost use Rattle.vale_rules_spec.specs.Typed as t;
 ghost use Rattle.vale_core.specs.View.{exprs_of, links_of, steps_of, elses_of, stmts_of, view_ty, view_view, view_seen, view_callee, view_expr, view_form, view_step, view_stmt, view_block, view_else_if, view_link};
 
 use crate::seen::{Seen, View};

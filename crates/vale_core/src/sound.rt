@@ -1,6 +1,6 @@
 // The typed tree of a program that breaks no rule.
 ghost use Rattle.vale_core.specs.View.{view_core};
-ghost use Rattle.vale_syntax.specs.WellFormed.{IsSound};
+ghost use Rattle.vale_rules_spec.specs.WellFormed.{IsSound};
 
 use crate::tree::Core;
 

@@ -1,7 +1,7 @@
 //! The types of values.
 
 ghost use Rattle.std.specs.Prelude.{◌≡◌, IfOk};
-ghost use Rattle.vale_syntax.specs.Types.{same, is_void, is_copy, is_owner, is_owned, has_iso, kind_in};
+ghost use Rattle.vale_rules_spec.specs.Types.{same, is_void, is_copy, is_owner, is_owned, has_iso, kind_in};
 ghost use Rattle.vale_core.specs.Plain.{number_of};
 ghost use Rattle.vale_core.specs.View.{view_ty};
 

@@ -3,17 +3,17 @@ use Rattle.std.specs.Prelude.{ℕ, ◌≡◌, ◌≤◌, ◌<◌, true, false, L
 use Rattle.vale_base.specs.Limits.{program_limit}
 use Rattle.vale_base.specs.declared.spot.Spot.{Spot}
 use Rattle.vale_front.specs.Missing.{missing_in}
-use Rattle.vale_ownership.specs.Owned.{owned}
+use Rattle.vale_rules_spec.specs.Owned.{owned}
 use Rattle.vale_reading.specs.ItemReading.{all_of}
 use Rattle.vale_parser.specs.Refusal.{IsRefusal}
 use Rattle.vale_syntax.specs.Cut.{start, cut, LexFaultAt}
-use Rattle.vale_syntax.specs.DeclFaults.{declared}
+use Rattle.vale_rules_spec.specs.DeclFaults.{declared}
 use Rattle.vale_syntax.specs.Grammar.{spells}
-use Rattle.vale_syntax.specs.Judged.{IsFine, IsFirstFault}
+use Rattle.vale_rules_spec.specs.Judged.{IsFine, IsFirstFault}
 use Rattle.vale_syntax.specs.Tree.{Tree}
-use Rattle.vale_syntax.specs.Typed.{Typed}
-use Rattle.vale_syntax.specs.Typing.{typed}
-use Rattle.vale_syntax.specs.WellFormed.{Reads}
+use Rattle.vale_rules_spec.specs.Typed.{Typed}
+use Rattle.vale_rules_spec.specs.Typing.{typed}
+use Rattle.vale_rules_spec.specs.WellFormed.{Reads}
 use Rattle.vale_syntax.specs.declared.decls.Decls.{Decls}
 use Rattle.vale_syntax.specs.declared.fault.Fault.{Fault}
 use Rattle.vale_syntax.specs.declared.token.Tokens.{Tokens}

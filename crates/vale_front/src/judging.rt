@@ -5,9 +5,9 @@ ghost use Rattle.vale_base.specs.Faults.{IfFault, IsValueUnlessMemory};
 ghost use Rattle.vale_core.specs.View.{view_core};
 ghost use Rattle.vale_front.specs.Front.{Serves, Unsound};
 ghost use Rattle.vale_syntax.specs.Bytes.{is_byte};
-ghost use Rattle.vale_syntax.specs.Typed.{Typed};
+ghost use Rattle.vale_rules_spec.specs.Typed.{Typed};
 ghost use Rattle.vale_syntax.specs.View.{view_tree};
-ghost use Rattle.vale_syntax.specs.WellFormed.{Reads};
+ghost use Rattle.vale_rules_spec.specs.WellFormed.{Reads};
 ghost use Rattle.vale_syntax.specs.declared.decls.Decls.{Decls};
 
 use crate::missing::missing_in;

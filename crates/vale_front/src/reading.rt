@@ -4,7 +4,7 @@ ghost use Rattle.vale_base.specs.Faults.{IfFault, IsValueUnlessMemory};
 ghost use Rattle.vale_front.specs.Front.{Unread};
 ghost use Rattle.vale_syntax.specs.Tree as t;
 ghost use Rattle.vale_syntax.specs.View.{view_tree};
-ghost use Rattle.vale_syntax.specs.WellFormed.{Reads};
+ghost use Rattle.vale_rules_spec.specs.WellFormed.{Reads};
 
 use crate::refusal::Refusal;
 use std::alloc::Global;

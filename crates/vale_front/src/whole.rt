@@ -4,7 +4,7 @@ ghost use Rattle.vale_base.specs.Faults.{IfFault, IsValueUnlessMemory};
 ghost use Rattle.vale_core.specs.View.{view_core};
 ghost use Rattle.vale_front.specs.Front.{Accepts, Refused};
 ghost use Rattle.vale_syntax.specs.Tree as t;
-ghost use Rattle.vale_syntax.specs.Typed.{Typed};
+ghost use Rattle.vale_rules_spec.specs.Typed.{Typed};
 ghost use Rattle.vale_syntax.specs.declared.decls.Decls.{Decls};
 
 use crate::judging::judge;

@@ -9,7 +9,7 @@ use Rattle.vale_page.proofs.PageLaws.{page_with_body, not_retired}
 use Rattle.vale_heap.specs.declared.body.Place.{Place}
 use Rattle.vale_heap.specs.declared.body.Body.{Body}
 use Rattle.vale_heap.specs.declared.seat.Seat.{Seat}
-use Rattle.vale_base.specs.World.{Object, World, Lives, IsDead}
+use Rattle.vale_state_spec.specs.World.{Object, World, Lives, IsDead}
 use Rattle.vale_heap.specs.Standing.{HasPlace, DenoteAll, IsRegion, Holds, StandsAt}
 use Rattle.vale_page.proofs.PageLaws.{at_generation, at_body}
 use Rattle.vale_heap.proofs.PutLaws.{IsOneChange, same_some, same_place}

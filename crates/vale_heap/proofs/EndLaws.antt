@@ -10,7 +10,7 @@ use Rattle.vale_heap.specs.declared.body.Body.{Body}
 use Rattle.vale_heap.specs.declared.seat.Seat.{Seat}
 use Rattle.vale_heap.specs.declared.seat.Home.{Home}
 use Rattle.vale_heap.specs.declared.seat.Home.TheVariants.{Spare}
-use Rattle.vale_base.specs.World.{Object, World, Lives, IsDead}
+use Rattle.vale_state_spec.specs.World.{Object, World, Lives, IsDead}
 use Rattle.vale_heap.specs.HeapState.{body_in}
 use Rattle.vale_heap.specs.Standing.{HasPlace, IsRegion, Holds, IsNamed, StandsAt, LookMeans}
 use Rattle.vale_page.proofs.PageLaws.{at_generation, at_body, generation-le-level, after_body, after_generation_other, after_level_other, after_level_same, no_body}

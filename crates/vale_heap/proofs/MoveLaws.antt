@@ -6,7 +6,7 @@ use Rattle.std.proofs.lemmas.Bool.{cases_Bool, eqb-true, eq-eqb}
 use Rattle.std.proofs.lemmas.Option.{same_Some, slice_get-map}
 use Rattle.std.proofs.lemmas.List.{length-map}
 use Rattle.vale_page.specs.PageState.{PageState, IsPage, body_of, body_at, generation_at, level_at}
-use Rattle.vale_base.specs.World.{Region, Freeze, Isolate, Object, World, Lives, IsDead, region_eq, moved, relabelled, cleared}
+use Rattle.vale_state_spec.specs.World.{Region, Freeze, Isolate, Object, World, Lives, IsDead, region_eq, moved, relabelled, cleared}
 use Rattle.vale_heap.specs.declared.body.Place.{Place}
 use Rattle.vale_heap.specs.declared.body.Body.{Body}
 use Rattle.vale_heap.specs.declared.seat.Seat.{Seat}

@@ -5,7 +5,7 @@ use Rattle.std.specs.Prelude.{slice_get}
 use Rattle.std.specs.Option.{option_or, option_map}
 use Rattle.vale_page.specs.PageState.{body_at, generation_at, live_count}
 use Rattle.vale_page.proofs.PageLaws.{at_body, at_generation}
-use Rattle.vale_base.specs.World.{Region, Freeze, Isolate, Object, World, Lives}
+use Rattle.vale_state_spec.specs.World.{Region, Freeze, Isolate, Object, World, Lives}
 use Rattle.vale_heap.specs.declared.body.Place.{Place}
 use Rattle.vale_heap.specs.declared.seat.Seat.{Seat}
 use Rattle.vale_heap.specs.declared.seat.Home.{Home}

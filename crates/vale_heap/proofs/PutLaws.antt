@@ -13,8 +13,8 @@ use Rattle.vale_heap.specs.declared.body.Body.{Body}
 use Rattle.vale_heap.specs.declared.seat.Seat.{Seat}
 use Rattle.vale_heap.specs.declared.seat.Home.{Home}
 use Rattle.vale_heap.specs.declared.seat.Home.TheVariants.{Open, Kept}
-use Rattle.vale_base.specs.World.{Value, Region, Freeze, Isolate, Object, World, Lives, IsDead}
-use Rattle.vale_base.specs.World.{Int as number, Truth as truth, Text as text, Own as owner, Ref as reference, Iso as isolate}
+use Rattle.vale_state_spec.specs.World.{Value, Region, Freeze, Isolate, Object, World, Lives, IsDead}
+use Rattle.vale_state_spec.specs.World.{Int as number, Truth as truth, Text as text, Own as owner, Ref as reference, Iso as isolate}
 use Rattle.vale_heap.specs.Standing.{HasPlace, Denotes, DenoteAll, IsRegion, Holds, IsNamed, StandsAt}
 
 -- a list of nothing has no seat

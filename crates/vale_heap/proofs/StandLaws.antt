@@ -6,7 +6,7 @@ use Rattle.std.proofs.lemmas.Bool.{cases_eq, eqb-true}
 use Rattle.std.proofs.lemmas.List.{get_or-set_same, get_or-set_other}
 use Rattle.vale_page.specs.PageState.{PageState, IsBlankAt, body_of, body_at, live_count, with_body, after_death}
 use Rattle.vale_page.proofs.PageLaws.{at_body, no_body}
-use Rattle.vale_base.specs.World.{Value, Object, World, born, died, written}
+use Rattle.vale_state_spec.specs.World.{Value, Object, World, born, died, written}
 use Rattle.vale_heap.specs.declared.body.Place.{Place}
 use Rattle.vale_heap.specs.declared.body.Body.{Body}
 use Rattle.vale_heap.specs.declared.seat.Seat.{Seat}

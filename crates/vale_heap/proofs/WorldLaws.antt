@@ -6,7 +6,7 @@ use Rattle.std.proofs.lemmas.Option.{same_Some}
 use Rattle.std.proofs.lemmas.List.{length-map, length-set, get_or-set_same, get_or-set_other}
 use Rattle.std.proofs.lemmas.List.Sums.{sum_by-cons}
 use Rattle.vale_page.specs.PageState.{PageState, generation_at, live_count}
-use Rattle.vale_base.specs.World.{Region, Isolate, World, region_eq, relabelled}
+use Rattle.vale_state_spec.specs.World.{Region, Isolate, World, region_eq, relabelled}
 use Rattle.vale_heap.specs.declared.body.Place.{Place}
 use Rattle.vale_heap.specs.declared.body.Body.{Body}
 use Rattle.vale_heap.specs.declared.seat.Seat.{Seat}

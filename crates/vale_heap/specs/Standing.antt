@@ -2,8 +2,8 @@
 use Rattle.std.specs.Prelude.{◌≡◌, ◌⊎◌, ℕ, ◌+◌, ◌-◌, ◌<◌, List, [], ◌∷◌, ◌++◌, length, Option, Some, None, IsSome, Bool, true, false, slice_get}
 use Rattle.std.specs.Option.{option_or, option_map}
 use Rattle.vale_page.specs.PageState.{IsPage, body_at, body_of, generation_at, level_at}
-use Rattle.vale_base.specs.World.{Value, Region, Freeze, Isolate, Object, World, Lives, IsDead, born, died, written, relabelled, cleared}
-use Rattle.vale_base.specs.World.{Int as number, Truth as truth, Text as text, Own as owner, Ref as reference, Iso as isolate}
+use Rattle.vale_state_spec.specs.World.{Value, Region, Freeze, Isolate, Object, World, Lives, IsDead, born, died, written, relabelled, cleared}
+use Rattle.vale_state_spec.specs.World.{Int as number, Truth as truth, Text as text, Own as owner, Ref as reference, Iso as isolate}
 use Rattle.vale_heap.specs.declared.body.Place.{Place}
 use Rattle.vale_heap.specs.declared.body.Cell.{Cell}
 use Rattle.vale_heap.specs.declared.body.Cell.TheVariants.{Int, Truth, Text, Own, Ref, Iso}

@@ -7,7 +7,7 @@ use Rattle.std.proofs.lemmas.List.{get_or-replicate, get_or_past, length-replica
 use Rattle.vale_table.specs.Plain.{Plain, frames_of, out_of, floor_of, OpensAt}
 use Rattle.vale_table.specs.Lending.{Same, StillOut}
 use Rattle.vale_base.specs.declared.name.Kind.{Kind}
-use Rattle.vale_base.specs.World.{Value, Freeze, Isolate, Object, World, Lives, IsDead, born, died, written, relabelled, cleared}
+use Rattle.vale_state_spec.specs.World.{Value, Freeze, Isolate, Object, World, Lives, IsDead, born, died, written, relabelled, cleared}
 use Rattle.vale_heap.specs.declared.body.Place.{Place}
 use Rattle.vale_heap.specs.declared.body.Cell.{Cell}
 use Rattle.vale_heap.specs.declared.body.Body.{Body}

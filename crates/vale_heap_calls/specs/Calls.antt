@@ -1,7 +1,7 @@
 -- Calls of a heap by names, and what they answer of a heap of names.
 use Rattle.std.specs.Prelude.{◌≡◌, ◌≢◌, ℕ, ◌-◌, ◌+◌, ◌<◌, List, [], ◌∷◌, length, map}
-use Rattle.vale_base.specs.World.{Value, Region, Freeze, Isolate, Object, World, Lives, IsDead, born, died, written, relabelled, cleared}
-use Rattle.vale_base.specs.World.{Int as int, Truth as truth, Text as text, Own as own, Ref as reference, Iso as isolate}
+use Rattle.vale_state_spec.specs.World.{Value, Region, Freeze, Isolate, Object, World, Lives, IsDead, born, died, written, relabelled, cleared}
+use Rattle.vale_state_spec.specs.World.{Int as int, Truth as truth, Text as text, Own as own, Ref as reference, Iso as isolate}
 use Rattle.vale_heap_calls.specs.declared.call.Named.{Named}
 use Rattle.vale_heap_calls.specs.declared.call.Named.TheVariants.{Int, Truth, Text, Own, Ref, Iso}
 use Rattle.vale_heap_calls.specs.declared.call.Call.{Call}

@@ -2,7 +2,7 @@
 use Rattle.std.proofs.Common.{◌≡◌, ℕ, zero, suc, ◌-◌, ◌≤◌, Bool, true, false, List, [], ◌∷◌, ◌++◌, length, set, map, Some, None, cond, refl, sym, ap, subst, ◌∙◌, arith, length-append}
 use Rattle.std.proofs.lemmas.List.{length-map, length-set}
 use Rattle.vale_base.specs.declared.name.Kind.{Kind}
-use Rattle.vale_base.specs.World.{Region, Freeze, Object, World, Lives, region_eq, moved, unless_of}
+use Rattle.vale_state_spec.specs.World.{Region, Freeze, Object, World, Lives, region_eq, moved, unless_of}
 use Rattle.vale_table.specs.Plain.{Plain}
 use Rattle.vale_heap.specs.declared.body.Place.{Place}
 use Rattle.vale_heap.specs.HeapState.{HeapState}

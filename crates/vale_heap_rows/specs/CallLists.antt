@@ -1,6 +1,6 @@
 -- Lists of calls that may be made whatever they answer, where no object is an isolate's.
 use Rattle.std.specs.Prelude.{◌≡◌, ℕ, ◌+◌, ◌-◌, ◌<◌, List, [], ◌∷◌, Some, None}
-use Rattle.vale_base.specs.World.{Region, Freeze, Isolate, World}
+use Rattle.vale_state_spec.specs.World.{Region, Freeze, Isolate, World}
 use Rattle.vale_table.specs.Plain.{Plain}
 use Rattle.vale_heap.specs.declared.body.Place.{Place}
 use Rattle.vale_heap.specs.HeapState.{HeapState}

@@ -4,7 +4,7 @@ use Rattle.std.specs.Prelude.{Bool, false, Option, map, option_map, slice_set, p
 use Rattle.vale_base.specs.declared.spot.Spot.{Spot}
 use Rattle.vale_syntax.specs.declared.tree.NameAt.{NameAt}
 use Rattle.vale_syntax.specs.declared.tree.BinaryOp.TheVariants as op
-use Rattle.vale_syntax.specs.Typed as t
+use Rattle.vale_rules_spec.specs.Typed as t
 use Rattle.vale_core.specs.declared.tree.Expr.{Expr}
 use Rattle.vale_core.specs.declared.tree.Block.{Block}
 use Rattle.vale_core.specs.declared.tree.Stmt.{Stmt}

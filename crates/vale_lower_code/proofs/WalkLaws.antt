@@ -5,9 +5,9 @@ use Rattle.std.proofs.Math.Seq.{set-append_seam}
 use Rattle.std.proofs.lemmas.List.{drop_more, drop_all}
 use Rattle.vale_base.specs.declared.spot.Spot.{Spot}
 use Rattle.vale_syntax.specs.declared.tree.NameAt.{NameAt}
-use Rattle.vale_syntax.specs.Types.{is_copy}
-use Rattle.vale_syntax.specs.Typed as t
-use Rattle.vale_syntax.specs.Typed.{type}
+use Rattle.vale_rules_spec.specs.Types.{is_copy}
+use Rattle.vale_rules_spec.specs.Typed as t
+use Rattle.vale_rules_spec.specs.Typed.{type}
 use Rattle.vale_syntax.specs.View.{listed}
 use Rattle.vale_core.specs.declared.tree.Expr.{Expr, out-Expr}
 use Rattle.vale_core.specs.declared.tree.Block.{Block, out-Block}
@@ -24,7 +24,7 @@ use Rattle.vale_lowering.specs.Scopes.{Scope, Around, waiting, place_of}
 use Rattle.vale_lower_expr.specs.Entries.{awaited}
 use Rattle.vale_lower_expr.specs.Jumps.{jumps_set}
 use Rattle.vale_lower_expr.specs.Places.{is_set}
-use Rattle.vale_lower_expr.proofs.PartLaws.{of_out_expr, of_out_link, of_out_else_if, of_out_block}
+use Rattle.vale_core.proofs.PartLaws.{of_out_expr, of_out_link, of_out_else_if, of_out_block}
 use Rattle.vale_lower_expr.proofs.ScopeLaws.{framed_more, awaited_more}
 use Rattle.vale_lower_code.specs.Going.{is_lowered, next_code, next_register, next_scope, set_only_code}
 use Rattle.vale_lower_code.specs.Links.{one_link_code}

@@ -3,8 +3,8 @@ use Rattle.std.proofs.Common.{◌≡◌, ℕ, ◌+◌, ◌<◌, ◌≤◌, List,
 use Rattle.std.specs.Prelude.{map, flat_map, codes, slice_index_or}
 use Rattle.std.specs.Borrow.{Bor}
 use Rattle.std.proofs.lemmas.List.{take_more, take_all, map-append}
-use Rattle.vale_syntax.specs.Declarations.{is_called, head_name}
-use Rattle.vale_syntax.specs.Typed as t
+use Rattle.vale_rules_spec.specs.Declarations.{is_called, head_name}
+use Rattle.vale_rules_spec.specs.Typed as t
 use Rattle.vale_core.specs.declared.tree.Core.{Core}
 use Rattle.vale_core.specs.declared.tree.Function.{Function}
 use Rattle.vale_core.specs.declared.tree.Item.{Item}

@@ -1,6 +1,6 @@
 -- What one statement of a block comes to.
 use Rattle.std.specs.Prelude.{ℕ, ◌+◌, Bool, true, false, List, ◌∷◌, ◌++◌}
-use Rattle.vale_syntax.specs.Typed.{Node, set, Stmt, declare, destructure}
+use Rattle.vale_rules_spec.specs.Typed.{Node, set, Stmt, declare, destructure}
 use Rattle.vale_code.specs.declared.instr.Instr.{Instr}
 use Rattle.vale_lowering.specs.Instructions.{stuck}
 use Rattle.vale_lowering.specs.Scopes.{Scope, Around, entry}

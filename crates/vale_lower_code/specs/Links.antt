@@ -1,6 +1,6 @@
 -- The code of one operator and its operand.
 use Rattle.std.specs.Prelude.{ℕ, List}
-use Rattle.vale_syntax.specs.Typed.{Link, link}
+use Rattle.vale_rules_spec.specs.Typed.{Link, link}
 use Rattle.vale_code.specs.declared.instr.Instr.{Instr}
 use Rattle.vale_lowering.specs.Instructions.{link_code}
 use Rattle.vale_lowering.specs.Scopes.{Scope, Around}

@@ -1,6 +1,6 @@
 -- The sides of an `if`: each is a test, a block, and a jump to the end of all.
 use Rattle.std.specs.Prelude.{ℕ, ◌+◌, Bool, List, [], ◌∷◌, ◌++◌, length}
-use Rattle.vale_syntax.specs.Typed.{ElseIf, else_if}
+use Rattle.vale_rules_spec.specs.Typed.{ElseIf, else_if}
 use Rattle.vale_code.specs.declared.instr.Instr.{Instr}
 use Rattle.vale_code.specs.declared.instr.Instr.TheVariants as i
 use Rattle.vale_lowering.specs.Scopes.{Scope, Around}

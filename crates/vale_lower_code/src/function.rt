@@ -1,7 +1,7 @@
 // The code of one function.
 ghost use Rattle.std.specs.Prelude.{◌≡◌, ℕ, List, [], ◌+◌, max, length, map, IfOk};
-ghost use Rattle.vale_syntax.specs.Declarations.{param_type};
-ghost use Rattle.vale_syntax.specs.Types.{type_of, result_of};
+ghost use Rattle.vale_rules_spec.specs.Declarations.{param_type};
+ghost use Rattle.vale_rules_spec.specs.Types.{type_of, result_of};
 ghost use Rattle.vale_syntax.specs.View.{view_type, view_param};
 ghost use Rattle.std.specs.Option.{option_map};
 ghost use Rattle.vale_core.specs.View.{view_block, view_function};

@@ -1,7 +1,6 @@
 pub mod EmissionLaws
 pub mod NodeLaws
 pub mod NumberLaws
-pub mod PartLaws
 pub mod QuoteLaws
 pub mod RoomLaws
 pub mod ScopeLaws

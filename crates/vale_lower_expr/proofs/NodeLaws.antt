@@ -4,7 +4,7 @@ use Rattle.std.specs.Prelude.{Bool, true, false, ◌&&◌, nat_le, if◌then◌e
 use Rattle.std.specs.List.{list_all}
 use Rattle.vale_base.specs.Limits.{text_limit}
 use Rattle.vale_syntax.specs.declared.tree.NameAt.{NameAt}
-use Rattle.vale_syntax.specs.Typed as t
+use Rattle.vale_rules_spec.specs.Typed as t
 use Rattle.vale_core.specs.declared.tree.Expr.{Expr, out-Expr}
 use Rattle.vale_core.specs.View.{view_seen, view_expr, view_node}
 use Rattle.vale_core.proofs.ViewLaws as v
@@ -16,7 +16,7 @@ use Rattle.vale_lowering.specs.Lowered.{call_code, set_code, store_code}
 use Rattle.vale_lowering.specs.Scopes.{Scope, Around, number_of_function, may_be_called}
 use Rattle.vale_syntax.specs.Bytes.{is_byte}
 use Rattle.vale_lowering.specs.Texts.{is_lawful_text}
-use Rattle.vale_lower_expr.proofs.PartLaws.{of_out_expr}
+use Rattle.vale_core.proofs.PartLaws.{of_out_expr}
 use Rattle.vale_lower_expr.specs.Held.{called}
 use Rattle.vale_lower_expr.specs.Places.{place_named, is_set}
 

@@ -3,8 +3,8 @@ use Rattle.std.proofs.Common.{◌≡◌, ℕ, suc, ◌+◌, ◌<◌, List, [], �
 use Rattle.std.specs.Prelude.{Bool, true, false, not, ◌&&◌, bytes_eq, if◌then◌else◌}
 use Rattle.std.proofs.lemmas.List.{drop_more}
 use Rattle.std.proofs.lemmas.Slice.Eq.{bytes_eq-Decides}
-use Rattle.vale_syntax.specs.Typed.{Function}
-use Rattle.vale_syntax.specs.Types.{is_copy}
+use Rattle.vale_rules_spec.specs.Typed.{Function}
+use Rattle.vale_rules_spec.specs.Types.{is_copy}
 use Rattle.vale_model.specs.Parts.{is_pure, has_name, first_function}
 use Rattle.vale_lowering.specs.Scopes.{agree, number_of_text, number_of_function, may_be_called, result_type}
 use Rattle.vale_lower_expr.specs.declared.functions.Callable.{Callable}

@@ -8,12 +8,12 @@ use Rattle.vale_core.specs.declared.tree.ElseIf.{ElseIf, out-ElseIf}
 use Rattle.vale_core.specs.declared.tree.Link.{Link, out-Link}
 use Rattle.vale_core.specs.declared.tree.Form.{Form}
 use Rattle.vale_core.specs.declared.tree.Form.TheVariants as f
-use Rattle.vale_syntax.specs.Typed as t
+use Rattle.vale_rules_spec.specs.Typed as t
 use Rattle.vale_syntax.specs.View.{listed}
 use Rattle.vale_core.specs.View.{view_expr, view_node, view_form, view_stmt, view_block, view_else_if, view_link, elses_of, else_end, stmts_of, last_end}
 use Rattle.vale_core.proofs.ViewLaws as v
 use Rattle.vale_lowering.specs.Texts.{expr_quotes, node_quotes, links_quotes, form_quotes, elses_quotes, block_quotes, stmts_quotes, stmt_quotes}
-use Rattle.vale_lower_expr.proofs.PartLaws.{of_out_expr, of_out_link, of_out_else_if, of_out_block}
+use Rattle.vale_core.proofs.PartLaws.{of_out_expr, of_out_link, of_out_else_if, of_out_block}
 use Rattle.vale_lower_expr.specs.Quotes.{link_quotes, else_if_quotes}
 
 pub expr_by_parts : (e : Expr) → expr_quotes (view_expr e) ≡ node_quotes (view_node (out-Expr e).node)

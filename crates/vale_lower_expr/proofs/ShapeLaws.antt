@@ -3,8 +3,8 @@ use Rattle.std.proofs.Common.{◌≡◌, ℕ, zero, suc, ◌+◌, [], ◌∷◌,
 use Rattle.std.specs.Prelude.{if◌then◌else◌}
 use Rattle.vale_base.specs.declared.spot.Spot.{Spot}
 use Rattle.vale_syntax.specs.declared.tree.BinaryOp.TheVariants as op
-use Rattle.vale_syntax.specs.Types.{Ty}
-use Rattle.vale_syntax.specs.Types as y
+use Rattle.vale_rules_spec.specs.Types.{Ty}
+use Rattle.vale_rules_spec.specs.Types as y
 use Rattle.vale_code.specs.declared.instr.Instr.TheVariants as i
 use Rattle.vale_lowering.specs.Instructions.{operator, registers_from}
 use Rattle.vale_lower_expr.specs.Found.{is_text}

@@ -1,6 +1,6 @@
 -- What is found in one place or else in another, and which type it has.
 use Rattle.std.specs.Prelude.{Bool, true, false, Option, Some, None}
-use Rattle.vale_syntax.specs.Types.{Ty, str}
+use Rattle.vale_rules_spec.specs.Types.{Ty, str}
 
 abbrev pub or_else : {A : Type 0} → Option A → Option A → Option A
 or_else (Some x) other = Some x

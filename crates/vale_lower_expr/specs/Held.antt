@@ -1,6 +1,6 @@
 -- The texts and the functions that are kept with their numbers.
 use Rattle.std.specs.Prelude.{ℕ, Bool, List, map, Option, Some, None, if◌then◌else◌}
-use Rattle.vale_syntax.specs.Typed.{Function}
+use Rattle.vale_rules_spec.specs.Typed.{Function}
 use Rattle.vale_core.specs.View.{view_function}
 use Rattle.vale_model.specs.Parts.{has_name, first_function}
 use Rattle.vale_lowering.specs.Scopes.{number_of_function, may_be_called}

@@ -2,8 +2,8 @@
 use Rattle.std.specs.Prelude.{◌≡◌, ℕ, ◌+◌, List, [], ◌∷◌, length, Option, Some, None, bytes_eq, nat_eq, if◌then◌else◌}
 use Rattle.std.specs.Borrow.{Bor}
 use Rattle.std.specs.HashMap.{get, get_by}
-use Rattle.vale_syntax.specs.Typed.{Function}
-use Rattle.vale_syntax.specs.Types.{is_copy}
+use Rattle.vale_rules_spec.specs.Typed.{Function}
+use Rattle.vale_rules_spec.specs.Types.{is_copy}
 use Rattle.vale_model.specs.Parts.{is_pure, has_name}
 use Rattle.vale_lowering.specs.Scopes.{number_of_text, result_type}
 use Rattle.vale_lower_expr.specs.declared.texts.Places.{Places}

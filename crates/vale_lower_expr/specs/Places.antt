@@ -1,6 +1,6 @@
 -- What is set, and the register of the local.
 use Rattle.std.specs.Prelude.{ℕ, Bool, true, false, Option, None}
-use Rattle.vale_syntax.specs.Typed.{Expr, expr, name, set}
+use Rattle.vale_rules_spec.specs.Typed.{Expr, expr, name, set}
 use Rattle.vale_lowering.specs.Scopes.{Scope, place_of}
 
 abbrev pub place_named : Expr → Scope → Option ℕ

@@ -1,6 +1,6 @@
 -- The quotes of the parts of lists.
 use Rattle.std.specs.Prelude.{ℕ, List, ◌++◌}
-use Rattle.vale_syntax.specs.Typed.{Link, link, ElseIf, else_if}
+use Rattle.vale_rules_spec.specs.Typed.{Link, link, ElseIf, else_if}
 use Rattle.vale_lowering.specs.Texts.{expr_quotes, block_quotes}
 
 abbrev pub link_quotes : Link → List (List ℕ)

@@ -1,6 +1,6 @@
 // The functions of a program and their numbers.
 ghost use Rattle.std.specs.Prelude.{◌≡◌, ℕ, ◌+◌, ◌∷◌, ◌++◌, map, option_map, flat_map, length, IfOk, OnOk, Some, None, ◌==◌, ◌<◌, if◌then◌else◌};
-ghost use Rattle.vale_syntax.specs.Types.{is_copy, type_of, result_of};
+ghost use Rattle.vale_rules_spec.specs.Types.{is_copy, type_of, result_of};
 ghost use Rattle.vale_syntax.specs.View.{view_type};
 ghost use Rattle.vale_core.specs.View.{view_function, view_item};
 ghost use Rattle.vale_model.specs.Parts.{name_of};

@@ -1,6 +1,6 @@
 // The texts of names, and all texts of a code.
 ghost use Rattle.std.specs.Prelude.{◌≡◌, ◌++◌, [], ℕ, map, flat_map, codes, slice_index_or, IfOk, OnOk};
-ghost use Rattle.vale_syntax.specs.Declarations.{is_called, head_name};
+ghost use Rattle.vale_rules_spec.specs.Declarations.{is_called, head_name};
 ghost use Rattle.vale_core.specs.View.{view_function};
 ghost use Rattle.vale_model.specs.Kinds.{head_of};
 ghost use Rattle.vale_model.specs.Parts.{name_of};
@@ -13,7 +13,7 @@ use std::alloc::Global;
 use vale_base::{Memory, Name, Text};
 use vale_code::Sequence;
 use vale_core::Function;
-use vale_syntax::NameAt;
+use vale_types::is_called;
 
 /// The text of a name, or none where the name has no text.
 pub fn text_of<'n>(names: &'n [Text], name: Name) -> &'n [u8]
@@ -22,15 +22,6 @@ pub fn text_of<'n>(names: &'n [Text], name: Name) -> &'n [u8]
     match names.get(name.0 as usize) {
         Some(text) => text.as_slice(),
         None => b"",
-    }
-}
-
-fn is_called(names: &[Text], text: &[u8], name: NameAt) -> bool
-    ensures { result ≡ is_called names.now text.now name }
-{
-    match names.get(name.name.0 as usize) {
-        Some(found) => *text == *found.as_slice(),
-        None => false,
     }
 }
 

@@ -7,11 +7,11 @@ use Rattle.vale_base.specs.declared.spot.Spot.{Spot}
 use Rattle.vale_syntax.specs.declared.built_in.BuiltIn.{BuiltIn}
 use Rattle.vale_syntax.specs.declared.built_in.BuiltIn.TheVariants as b
 use Rattle.vale_syntax.specs.declared.tree.NameAt.{NameAt}
-use Rattle.vale_syntax.specs.Declarations.{head_params}
-use Rattle.vale_syntax.specs.Types.{Ty}
-use Rattle.vale_syntax.specs.Types as y
-use Rattle.vale_syntax.specs.TypeRules.{is_int, is_array_ref, takes_arguments, built_in_gives, param_types}
-use Rattle.vale_syntax.specs.Typed.{Expr, Exprs, no_exprs, more_exprs, type, types, Function}
+use Rattle.vale_rules_spec.specs.Declarations.{head_params}
+use Rattle.vale_rules_spec.specs.Types.{Ty}
+use Rattle.vale_rules_spec.specs.Types as y
+use Rattle.vale_rules_spec.specs.TypeRules.{is_int, is_array_ref, takes_arguments, built_in_gives, param_types}
+use Rattle.vale_rules_spec.specs.Typed.{Expr, Exprs, no_exprs, more_exprs, type, types, Function}
 use Rattle.vale_model.specs.Kinds.{head_of}
 use Rattle.vale_model.specs.Parts.{first_function, has_name}
 use Rattle.vale_code.specs.declared.instr.Instr.{Instr}

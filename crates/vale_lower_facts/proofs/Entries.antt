@@ -6,10 +6,10 @@ use Rattle.std.proofs.lemmas.Bool.{and_parts, eqb-true}
 use Rattle.std.proofs.lemmas.List.{length-map}
 use Rattle.vale_syntax.specs.declared.tree.NameAt.{NameAt}
 use Rattle.vale_syntax.specs.Tree.{Param, param}
-use Rattle.vale_syntax.specs.Declarations.{param_type}
-use Rattle.vale_syntax.specs.Types.{Ty, type_of, Local, local_of}
-use Rattle.vale_syntax.specs.Types as y
-use Rattle.vale_syntax.specs.Typing.{Env, with_local, with_params}
+use Rattle.vale_rules_spec.specs.Declarations.{param_type}
+use Rattle.vale_rules_spec.specs.Types.{Ty, type_of, Local, local_of}
+use Rattle.vale_rules_spec.specs.Types as y
+use Rattle.vale_rules_spec.specs.Typing.{Env, with_local, with_params}
 use Rattle.vale_model.specs.Parts.{param_names}
 use Rattle.vale_code.specs.declared.ty.Ty.{Ty as CodeTy}
 use Rattle.vale_cert.specs.Known.{fact_of, params_from}

@@ -4,9 +4,9 @@ use Rattle.std.specs.Prelude.{true, false, codes, pos}
 use Rattle.vale_base.specs.declared.spot.Spot.{Spot}
 use Rattle.vale_syntax.specs.declared.tree.BinaryOp.TheVariants.{Equal, Less, Add, Sub, And}
 use Rattle.vale_syntax.specs.declared.tree.NameAt.{NameAt}
-use Rattle.vale_syntax.specs.Judged.{Judged, fine, faulty}
-use Rattle.vale_syntax.specs.Typed.{Typed}
-use Rattle.vale_syntax.specs.Typing.{typed}
+use Rattle.vale_rules_spec.specs.Judged.{Judged, fine, faulty}
+use Rattle.vale_rules_spec.specs.Typed.{Typed}
+use Rattle.vale_rules_spec.specs.Typing.{typed}
 use Rattle.vale_syntax.specs.Tree.{int_type, set, chain, number, quote, truth, name, call, form, no_exprs, more_exprs, link, no_links, more_links, branch, otherwise, block, declare, return_value, return_nothing, while, foreach, form_stmt, express, no_stmts, last, more_stmts, param, head, function, function_item, Tree, tree}
 use Rattle.vale_cert.specs.Certificate.{first_fault}
 use Rattle.vale_cert.specs.declared.facts.FuncFacts.{FuncFacts}

@@ -3,12 +3,12 @@ use Rattle.std.proofs.Common.{◌≡◌, ℕ, suc, ◌+◌, ◌<◌, ◌≤◌, 
 use Rattle.std.specs.Prelude.{slice_get}
 use Rattle.std.specs.List.{list_all}
 use Rattle.vale_syntax.specs.declared.tree.NameAt.{NameAt}
-use Rattle.vale_syntax.specs.Types.{Ty, Local, local_of}
-use Rattle.vale_syntax.specs.Types as y
-use Rattle.vale_syntax.specs.TypeRules.{param_types}
-use Rattle.vale_syntax.specs.Declarations.{head_params}
-use Rattle.vale_syntax.specs.Typed.{Expr, Exprs, no_exprs, more_exprs, type, Function}
-use Rattle.vale_syntax.specs.Typing.{Env, with_local}
+use Rattle.vale_rules_spec.specs.Types.{Ty, Local, local_of}
+use Rattle.vale_rules_spec.specs.Types as y
+use Rattle.vale_rules_spec.specs.TypeRules.{param_types}
+use Rattle.vale_rules_spec.specs.Declarations.{head_params}
+use Rattle.vale_rules_spec.specs.Typed.{Expr, Exprs, no_exprs, more_exprs, type, Function}
+use Rattle.vale_rules_spec.specs.Typing.{Env, with_local}
 use Rattle.vale_model.specs.Kinds.{head_of}
 use Rattle.vale_model.specs.Parts.{first_function, has_name, is_pure}
 use Rattle.vale_code.specs.declared.func.Func.{Func}

@@ -6,11 +6,11 @@ use Rattle.vale_syntax.specs.declared.tree.BinaryOp.{BinaryOp}
 use Rattle.vale_syntax.specs.declared.tree.BinaryOp.TheVariants as op
 use Rattle.vale_syntax.specs.declared.tree.UnaryOp.{UnaryOp}
 use Rattle.vale_syntax.specs.declared.tree.UnaryOp.TheVariants as unary
-use Rattle.vale_syntax.specs.Types.{Ty}
-use Rattle.vale_syntax.specs.Types as y
-use Rattle.vale_syntax.specs.TypeRules.{is_int, is_bool, have_order, have_equality, takes_operands, link_gives}
-use Rattle.vale_syntax.specs.Typed.{Expr, type}
-use Rattle.vale_syntax.specs.Typing.{Env}
+use Rattle.vale_rules_spec.specs.Types.{Ty}
+use Rattle.vale_rules_spec.specs.Types as y
+use Rattle.vale_rules_spec.specs.TypeRules.{is_int, is_bool, have_order, have_equality, takes_operands, link_gives}
+use Rattle.vale_rules_spec.specs.Typed.{Expr, type}
+use Rattle.vale_rules_spec.specs.Typing.{Env}
 use Rattle.vale_code.specs.declared.instr.Instr.{Instr}
 use Rattle.vale_code.specs.declared.instr.Instr.TheVariants as i
 use Rattle.vale_code.specs.declared.ty.Ty.{Ty as CodeTy}
@@ -21,7 +21,7 @@ use Rattle.vale_lowering.specs.Instructions.{only_if, link_code, unary_code}
 use Rattle.vale_lowering.specs.Lowered.{value_code}
 use Rattle.vale_lowering.specs.Scopes.{Around, code_type}
 use Rattle.vale_lower_facts.specs.Slots.{holds, Stand, scope_at, with_slot, given, behind, type_at}
-use Rattle.vale_ownership.specs.Returned.{expr_returns}
+use Rattle.vale_rules_spec.specs.Returns.{expr_returns}
 use Rattle.vale_lower_facts.specs.Marks.{Marks, mark, only_marks, marked, link_due, link_marks, value_due, value_marks}
 use Rattle.vale_lower_facts.specs.Suits.{unary_suits}
 use Rattle.vale_lower_facts.proofs.Stands.{Site, Below, below_slot, type_here, type_there, Says, says_same, says_then, says_slot, says_with, says_behind}

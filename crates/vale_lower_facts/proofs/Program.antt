@@ -6,15 +6,15 @@ use Rattle.std.proofs.lemmas.Bool.{and_parts, and_from, lt-ltb, le-leb, eq-eqb, 
 use Rattle.std.proofs.lemmas.List.{length-map}
 use Rattle.std.proofs.lemmas.List.Folds.{list_all-append}
 use Rattle.std.proofs.lemmas.Option.{slice_get_within}
-use Rattle.vale_base.specs.State.{no_input}
+use Rattle.vale_state_spec.specs.State.{no_input}
 use Rattle.vale_syntax.specs.Tree.{Head, head, Param}
-use Rattle.vale_syntax.specs.Declarations.{head_params, param_type}
-use Rattle.vale_syntax.specs.Types.{Ty, type_of}
-use Rattle.vale_syntax.specs.Types as y
-use Rattle.vale_syntax.specs.TypeRules.{head_gives, param_types}
-use Rattle.vale_syntax.specs.Typed.{Function, function_body, Item, struct_item, interface_item, impl_item, function_item, Typed, typed}
-use Rattle.vale_syntax.specs.Typing.{Env}
-use Rattle.vale_syntax.specs.Typing as typing
+use Rattle.vale_rules_spec.specs.Declarations.{head_params, param_type}
+use Rattle.vale_rules_spec.specs.Types.{Ty, type_of}
+use Rattle.vale_rules_spec.specs.Types as y
+use Rattle.vale_rules_spec.specs.TypeRules.{head_gives, param_types}
+use Rattle.vale_rules_spec.specs.Typed.{Function, function_body, Item, struct_item, interface_item, impl_item, function_item, Typed, typed}
+use Rattle.vale_rules_spec.specs.Typing.{Env}
+use Rattle.vale_rules_spec.specs.Typing as typing
 use Rattle.vale_model.specs.Kinds.{head_of, body_of}
 use Rattle.vale_model.specs.Parts.{Parts, parts_of, is_pure, name_text, name_of, has_name, has_text, functions_of}
 use Rattle.vale_code.specs.Parts.{Parts as Code}
@@ -37,7 +37,7 @@ use Rattle.vale_lowering.specs.Scopes.{Around, code_type, head_result, result_ty
 use Rattle.vale_lowering.specs.Texts.{function_quotes, block_quotes}
 use Rattle.vale_lowering.proofs.Lookups.{found_function, found_text, in_front}
 use Rattle.vale_lower_facts.specs.Slots.{Stand, behind, type_at, or_last}
-use Rattle.vale_ownership.specs.Returned.{block_returns}
+use Rattle.vale_rules_spec.specs.Returns.{block_returns}
 use Rattle.vale_lower_facts.specs.Marks.{Marks, mark, block_due, block_marks, param_slots, entry_stand, value_type, last_of, function_marks, function_facts, facts_of_parts, lowered_facts}
 use Rattle.vale_lower_facts.specs.Suits.{function_suits, all_suit, PartsSuit, Suits}
 use Rattle.vale_lower_facts.proofs.Stands.{Site, Covers, covers_plain}

@@ -3,7 +3,7 @@ use Rattle.std.proofs.Common.{◌≡◌, ◌≢◌, ℕ, zero, suc, ◌+◌, ◌
 use Rattle.std.specs.Prelude.{slice_set}
 use Rattle.std.proofs.lemmas.Bool.{and_from, cases_eq, eq-eqb, eqb-true, ne_eqb}
 use Rattle.std.proofs.lemmas.List.{length-set}
-use Rattle.vale_syntax.specs.Types.{Ty}
+use Rattle.vale_rules_spec.specs.Types.{Ty}
 use Rattle.vale_code.specs.Kinds.{same_type}
 use Rattle.vale_code.specs.Parts.{Parts as Code}
 use Rattle.vale_code.specs.declared.func.Func.{Func}

@@ -10,10 +10,10 @@ use Rattle.vale_text.specs.Operations.{is_int}
 use Rattle.vale_syntax.specs.declared.tree.NameAt.{NameAt}
 use Rattle.vale_syntax.specs.declared.tree.UnaryOp.{UnaryOp}
 use Rattle.vale_syntax.specs.declared.tree.UnaryOp.TheVariants as unary_op
-use Rattle.vale_syntax.specs.Types.{Ty}
-use Rattle.vale_syntax.specs.Types as y
-use Rattle.vale_syntax.specs.Typed.{built_in, constructor, function, Expr, expr, Node, set, chain, unary, steps, number, quote, truth, name, call, paren, array, iso, form, Exprs, no_exprs, more_exprs, link, Links, no_links, more_links, Form, branch, pure, parallel_range, parallel_each, else_if, Elses, no_else, otherwise, more_elses, Block, block, Stmt, declare, destructure, return_nothing, return_value, while, foreach, form_stmt, express, Stmts, no_stmts, last, more_stmts, Function, type, types, block_type}
-use Rattle.vale_syntax.specs.Typing.{Env, with_local}
+use Rattle.vale_rules_spec.specs.Types.{Ty}
+use Rattle.vale_rules_spec.specs.Types as y
+use Rattle.vale_rules_spec.specs.Typed.{built_in, constructor, function, Expr, expr, Node, set, chain, unary, steps, number, quote, truth, name, call, paren, array, iso, form, Exprs, no_exprs, more_exprs, link, Links, no_links, more_links, Form, branch, pure, parallel_range, parallel_each, else_if, Elses, no_else, otherwise, more_elses, Block, block, Stmt, declare, destructure, return_nothing, return_value, while, foreach, form_stmt, express, Stmts, no_stmts, last, more_stmts, Function, type, types, block_type}
+use Rattle.vale_rules_spec.specs.Typing.{Env, with_local}
 use Rattle.vale_code.specs.declared.instr.Instr.{Instr}
 use Rattle.vale_code.specs.declared.instr.Instr.TheVariants as i
 use Rattle.vale_code.specs.declared.ty.Ty.TheVariants as t
@@ -26,7 +26,7 @@ use Rattle.vale_syntax.specs.Bytes.{is_byte}
 use Rattle.vale_lowering.specs.Texts.{is_lawful_text, expr_quotes, node_quotes, exprs_quotes, links_quotes, form_quotes, elses_quotes, block_quotes, stmts_quotes, stmt_quotes}
 use Rattle.vale_lowering.proofs.Lookups.{found_text}
 use Rattle.vale_lower_facts.specs.Slots.{local, waits, holds, Stand, scope_at, with_slot, given, behind, type_at}
-use Rattle.vale_ownership.specs.Returned.{block_returns, stmts_return, stmt_returns, expr_returns, node_returns, form_returns, elses_return}
+use Rattle.vale_rules_spec.specs.Returns.{block_returns, stmts_return, stmt_returns, expr_returns, node_returns, form_returns, elses_return}
 use Rattle.vale_lower_facts.specs.Marks.{Marks, mark, marked, only_marks, with_args, counted, count_marks, link_due, links_due, form_due, expr_due, node_due, value_due, unused_due, args_due, stmt_due, stmts_due, block_due, expr_marks, value_marks, node_marks, args_marks, links_marks, form_marks, elses_marks, block_marks, stmts_marks, stmt_marks, unused_marks}
 use Rattle.vale_lower_facts.specs.Suits.{unary_suits, IsLocal, set_suits, expr_suits, node_suits, exprs_suit, links_suit, form_suits, elses_suit, block_suits, stmts_suit, stmt_suits}
 use Rattle.vale_lower_facts.proofs.Stands.{Site, Below, below_behind, type_here, Says, says_same, says_then, says_slot, says_again, says_with, says_behind, says_returns, says_both, says_given, says_ungiven, Within, within_same, within_behind, within_slot, says_within}

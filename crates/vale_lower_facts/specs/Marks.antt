@@ -7,9 +7,9 @@ use Rattle.std.specs.Prelude.{ℕ, ◌+◌, Bool, true, false, ◌&&◌, List, [
 use Rattle.vale_syntax.specs.declared.tree.BinaryOp.{BinaryOp}
 use Rattle.vale_syntax.specs.declared.tree.BinaryOp.TheVariants as op
 use Rattle.vale_syntax.specs.Tree.{Param, param}
-use Rattle.vale_syntax.specs.Declarations.{head_params}
-use Rattle.vale_syntax.specs.Types.{Ty, int, bool, is_copy, type_of}
-use Rattle.vale_syntax.specs.Typed.{Expr, expr, Node, set, chain, unary, steps, number, quote, truth, name, call, paren, array, iso, form, Exprs, no_exprs, more_exprs, link, Links, no_links, more_links, Form, branch, pure, parallel_range, parallel_each, else_if, Elses, no_else, otherwise, more_elses, Block, block, Stmt, declare, destructure, return_nothing, return_value, while, foreach, form_stmt, express, Stmts, no_stmts, last, more_stmts, Function, Typed, type, block_type}
+use Rattle.vale_rules_spec.specs.Declarations.{head_params}
+use Rattle.vale_rules_spec.specs.Types.{Ty, int, bool, is_copy, type_of}
+use Rattle.vale_rules_spec.specs.Typed.{Expr, expr, Node, set, chain, unary, steps, number, quote, truth, name, call, paren, array, iso, form, Exprs, no_exprs, more_exprs, link, Links, no_links, more_links, Form, branch, pure, parallel_range, parallel_each, else_if, Elses, no_else, otherwise, more_elses, Block, block, Stmt, declare, destructure, return_nothing, return_value, while, foreach, form_stmt, express, Stmts, no_stmts, last, more_stmts, Function, Typed, type, block_type}
 use Rattle.vale_model.specs.Kinds.{head_of, body_of}
 use Rattle.vale_model.specs.Parts.{Parts, parts_of}
 use Rattle.vale_code.specs.declared.instr.Instr.{Instr}
@@ -19,7 +19,7 @@ use Rattle.vale_cert.specs.declared.facts.Label.{Label}
 use Rattle.vale_lowering.specs.Instructions.{unary_code}
 use Rattle.vale_lowering.specs.Scopes.{code_type, agree, Around, result_type}
 use Rattle.vale_lowering.specs.Lowered.{count, callee_code, set_code, store_code, around_of, names_in, lowered_function, functions_in, texts_in}
-use Rattle.vale_ownership.specs.Returned.{block_returns, stmt_returns, expr_returns}
+use Rattle.vale_rules_spec.specs.Returns.{block_returns, stmt_returns, expr_returns}
 use Rattle.vale_lower_facts.specs.Slots.{Slots, local, waits, holds, Stand, scope_at, with_slot, given, behind, Last, label_for}
 
 -- what each instruction of some code is marked with

@@ -1,6 +1,6 @@
 -- What is known at a place of lowered code: which registers hold what, by the types of the program.
 use Rattle.std.specs.Prelude.{ℕ, zero, suc, ◌+◌, Bool, true, false, ◌&&◌, ◌||◌, ◌==◌, List, [], ◌∷◌, Option, Some, None, if◌then◌else◌}
-use Rattle.vale_syntax.specs.Types.{Ty}
+use Rattle.vale_rules_spec.specs.Types.{Ty}
 use Rattle.vale_code.specs.declared.ty.Ty.{Ty as CodeTy}
 use Rattle.vale_cert.specs.declared.facts.Label.{Label}
 use Rattle.vale_cert.specs.declared.facts.RegFact.{RegFact}

@@ -5,17 +5,17 @@ use Rattle.vale_syntax.specs.declared.built_in.BuiltIn.{BuiltIn}
 use Rattle.vale_syntax.specs.declared.tree.NameAt.{NameAt}
 use Rattle.vale_syntax.specs.declared.tree.UnaryOp.{UnaryOp}
 use Rattle.vale_syntax.specs.declared.tree.UnaryOp.TheVariants as unary_op
-use Rattle.vale_syntax.specs.Declarations.{head_params}
-use Rattle.vale_syntax.specs.Types.{Ty, void, int, bool, str, is_void, Local, local_of}
-use Rattle.vale_syntax.specs.Typed.{Callee, built_in, constructor, function, Expr, expr, Node, set, chain, unary, steps, number, quote, truth, name, call, paren, array, iso, form, Exprs, no_exprs, more_exprs, link, Links, no_links, more_links, Form, branch, pure, parallel_range, parallel_each, else_if, Elses, no_else, otherwise, more_elses, Block, block, Stmt, declare, destructure, return_nothing, return_value, while, foreach, form_stmt, express, Stmts, no_stmts, last, more_stmts, Function, Typed, type, types}
-use Rattle.vale_syntax.specs.TypeRules.{takes_operands, link_gives, takes_arguments, built_in_gives, param_types}
-use Rattle.vale_syntax.specs.Typing.{Env, with_local, after, entry}
+use Rattle.vale_rules_spec.specs.Declarations.{head_params}
+use Rattle.vale_rules_spec.specs.Types.{Ty, void, int, bool, str, is_void, Local, local_of}
+use Rattle.vale_rules_spec.specs.Typed.{Callee, built_in, constructor, function, Expr, expr, Node, set, chain, unary, steps, number, quote, truth, name, call, paren, array, iso, form, Exprs, no_exprs, more_exprs, link, Links, no_links, more_links, Form, branch, pure, parallel_range, parallel_each, else_if, Elses, no_else, otherwise, more_elses, Block, block, Stmt, declare, destructure, return_nothing, return_value, while, foreach, form_stmt, express, Stmts, no_stmts, last, more_stmts, Function, Typed, type, types}
+use Rattle.vale_rules_spec.specs.TypeRules.{takes_operands, link_gives, takes_arguments, built_in_gives, param_types}
+use Rattle.vale_rules_spec.specs.Typing.{Env, with_local, after, entry}
 use Rattle.vale_model.specs.Kinds.{head_of, body_of}
 use Rattle.vale_model.specs.Parts.{Parts, parts_of, first_function, has_name, has_text}
 use Rattle.vale_lowering.specs.Lowered.{functions_in}
 use Rattle.vale_lowering.specs.Scopes.{result_type}
 use Rattle.vale_lowering.specs.Texts.{is_lawful_text}
-use Rattle.vale_ownership.specs.Returned.{block_returns}
+use Rattle.vale_rules_spec.specs.Returns.{block_returns}
 
 -- a name is that of a local of this type
 pub record IsLocal (env : Env) (n : NameAt) (ty : Ty) : Type 0 where

@@ -2,9 +2,9 @@
 //! nothing.
 
 ghost use Rattle.std.specs.Prelude.{◌≡◌, ◌≢◌, ℕ, true};
-ghost use Rattle.vale_base.specs.Outcome.{Wrong};
-ghost use Rattle.vale_base.specs.State.{no_input};
-ghost use Rattle.vale_syntax.specs.Typed.{Typed};
+ghost use Rattle.vale_state_spec.specs.Outcome.{Wrong};
+ghost use Rattle.vale_state_spec.specs.State.{no_input};
+ghost use Rattle.vale_rules_spec.specs.Typed.{Typed};
 ghost use Rattle.vale_model.specs.Meaning.{meaning};
 ghost use Rattle.vale_code.specs.Run.{run_code};
 ghost use Rattle.vale_cert.specs.Certificate.{Certified};

@@ -2,9 +2,9 @@
 use Rattle.std.proofs.Common.{◌≡◌, ℕ, suc, ◌+◌, List, [], ◌∷◌, ◌++◌, length, Option, None, Some, refl, ap, sym, ◌∙◌}
 use Rattle.std.specs.Prelude.{Bool, true, false, map, is_some, if◌then◌else◌}
 use Rattle.vale_syntax.specs.declared.tree.Param.{Param}
-use Rattle.vale_syntax.specs.Declarations.{head_params}
-use Rattle.vale_syntax.specs.Types.{Ty, is_copy}
-use Rattle.vale_syntax.specs.Typed as t
+use Rattle.vale_rules_spec.specs.Declarations.{head_params}
+use Rattle.vale_rules_spec.specs.Types.{Ty, is_copy}
+use Rattle.vale_rules_spec.specs.Typed as t
 use Rattle.vale_syntax.specs.View.{view_param}
 use Rattle.vale_code.specs.declared.ty.Ty.{Ty as CodeTy}
 use Rattle.vale_cert.specs.declared.facts.Label.{Label}
@@ -15,7 +15,7 @@ use Rattle.vale_lowering.specs.Lowered.{lowered_function, around_of, names_in}
 use Rattle.vale_lowering.specs.Scopes.{result_type, code_type}
 use Rattle.vale_lower_facts.specs.Slots as s
 use Rattle.vale_lower_facts.specs.Marks.{Marks, mark, value_type, param_slots, labels_from, last_of, entry_stand, function_marks, function_facts, block_due}
-use Rattle.vale_ownership.specs.Returned.{block_returns}
+use Rattle.vale_rules_spec.specs.Returns.{block_returns}
 use Rattle.vale_lower_labels.specs.declared.labels.Labels.{Labels}
 use Rattle.vale_lower_labels.specs.Bodies.{body_marks, plain_of}
 use Rattle.vale_lower_labels.specs.Progress.{Progress, progress, with_marks}

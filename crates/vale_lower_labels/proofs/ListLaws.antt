@@ -2,8 +2,8 @@
 use Rattle.std.proofs.Common.{◌≡◌, ℕ, zero, suc, ◌+◌, ◌<◌, ◌≤◌, List, [], ◌∷◌, ◌++◌, length, get_or, drop, take, refl, ap, sym, ◌∙◌, arith}
 use Rattle.std.proofs.lemmas.List.{drop_more, take_more, drop_all}
 use Rattle.std.specs.Prelude.{Bool, true, false, ◌||◌, map}
-use Rattle.vale_syntax.specs.Typed as t
-use Rattle.vale_syntax.specs.Types.{Ty}
+use Rattle.vale_rules_spec.specs.Typed as t
+use Rattle.vale_rules_spec.specs.Types.{Ty}
 use Rattle.vale_syntax.specs.View.{listed}
 use Rattle.vale_core.specs.declared.tree.Expr.{Expr}
 use Rattle.vale_core.specs.declared.tree.ElseIf.{ElseIf}
@@ -12,7 +12,7 @@ use Rattle.vale_core.specs.declared.tree.Link.{Link, out-Link}
 use Rattle.vale_core.specs.View.{view_ty, view_expr, view_stmt, view_else_if, view_link, exprs_of, links_of}
 use Rattle.vale_lowering.specs.Scopes.{Around}
 use Rattle.vale_lower_facts.specs.Slots as s
-use Rattle.vale_ownership.specs.Returned.{stmt_returns}
+use Rattle.vale_rules_spec.specs.Returns.{stmt_returns}
 use Rattle.vale_lower_facts.specs.Marks.{Marks, value_marks, value_due, args_marks, args_due, links_marks, links_due, link_due, stmts_marks, stmts_due}
 use Rattle.vale_lower_labels.specs.Going.{one_link_marks, link_op, next_marks, next_due, next_slots, next_register, goes_on}
 use Rattle.vale_lower_labels.specs.Progress.{Progress, with_marks}

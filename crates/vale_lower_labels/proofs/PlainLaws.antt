@@ -4,13 +4,13 @@ use Rattle.std.specs.Prelude.{Bool, true, false}
 use Rattle.vale_syntax.specs.declared.tree.BinaryOp.{BinaryOp}
 use Rattle.vale_syntax.specs.declared.tree.NameAt.{NameAt}
 use Rattle.vale_syntax.specs.declared.tree.BinaryOp.TheVariants as op
-use Rattle.vale_syntax.specs.Types.{Ty, int, bool, is_copy}
-use Rattle.vale_syntax.specs.Typed as t
-use Rattle.vale_syntax.specs.Typed.{type, block_type}
+use Rattle.vale_rules_spec.specs.Types.{Ty, int, bool, is_copy}
+use Rattle.vale_rules_spec.specs.Typed as t
+use Rattle.vale_rules_spec.specs.Typed.{type, block_type}
 use Rattle.vale_lowering.specs.Lowered.{count, callee_code}
 use Rattle.vale_lowering.specs.Scopes.{Around, agree}
 use Rattle.vale_lower_facts.specs.Slots.{Stand, with_slot, local, holds, waits, given, behind}
-use Rattle.vale_ownership.specs.Returned.{block_returns, stmt_returns}
+use Rattle.vale_rules_spec.specs.Returns.{block_returns, stmt_returns}
 use Rattle.vale_lower_facts.specs.Marks.{Marks, mark, marked, only_marks, if_marks, loop_marks, count_marks, counted, link_marks, with_args, expr_marks, value_marks, node_marks, args_marks, links_marks, form_marks, elses_marks, block_marks, stmts_marks, stmt_marks, unused_marks, value_due, args_due, link_due, block_due, stmt_due}
 use Rattle.vale_lower_labels.specs.Standing.{plain}
 use Rattle.vale_lower_labels.proofs.StepLaws.{of_callee}

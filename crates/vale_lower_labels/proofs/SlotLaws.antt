@@ -1,11 +1,11 @@
 -- What is known at a place, one slot at a time.
 use Rattle.std.proofs.Common.{◌≡◌, ℕ, suc, ◌+◌, List, [], ◌∷◌, ◌++◌, length, refl, ap, ◌∙◌, arith}
 use Rattle.std.specs.Prelude.{Bool}
-use Rattle.vale_syntax.specs.Typed as t
+use Rattle.vale_rules_spec.specs.Typed as t
 use Rattle.vale_core.specs.declared.tree.Expr.{Expr, out-Expr}
 use Rattle.vale_core.specs.View.{view_ty, view_expr, exprs_of}
 use Rattle.vale_lowering.specs.Scopes.{place_of}
-use Rattle.vale_ownership.proofs.PartLaws.{of_out_expr}
+use Rattle.vale_core.proofs.PartLaws.{of_out_expr}
 use Rattle.vale_lower_facts.specs.Slots as s
 use Rattle.vale_lower_facts.specs.Marks.{with_args}
 use Rattle.vale_lower_labels.specs.declared.slots.Local.{Local}

@@ -5,7 +5,7 @@ use Rattle.vale_base.specs.declared.spot.Spot.{Spot}
 use Rattle.vale_syntax.specs.declared.tree.NameAt.{NameAt}
 use Rattle.vale_syntax.specs.declared.built_in.BuiltIn.{BuiltIn}
 use Rattle.vale_syntax.specs.declared.built_in.BuiltIn.TheVariants as b
-use Rattle.vale_syntax.specs.Typed as t
+use Rattle.vale_rules_spec.specs.Typed as t
 use Rattle.vale_core.specs.declared.tree.Expr.{Expr, out-Expr}
 use Rattle.vale_core.specs.declared.tree.Block.{Block, out-Block}
 use Rattle.vale_core.specs.View.{view_ty, view_seen, view_expr, view_node, view_block}
@@ -17,7 +17,7 @@ use Rattle.vale_lowering.specs.Scopes.{Scope, Around, place_of}
 use Rattle.vale_lower_facts.specs.Slots.{Stand}
 use Rattle.vale_lower_facts.specs.Marks.{Marks, mark, marked}
 use Rattle.vale_lower_labels.specs.Shapes.{is_found, is_set, sets_local}
-use Rattle.vale_ownership.proofs.PartLaws.{of_out_expr, of_out_block}
+use Rattle.vale_core.proofs.PartLaws.{of_out_expr, of_out_block}
 use Rattle.vale_lower_labels.proofs.ProgressLaws.{in_turn, no_marks}
 
 pub place_by_parts : (e : Expr) (s : Scope) → sets_local (view_expr e) s ≡ sets_local (t.expr (view_seen (out-Expr e).seen) (view_node (out-Expr e).node)) s

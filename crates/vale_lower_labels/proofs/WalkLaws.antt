@@ -1,9 +1,9 @@
 -- The marks of a part, by those of its own parts.
 use Rattle.std.proofs.Common.{◌≡◌, ℕ, zero, suc, ◌+◌, List, [], ◌∷◌, ◌++◌, length, refl, ap, sym, ◌∙◌, append_assoc, append-nil, rules}
 use Rattle.std.specs.Prelude.{Bool, true, false, ◌&&◌, Option, None, Some, map, option_map, if◌then◌else◌}
-use Rattle.vale_syntax.specs.Types.{is_copy, int}
-use Rattle.vale_syntax.specs.Typed as t
-use Rattle.vale_syntax.specs.Typed.{type, block_type}
+use Rattle.vale_rules_spec.specs.Types.{is_copy, int}
+use Rattle.vale_rules_spec.specs.Typed as t
+use Rattle.vale_rules_spec.specs.Typed.{type, block_type}
 use Rattle.vale_syntax.specs.View.{listed}
 use Rattle.vale_core.specs.declared.tree.Expr.{Expr, out-Expr}
 use Rattle.vale_core.specs.declared.tree.Block.{Block, out-Block}
@@ -12,16 +12,16 @@ use Rattle.vale_core.specs.declared.tree.Link.{Link, out-Link}
 use Rattle.vale_core.specs.View.{view_ty, view_expr, view_node, view_stmt, view_block, view_else_if, view_link, stmts_of}
 use Rattle.vale_core.proofs.ViewLaws as v
 use Rattle.vale_lowering.specs.Scopes.{Around}
-use Rattle.vale_syntax.specs.Types as y
+use Rattle.vale_rules_spec.specs.Types as y
 use Rattle.vale_lower_facts.specs.Slots.{Stand, with_slot, local, holds, given, behind, scope_at}
-use Rattle.vale_ownership.specs.Returned.{block_returns}
+use Rattle.vale_rules_spec.specs.Returns.{block_returns}
 use Rattle.vale_lower_facts.specs.Marks.{Marks, mark, expr_marks, value_marks, node_marks, links_marks, elses_marks, block_marks, stmts_marks, unused_marks, only_marks, link_marks, expr_due, value_due, node_due, links_due, link_due, block_due, stmts_due, unused_due}
 use Rattle.vale_lower_labels.specs.Going.{one_link_marks, link_op, store_marks, turns_marks, return_marks}
 use Rattle.vale_lower_labels.specs.Progress.{Progress, with_marks}
 use Rattle.vale_lower_labels.specs.Shapes.{is_set}
 use Rattle.vale_lower_labels.specs.Sides.{side_marks, sides_marks, sides_due}
 use Rattle.vale_lower_labels.proofs.ProgressLaws.{in_turn, no_marks}
-use Rattle.vale_ownership.proofs.PartLaws.{of_out_expr, of_out_link, of_out_block, of_out_else_if}
+use Rattle.vale_core.proofs.PartLaws.{of_out_expr, of_out_link, of_out_block, of_out_else_if}
 use Rattle.vale_lower_labels.proofs.SlotLaws.{type_by_parts, waited_more, args_are_waited}
 use Rattle.vale_lower_labels.proofs.StepLaws.{of_store, of_callee}
 

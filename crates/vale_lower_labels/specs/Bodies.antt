@@ -1,9 +1,9 @@
 -- The marks of a whole body.
 use Rattle.std.specs.Prelude.{ℕ, Bool, false, [], ◌∷◌, ◌++◌}
-use Rattle.vale_syntax.specs.Types.{is_copy}
-use Rattle.vale_syntax.specs.Typed.{Block, Function}
+use Rattle.vale_rules_spec.specs.Types.{is_copy}
+use Rattle.vale_rules_spec.specs.Typed.{Block, Function}
 use Rattle.vale_lowering.specs.Scopes.{Around, result_type}
-use Rattle.vale_ownership.specs.Returned.{block_returns}
+use Rattle.vale_rules_spec.specs.Returns.{block_returns}
 use Rattle.vale_lower_facts.specs.Slots.{Stand, behind}
 use Rattle.vale_lower_facts.specs.Marks.{Marks, mark, block_marks, block_due}
 use Rattle.vale_lower_labels.specs.Standing.{plain}

@@ -1,6 +1,6 @@
 -- The facts of registers, put in one after another.
 use Rattle.std.specs.Prelude.{ℕ, zero, suc, ◌+◌, Bool, true, false, List, [], ◌∷◌, Option, Some, None, slice_set}
-use Rattle.vale_syntax.specs.Typed as t
+use Rattle.vale_rules_spec.specs.Typed as t
 use Rattle.vale_core.specs.View.{view_ty}
 use Rattle.vale_code.specs.declared.ty.Ty.{Ty as CodeTy}
 use Rattle.vale_cert.specs.declared.facts.RegFact.{RegFact}

@@ -1,10 +1,10 @@
 -- The next statement of a block, the next operator of a chain, and parts of single statements.
 use Rattle.std.specs.Prelude.{ℕ, ◌+◌, Bool, true, false, [], ◌∷◌, ◌++◌}
 use Rattle.vale_syntax.specs.declared.tree.BinaryOp.{BinaryOp}
-use Rattle.vale_syntax.specs.Types.{Ty, int}
-use Rattle.vale_syntax.specs.Typed.{Expr, Link, link, Node, set, Stmt, declare, destructure, Block, type}
+use Rattle.vale_rules_spec.specs.Types.{Ty, int}
+use Rattle.vale_rules_spec.specs.Typed.{Expr, Link, link, Node, set, Stmt, declare, destructure, Block, type}
 use Rattle.vale_lowering.specs.Scopes.{Around}
-use Rattle.vale_ownership.specs.Returned.{block_returns}
+use Rattle.vale_rules_spec.specs.Returns.{block_returns}
 use Rattle.vale_lower_facts.specs.Slots.{Slots, local, holds, with_slot, behind, Stand}
 use Rattle.vale_lower_facts.specs.Marks.{Marks, mark, only_marks, link_marks, count_marks, value_marks, value_due, block_marks, block_due, stmt_marks, stmt_due}
 

@@ -1,6 +1,6 @@
 -- Whether something is set, and whether it is a local.
 use Rattle.std.specs.Prelude.{ℕ, Bool, true, false, Option, Some, None}
-use Rattle.vale_syntax.specs.Typed.{Expr, expr, name, set}
+use Rattle.vale_rules_spec.specs.Typed.{Expr, expr, name, set}
 use Rattle.vale_lowering.specs.Scopes.{Scope, place_of}
 
 abbrev pub is_found : Option ℕ → Bool

@@ -1,8 +1,8 @@
 -- The sides of an `if`, one after another.
 use Rattle.std.specs.Prelude.{ℕ, ◌+◌, Bool, true, false, List, [], ◌∷◌, ◌++◌}
-use Rattle.vale_syntax.specs.Typed.{ElseIf, else_if, type, block_type}
+use Rattle.vale_rules_spec.specs.Typed.{ElseIf, else_if, type, block_type}
 use Rattle.vale_lowering.specs.Scopes.{Around}
-use Rattle.vale_ownership.specs.Returned.{block_returns}
+use Rattle.vale_rules_spec.specs.Returns.{block_returns}
 use Rattle.vale_lower_facts.specs.Slots.{Stand, with_slot, holds, given, behind}
 use Rattle.vale_lower_facts.specs.Marks.{Marks, mark, value_marks, value_due, block_marks, block_due}
 

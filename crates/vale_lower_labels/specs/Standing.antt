@@ -1,6 +1,6 @@
 -- What is known at a place, as the code keeps it.
 use Rattle.std.specs.Prelude.{ℕ, ◌+◌, Bool, List, [], ◌∷◌, map}
-use Rattle.vale_syntax.specs.Typed as t
+use Rattle.vale_rules_spec.specs.Typed as t
 use Rattle.vale_core.specs.View.{view_ty, view_expr}
 use Rattle.vale_lowering.specs.Scopes.{Around}
 use Rattle.vale_lower_facts.specs.Slots as s

@@ -1,8 +1,8 @@
 // The facts of one function.
 ghost use Rattle.std.specs.Prelude.{◌≡◌, ℕ, List, [], ◌+◌, length, map, false, is_some, IfOk};
 ghost use Rattle.std.specs.Option.{option_map};
-ghost use Rattle.vale_syntax.specs.Types.{result_of};
-ghost use Rattle.vale_syntax.specs.Typed as t;
+ghost use Rattle.vale_rules_spec.specs.Types.{result_of};
+ghost use Rattle.vale_rules_spec.specs.Typed as t;
 ghost use Rattle.vale_syntax.specs.View.{view_type, view_param};
 ghost use Rattle.vale_core.specs.View.{view_block, view_function};
 ghost use Rattle.vale_model.specs.Parts.{Parts, param_names};
@@ -21,7 +21,7 @@ use vale_base::Memory;
 use vale_cert::{FuncFacts, Label};
 use vale_code::{Sequence, Ty as CodeTy};
 use vale_core::{Block, Function};
-use vale_ownership::block_returns;
+use vale_core::block_returns;
 use vale_syntax::{Param, TypeExpr};
 use vale_type_rules::type_of;
 

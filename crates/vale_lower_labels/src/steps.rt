@@ -1,13 +1,13 @@
 // The instructions of one node or one jump, after those of its parts.
 ghost use Rattle.std.specs.Prelude.{◌≡◌, ◌∷◌, ◌||◌, [], Some, None, true, false, OnOk};
 ghost use Rattle.vale_core.specs.View.{view_expr, view_ty, view_block};
-ghost use Rattle.vale_syntax.specs.Typed.{block_type};
+ghost use Rattle.vale_rules_spec.specs.Typed.{block_type};
 ghost use Rattle.vale_base.specs.declared.spot.Spot.{Spot};
 ghost use Rattle.std.specs.Prelude.{ℕ};
 ghost use Rattle.vale_lowering.specs.Instructions.{unary_code};
 ghost use Rattle.vale_lowering.specs.Lowered.{set_code};
 ghost use Rattle.vale_lower_facts.specs.Marks.{mark, marked};
-ghost use Rattle.vale_ownership.specs.Returned.{block_returns};
+ghost use Rattle.vale_rules_spec.specs.Returns.{block_returns};
 ghost use Rattle.vale_lower_facts.specs.Slots.{scope_at, with_slot, holds, given, behind};
 ghost use Rattle.vale_lower_labels.specs.Progress.{progress, with_marks};
 ghost use Rattle.vale_lower_labels.specs.Shapes.{is_set, sets_local};
@@ -19,7 +19,7 @@ use crate::slots::{Slots, is_local};
 use std::alloc::Global;
 use vale_base::Memory;
 use vale_core::{Block, Expr, Node, Ty};
-use vale_ownership::block_returns;
+use vale_core::block_returns;
 use vale_syntax::UnaryOp;
 
 // Whether what is set is a local.

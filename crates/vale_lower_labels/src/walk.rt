@@ -7,7 +7,7 @@ ghost use Rattle.vale_lower_labels.specs.Progress.{progress, with_marks};
 ghost use Rattle.vale_lower_labels.specs.Standing.{stand, framed, slots_of, plain};
 ghost use Rattle.vale_lower_labels.specs.Sides.{side_marks, sides_marks, sides_due};
 ghost use Rattle.vale_lower_labels.specs.Going.{one_link_marks, link_op, next_marks, next_due, next_slots, next_register, goes_on, store_marks, turns_marks, return_marks};
-ghost use Rattle.vale_ownership.specs.Returned.{stmt_returns};
+ghost use Rattle.vale_rules_spec.specs.Returns.{stmt_returns};
 
 use crate::frame::Frame;
 use crate::labels::{Labels, above};
@@ -20,7 +20,7 @@ use sqlite_items::{Boxed, Items};
 use std::alloc::Global;
 use vale_base::{Memory, Name};
 use vale_core::{Block, ElseIf, Expr, Form, Link, Node, Stmt, Ty};
-use vale_ownership::{expr_returns, stmt_returns};
+use vale_core::{expr_returns, stmt_returns};
 use vale_syntax::BinaryOp;
 
 // Whether a value is given exactly where one is wanted.

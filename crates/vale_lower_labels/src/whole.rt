@@ -1,6 +1,6 @@
 // The facts of a program's code.
 ghost use Rattle.std.specs.Prelude.{◌≡◌, ℕ, List, map, flat_map, length, IfOk};
-ghost use Rattle.vale_syntax.specs.Typed as t;
+ghost use Rattle.vale_rules_spec.specs.Typed as t;
 ghost use Rattle.vale_core.specs.View.{view_core, view_function, view_item};
 ghost use Rattle.vale_model.specs.Parts.{Parts, functions_of};
 ghost use Rattle.vale_lowering.specs.Lowered.{lowered, lowered_function};

@@ -1,7 +1,7 @@
 -- Built-in functions run as they mean.
 use Rattle.std.proofs.Common.{◌≡◌, ℕ, ◌+◌, ◌≤◌, List, [], ◌∷◌, length, Some, None, Bool, true, false, refl, ap, ◌∙◌, subst, ◌⊎◌, inl, inr, arith}
-use Rattle.vale_base.specs.State.{State, Answer, fails, print, len}
-use Rattle.vale_base.specs.World.{Value}
+use Rattle.vale_state_spec.specs.State.{State, Answer, fails, print, len}
+use Rattle.vale_state_spec.specs.World.{Value}
 use Rattle.vale_base.specs.declared.spot.Spot.{Spot}
 use Rattle.vale_text.specs.Steps as o
 use Rattle.vale_syntax.specs.declared.built_in.BuiltIn.{BuiltIn}

@@ -3,16 +3,16 @@ use Rattle.std.proofs.Common.{◌≡◌, ℕ, zero, suc, ◌+◌, ◌<◌, ◌�
 use Rattle.std.specs.Prelude.{slice_get, option_map}
 use Rattle.std.proofs.lemmas.Bool.Decides.{Decides-eqb}
 use Rattle.std.proofs.lemmas.Option.{slice_get-map}
-use Rattle.vale_base.specs.Outcome.{Wrong}
-use Rattle.vale_base.specs.State.{State, spend, spend_of, has_depth, function_frame}
-use Rattle.vale_base.specs.World.{Value}
+use Rattle.vale_state_spec.specs.Outcome.{Wrong}
+use Rattle.vale_state_spec.specs.State.{State, spend, spend_of, has_depth, function_frame}
+use Rattle.vale_state_spec.specs.World.{Value}
 use Rattle.vale_base.specs.declared.trap.FrameAt.{FrameAt}
 use Rattle.vale_base.specs.declared.trap.TrapKind.TheVariants.{CallDepth}
-use Rattle.vale_syntax.specs.Declarations.{head_params, param_type}
+use Rattle.vale_rules_spec.specs.Declarations.{head_params, param_type}
 use Rattle.vale_syntax.specs.Tree.{Param, param}
-use Rattle.vale_syntax.specs.Types.{is_copy, type_of}
+use Rattle.vale_rules_spec.specs.Types.{is_copy, type_of}
 use Rattle.vale_syntax.specs.declared.tree.NameAt.{NameAt}
-use Rattle.vale_syntax.specs.Typed.{Function, Expr, Block}
+use Rattle.vale_rules_spec.specs.Typed.{Function, Expr, Block}
 use Rattle.vale_model.specs.Kinds.{head_of}
 use Rattle.vale_model.specs.Parts.{Parts, name_text, name_of, param_names, has_name, first_function, is_pure, function_named}
 use Rattle.vale_model.specs.Runs as model

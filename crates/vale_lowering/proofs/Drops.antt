@@ -1,7 +1,7 @@
 -- Nothing is done where plain values are dropped.
 use Rattle.std.proofs.Common.{◌≡◌, ℕ, ◌+◌, arith, [], ◌∷◌, Some, None, Bool, true, false, refl, ap, ◌∙◌}
-use Rattle.vale_base.specs.State.{State, Calls}
-use Rattle.vale_base.specs.World.{Int, Truth, Text, Own, Ref, Iso}
+use Rattle.vale_state_spec.specs.State.{State, Calls}
+use Rattle.vale_state_spec.specs.World.{Int, Truth, Text, Own, Ref, Iso}
 use Rattle.vale_base.specs.declared.spot.Spot.{Spot}
 use Rattle.vale_code.specs.Registers.{Registers}
 use Rattle.vale_model.specs.Runs.{Locals, goes, returned, then_do, outer}

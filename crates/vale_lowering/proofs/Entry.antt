@@ -1,7 +1,7 @@
 -- Where a function begins: its parameters against the registers, and its code from its first place on.
 use Rattle.std.proofs.Common.{◌≡◌, ◌≢◌, ℕ, zero, suc, ◌+◌, ◌-◌, ◌<◌, List, [], ◌∷◌, ◌++◌, length, map, Some, None, refl, sym, ap, ◌∙◌, subst, ◌⊎◌, inl, inr, ⊎_elim, arith, length-append, append_assoc}
 use Rattle.std.specs.Prelude.{slice_get, replicate}
-use Rattle.vale_base.specs.World.{Value}
+use Rattle.vale_state_spec.specs.World.{Value}
 use Rattle.vale_model.specs.Runs.{Locals}
 use Rattle.vale_model.specs.Meaning.{bound}
 use Rattle.vale_code.specs.Instructions.{instruction_in}

@@ -2,17 +2,17 @@
 use Rattle.std.proofs.Common.{◌≡◌, ℕ, List, [], ◌∷◌, ◌++◌, Option, Some, None, refl}
 use Rattle.std.specs.Prelude.{true, false, codes, pos}
 use Rattle.std.specs.Fmt.{signed_decimal}
-use Rattle.vale_base.specs.Outcome.{Outcome, End, Done, Trap, Cut}
-use Rattle.vale_base.specs.State.{no_input}
+use Rattle.vale_state_spec.specs.Outcome.{Outcome, End, Done, Trap, Cut}
+use Rattle.vale_state_spec.specs.State.{no_input}
 use Rattle.vale_base.specs.declared.piece.Piece.{Piece}
 use Rattle.vale_base.specs.declared.spot.Spot.{Spot}
 use Rattle.vale_base.specs.declared.trap.FrameAt.{FrameAt}
 use Rattle.vale_base.specs.declared.trap.TrapKind.TheVariants.{Overflow, DivisionByZero}
 use Rattle.vale_syntax.specs.declared.tree.BinaryOp.TheVariants.{Equal, Less, Add, Sub, Div}
 use Rattle.vale_syntax.specs.declared.tree.NameAt.{NameAt}
-use Rattle.vale_syntax.specs.Judged.{Judged, fine, faulty}
-use Rattle.vale_syntax.specs.Typed.{Typed}
-use Rattle.vale_syntax.specs.Typing.{typed}
+use Rattle.vale_rules_spec.specs.Judged.{Judged, fine, faulty}
+use Rattle.vale_rules_spec.specs.Typed.{Typed}
+use Rattle.vale_rules_spec.specs.Typing.{typed}
 use Rattle.vale_syntax.specs.Tree.{int_type, set, chain, number, quote, truth, name, call, paren, no_exprs, more_exprs, link, no_links, more_links, branch, no_else, block, declare, return_value, while, foreach, form_stmt, express, no_stmts, more_stmts, param, head, function, function_item, Tree, tree}
 use Rattle.vale_code.specs.Run.{run_code}
 use Rattle.vale_lowering.specs.Lowered.{lowered}

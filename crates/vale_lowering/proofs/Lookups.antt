@@ -2,10 +2,10 @@
 use Rattle.std.proofs.Common.{◌≡◌, ℕ, zero, suc, ◌+◌, List, [], ◌∷◌, ◌++◌, length, map, Option, Some, None, Bool, true, false, if◌then◌else◌, refl, sym, ap, ◌∙◌, subst, ◌⊎◌, inl, inr}
 use Rattle.std.specs.Prelude.{slice_get, bytes_eq}
 use Rattle.std.proofs.lemmas.Slice.Eq.{bytes_eq-Decides}
-use Rattle.vale_base.specs.World.{Value, Int, Truth, Text, Own, Ref, Iso}
-use Rattle.vale_syntax.specs.Types.{Ty, is_copy}
-use Rattle.vale_syntax.specs.Types as y
-use Rattle.vale_syntax.specs.Typed.{Function}
+use Rattle.vale_state_spec.specs.World.{Value, Int, Truth, Text, Own, Ref, Iso}
+use Rattle.vale_rules_spec.specs.Types.{Ty, is_copy}
+use Rattle.vale_rules_spec.specs.Types as y
+use Rattle.vale_rules_spec.specs.Typed.{Function}
 use Rattle.vale_model.specs.Parts.{first_function}
 use Rattle.vale_code.specs.Kinds.{result_to}
 use Rattle.vale_code.specs.Registers.{Registers, Read, read, kept, and_then, after_keeping, given_value, after_giving, give_all}

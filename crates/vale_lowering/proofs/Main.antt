@@ -4,14 +4,14 @@ use Rattle.std.specs.Prelude.{slice_get, codes, bytes_eq, option_map, slice_inde
 use Rattle.std.specs.Option.{option_map_or}
 use Rattle.std.proofs.lemmas.Option.{slice_get-map}
 use Rattle.std.proofs.lemmas.Slice.Eq.{bytes_eq-Decides}
-use Rattle.vale_base.specs.Outcome.{End, Done, Cut, Wrong}
-use Rattle.vale_base.specs.State.{State, begin, outcome, no_input, main_frame, function_frame}
-use Rattle.vale_base.specs.World.{Value}
-use Rattle.vale_syntax.specs.Declarations.{head_params, param_type}
+use Rattle.vale_state_spec.specs.Outcome.{End, Done, Cut, Wrong}
+use Rattle.vale_state_spec.specs.State.{State, begin, outcome, no_input, main_frame, function_frame}
+use Rattle.vale_state_spec.specs.World.{Value}
+use Rattle.vale_rules_spec.specs.Declarations.{head_params, param_type}
 use Rattle.vale_syntax.specs.Tree.{Param}
-use Rattle.vale_syntax.specs.Types.{Ty, is_copy, type_of}
-use Rattle.vale_syntax.specs.Types as y
-use Rattle.vale_syntax.specs.Typed.{Function, function_body, Typed}
+use Rattle.vale_rules_spec.specs.Types.{Ty, is_copy, type_of}
+use Rattle.vale_rules_spec.specs.Types as y
+use Rattle.vale_rules_spec.specs.Typed.{Function, function_body, Typed}
 use Rattle.vale_model.specs.Kinds.{head_of}
 use Rattle.vale_model.specs.Parts.{Parts, parts_of, name_of, param_names, has_text, first_function, is_pure, main_of}
 use Rattle.vale_model.specs.Runs.{Result, goes, returned, ended}

@@ -1,7 +1,7 @@
 -- Single steps give plain values.
 use Rattle.std.proofs.Common.{◌≡◌, ℕ, ◌≤◌, ℤ, pos, List, Option, Some, None, Bool, true, false, Result, Ok, Err, refl, ◌⊎◌, inl, inr, arith}
-use Rattle.vale_base.specs.State.{State, Answer, fails, print, print_text, shown, len}
-use Rattle.vale_base.specs.World.{Value, Int, Truth, Text, Own, Ref, Iso}
+use Rattle.vale_state_spec.specs.State.{State, Answer, fails, print, print_text, shown, len}
+use Rattle.vale_state_spec.specs.World.{Value, Int, Truth, Text, Own, Ref, Iso}
 use Rattle.vale_base.specs.declared.trap.TrapKind.{TrapKind}
 use Rattle.vale_text.specs.Operations as p
 use Rattle.vale_text.specs.Operations.{is_int}

@@ -1,13 +1,13 @@
 -- Operators run as they mean.
 use Rattle.std.proofs.Common.{◌≡◌, ◌≢◌, ℕ, ◌+◌, ◌<◌, ◌≤◌, pos, List, [], ◌∷◌, ◌++◌, length, Option, Some, None, true, false, refl, ap, ◌∙◌, subst, ◌⊎◌, inl, inr, arith, length-append}
-use Rattle.vale_base.specs.Outcome.{Wrong}
-use Rattle.vale_base.specs.State.{State, Answer, fails}
-use Rattle.vale_base.specs.World.{Value, Int, Truth}
+use Rattle.vale_state_spec.specs.Outcome.{Wrong}
+use Rattle.vale_state_spec.specs.State.{State, Answer, fails}
+use Rattle.vale_state_spec.specs.World.{Value, Int, Truth}
 use Rattle.vale_base.specs.declared.spot.Spot.{Spot}
 use Rattle.vale_text.specs.Operations as number
 use Rattle.vale_text.specs.Steps as o
-use Rattle.vale_syntax.specs.Types.{Ty}
-use Rattle.vale_syntax.specs.Types as y
+use Rattle.vale_rules_spec.specs.Types.{Ty}
+use Rattle.vale_rules_spec.specs.Types as y
 use Rattle.vale_syntax.specs.declared.tree.BinaryOp.{BinaryOp}
 use Rattle.vale_syntax.specs.declared.tree.BinaryOp.TheVariants as op
 use Rattle.vale_syntax.specs.declared.tree.UnaryOp.{UnaryOp}

@@ -1,12 +1,12 @@
 -- The code of a whole program does what the program means: by induction on the ticks.
 use Rattle.std.proofs.Common.{◌≡◌, ℕ, zero, suc, ◌+◌, ◌≤◌, List, [], ◌∷◌, ◌++◌, length, Option, Some, None, Bool, true, false, refl, sym, ap, ◌∙◌, subst, inl, inr, arith}
 use Rattle.std.specs.Prelude.{slice_get}
-use Rattle.vale_base.specs.State.{State}
-use Rattle.vale_base.specs.World.{Value}
+use Rattle.vale_state_spec.specs.State.{State}
+use Rattle.vale_state_spec.specs.World.{Value}
 use Rattle.vale_base.specs.declared.spot.Spot.{Spot}
 use Rattle.vale_base.specs.declared.trap.FrameAt.{FrameAt}
-use Rattle.vale_syntax.specs.Types.{is_copy}
-use Rattle.vale_syntax.specs.Typed.{Function, function_body, Block, block}
+use Rattle.vale_rules_spec.specs.Types.{is_copy}
+use Rattle.vale_rules_spec.specs.Typed.{Function, function_body, Block, block}
 use Rattle.vale_model.specs.Kinds.{body_of}
 use Rattle.vale_model.specs.Parts.{Parts, is_pure}
 use Rattle.vale_model.specs.Runs.{Locals, Result, goes, returned, ended, valued}

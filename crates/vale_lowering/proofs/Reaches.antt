@@ -1,9 +1,9 @@
 -- The run of a part of the code against a result of the meaning.
 use Rattle.std.proofs.Common.{◌≡◌, ℕ, zero, suc, ◌+◌, ◌<◌, ◌≤◌, List, [], ◌∷◌, ◌++◌, length, Option, Some, None, Bool, true, false, ◌||◌, nat_lt, refl, sym, ap, ◌∙◌, subst, ◌⊎◌, inl, inr, arith}
 use Rattle.std.specs.Prelude.{slice_get}
-use Rattle.vale_base.specs.Outcome.{End, Done, Cut, Wrong}
-use Rattle.vale_base.specs.State.{State, Calls, Answer, gives, traps, fails, spend, spend_of, trap_under}
-use Rattle.vale_base.specs.World.{Value, Int, Truth, Text, Own, Ref, Iso}
+use Rattle.vale_state_spec.specs.Outcome.{End, Done, Cut, Wrong}
+use Rattle.vale_state_spec.specs.State.{State, Calls, Answer, gives, traps, fails, spend, spend_of, trap_under}
+use Rattle.vale_state_spec.specs.World.{Value, Int, Truth, Text, Own, Ref, Iso}
 use Rattle.vale_base.specs.declared.spot.Spot.{Spot}
 use Rattle.vale_base.specs.declared.trap.FrameAt.{FrameAt}
 use Rattle.vale_model.specs.Runs as model

@@ -1,7 +1,7 @@
 -- Registers against locals and temporaries.
 use Rattle.std.proofs.Common.{Option, Some, None, Bool, true, false, if◌then◌else◌, length, ◌≡◌, ◌≢◌, ℕ, zero, suc, ◌+◌, ◌<◌, ◌≤◌, List, [], ◌∷◌, refl, sym, ap, ◌∙◌, subst, ⊎_elim, arith}
 use Rattle.std.proofs.lemmas.Bool.{cases_lt}
-use Rattle.vale_base.specs.World.{Value, Int, Truth, Text, Own, Ref, Iso}
+use Rattle.vale_state_spec.specs.World.{Value, Int, Truth, Text, Own, Ref, Iso}
 use Rattle.vale_text.specs.Operations.{is_int}
 use Rattle.vale_model.specs.Runs.{Local, Locals, has_name, held_by, with_held, outer, innermost}
 use Rattle.vale_code.specs.Registers.{Registers, read, put}

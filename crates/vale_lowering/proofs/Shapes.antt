@@ -1,7 +1,7 @@
 -- What is put together of parts runs as its parts do.
 use Rattle.std.proofs.Common.{◌≡◌, ◌≢◌, ℕ, ◌+◌, ◌<◌, ◌≤◌, List, [], ◌∷◌, ◌++◌, length, Option, Some, None, true, false, refl, sym, ap, ◌∙◌, subst, inr, arith, length-append}
-use Rattle.vale_base.specs.State.{State, lent}
-use Rattle.vale_base.specs.World.{Value, Int, Truth, Text, Own, Ref, Iso}
+use Rattle.vale_state_spec.specs.State.{State, lent}
+use Rattle.vale_state_spec.specs.World.{Value, Int, Truth, Text, Own, Ref, Iso}
 use Rattle.vale_model.specs.Runs.{Locals, Result, goes, Run, then_do, the_value, choose, give, nothing, ◌>>=◌, tick}
 use Rattle.vale_code.specs.Frames.{Config}
 use Rattle.vale_code.specs.Instructions as steps

@@ -1,13 +1,13 @@
 -- The code of each part of a program does what the part means: by induction on the tree.
 use Rattle.std.proofs.Common.{◌≡◌, ◌≢◌, ℕ, suc, ℤ, ◌+◌, ◌<◌, ◌≤◌, List, [], ◌∷◌, ◌++◌, length, Option, Some, None, Bool, true, false, ◌&&◌, refl, sym, ap, subst, ◌⊎◌, inl, inr, arith, length-append}
 use Rattle.std.specs.Prelude.{slice_get}
-use Rattle.vale_base.specs.State.{State}
-use Rattle.vale_base.specs.World.{Value, Int, Truth, Text}
+use Rattle.vale_state_spec.specs.State.{State}
+use Rattle.vale_state_spec.specs.World.{Value, Int, Truth, Text}
 use Rattle.vale_base.specs.declared.spot.Spot.{Spot}
 use Rattle.vale_text.specs.Operations.{is_int}
 use Rattle.vale_syntax.specs.declared.tree.NameAt.{NameAt}
-use Rattle.vale_syntax.specs.Types.{Ty, void, is_copy}
-use Rattle.vale_syntax.specs.Typed.{Callee, built_in, constructor, function, Expr, expr, Node, set, chain, unary, steps, number, quote, truth, name, call, paren, array, iso, form, Exprs, no_exprs, more_exprs, link, Links, no_links, more_links, Form, branch, pure, parallel_range, parallel_each, else_if, Elses, no_else, otherwise, more_elses, Block, block, declare, destructure, return_nothing, return_value, while, foreach, form_stmt, express, Stmts, no_stmts, last, more_stmts, type}
+use Rattle.vale_rules_spec.specs.Types.{Ty, void, is_copy}
+use Rattle.vale_rules_spec.specs.Typed.{Callee, built_in, constructor, function, Expr, expr, Node, set, chain, unary, steps, number, quote, truth, name, call, paren, array, iso, form, Exprs, no_exprs, more_exprs, link, Links, no_links, more_links, Form, branch, pure, parallel_range, parallel_each, else_if, Elses, no_else, otherwise, more_elses, Block, block, declare, destructure, return_nothing, return_value, while, foreach, form_stmt, express, Stmts, no_stmts, last, more_stmts, type}
 use Rattle.vale_model.specs.Parts.{Parts}
 use Rattle.vale_model.specs.Runs.{Locals, Result, goes, returned, ended, Run, then_do, the_value, valued, give, held_by, with_held, outer, innermost, while_waits}
 use Rattle.vale_model.specs.Destruction.{Again, drop, leave, with_local}

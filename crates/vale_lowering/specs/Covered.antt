@@ -7,9 +7,9 @@ use Rattle.vale_syntax.specs.declared.built_in.BuiltIn.{BuiltIn}
 use Rattle.vale_syntax.specs.declared.built_in.BuiltIn.TheVariants as b
 use Rattle.vale_syntax.specs.declared.tree.UnaryOp.{UnaryOp}
 use Rattle.vale_syntax.specs.declared.tree.UnaryOp.TheVariants as unary
-use Rattle.vale_syntax.specs.Declarations.{head_params, param_type}
-use Rattle.vale_syntax.specs.Types.{Ty, is_copy, is_void, type_of}
-use Rattle.vale_syntax.specs.Typed.{Callee, built_in, constructor, function, Expr, expr, Node, set, chain, unary, steps, number, quote, truth, name, call, paren, array, iso, form, Exprs, no_exprs, more_exprs, link, Links, no_links, more_links, Form, branch, pure, parallel_range, parallel_each, else_if, Elses, no_else, otherwise, more_elses, Block, block, Stmt, declare, destructure, return_nothing, return_value, while, foreach, form_stmt, express, Stmts, no_stmts, last, more_stmts, Function, Item, struct_item, interface_item, impl_item, function_item, Typed, typed}
+use Rattle.vale_rules_spec.specs.Declarations.{head_params, param_type}
+use Rattle.vale_rules_spec.specs.Types.{Ty, is_copy, is_void, type_of}
+use Rattle.vale_rules_spec.specs.Typed.{Callee, built_in, constructor, function, Expr, expr, Node, set, chain, unary, steps, number, quote, truth, name, call, paren, array, iso, form, Exprs, no_exprs, more_exprs, link, Links, no_links, more_links, Form, branch, pure, parallel_range, parallel_each, else_if, Elses, no_else, otherwise, more_elses, Block, block, Stmt, declare, destructure, return_nothing, return_value, while, foreach, form_stmt, express, Stmts, no_stmts, last, more_stmts, Function, Item, struct_item, interface_item, impl_item, function_item, Typed, typed}
 use Rattle.vale_model.specs.Kinds.{head_of, body_of}
 use Rattle.vale_model.specs.Parts.{is_pure}
 use Rattle.vale_lowering.specs.Scopes.{result_type}

@@ -1,9 +1,9 @@
 -- The locals in scope, each in a register of its own, and the functions and texts that a body names.
 use Rattle.std.specs.Prelude.{ℕ, ◌+◌, suc, Bool, true, false, List, [], ◌∷◌, Option, Some, None, bytes_eq, if◌then◌else◌}
-use Rattle.vale_syntax.specs.Types.{Ty, result_of, is_copy}
-use Rattle.vale_syntax.specs.Types as y
+use Rattle.vale_rules_spec.specs.Types.{Ty, result_of, is_copy}
+use Rattle.vale_rules_spec.specs.Types as y
 use Rattle.vale_syntax.specs.Tree.{Head, head}
-use Rattle.vale_syntax.specs.Typed.{Function}
+use Rattle.vale_rules_spec.specs.Typed.{Function}
 use Rattle.vale_model.specs.Kinds.{head_of}
 use Rattle.vale_model.specs.Parts.{is_pure}
 use Rattle.vale_model.specs.Runs as local

@@ -1,9 +1,9 @@
 //! What holds of the code of every program: laws of the definitions, the contract of a function that does nothing.
 
 ghost use Rattle.std.specs.Prelude.{◌≡◌, ℕ};
-ghost use Rattle.vale_base.specs.Outcome.{Wrong};
-ghost use Rattle.vale_base.specs.State.{no_input};
-ghost use Rattle.vale_syntax.specs.Typed.{Typed};
+ghost use Rattle.vale_state_spec.specs.Outcome.{Wrong};
+ghost use Rattle.vale_state_spec.specs.State.{no_input};
+ghost use Rattle.vale_rules_spec.specs.Typed.{Typed};
 ghost use Rattle.vale_model.specs.Meaning.{meaning};
 ghost use Rattle.vale_model.specs.Need.{need};
 ghost use Rattle.vale_code.specs.Need.{need as code_need};

@@ -6,8 +6,8 @@ use Rattle.std.proofs.lemmas.Bool.{and_parts}
 use Rattle.std.proofs.lemmas.List.{length-replicate}
 use Rattle.std.proofs.lemmas.Bool.Decides.{nat_tests}
 use Rattle.vale_base.specs.Limits.{ticks_limit}
-use Rattle.vale_base.specs.State.{State, Given, no_input, begin, function_frame}
-use Rattle.vale_base.specs.World.{Value}
+use Rattle.vale_state_spec.specs.State.{State, Given, no_input, begin, function_frame}
+use Rattle.vale_state_spec.specs.World.{Value}
 use Rattle.vale_base.specs.declared.piece.Piece.{Piece}
 use Rattle.vale_code.specs.Enter.{Form, Plain, form_of, with_func, with_form, enter}
 use Rattle.vale_code.specs.Frames.{Active, Running, Next, On}

@@ -4,9 +4,9 @@ use Rattle.std.specs.Prelude.{slice_get}
 use Rattle.std.specs.List.{list_all}
 use Rattle.std.proofs.lemmas.Bool.{and_parts}
 use Rattle.std.proofs.lemmas.Bool.Decides.{nat_tests}
-use Rattle.vale_base.specs.Outcome.{End, Wrong}
-use Rattle.vale_base.specs.State.{State}
-use Rattle.vale_base.specs.World.{Value}
+use Rattle.vale_state_spec.specs.Outcome.{End, Wrong}
+use Rattle.vale_state_spec.specs.State.{State}
+use Rattle.vale_state_spec.specs.World.{Value}
 use Rattle.vale_code.specs.Frames.{Config, Next, On, Over}
 use Rattle.vale_code.specs.Kinds.{result_to}
 use Rattle.vale_code.specs.Parts.{Parts}

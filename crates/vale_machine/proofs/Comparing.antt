@@ -6,8 +6,8 @@ use mir.Syntax.{w64}
 use mir.Val.{SFits, of_z, to_z}
 use Rattle.std.specs.declared.cmp.Ordering.{Ordering}
 use Rattle.std.specs.Cmp.Lexicographic.{slice_cmp}
-use Rattle.vale_base.specs.State.{State}
-use Rattle.vale_base.specs.World.{Value, Int, Truth, Text}
+use Rattle.vale_state_spec.specs.State.{State}
+use Rattle.vale_state_spec.specs.World.{Value, Int, Truth, Text}
 use Rattle.vale_text.specs.Steps.{Comparison, compare, gives_truth, holds, truths_compared}
 use Rattle.vale_machine.specs.Cells.{ints_in, truths_in, text_in}
 use Rattle.vale_machine.specs.Replies.{on_values}

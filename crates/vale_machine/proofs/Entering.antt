@@ -4,9 +4,9 @@ use Rattle.std.specs.Prelude.{slice_get, slice_set, is_none}
 use Rattle.std.proofs.lemmas.List.{length-reverse}
 use Rattle.std.proofs.lemmas.Bool.Decides.{nat_tests}
 use Rattle.vale_base.specs.Limits.{depth_limit}
-use Rattle.vale_base.specs.Outcome.{Done}
-use Rattle.vale_base.specs.State.{State, has_depth, trap_under}
-use Rattle.vale_base.specs.World.{Value}
+use Rattle.vale_state_spec.specs.Outcome.{Done}
+use Rattle.vale_state_spec.specs.State.{State, has_depth, trap_under}
+use Rattle.vale_state_spec.specs.World.{Value}
 use Rattle.vale_base.specs.declared.piece.Piece.{Piece}
 use Rattle.vale_base.specs.declared.spot.Spot.{Spot}
 use Rattle.vale_base.specs.declared.trap.TrapKind.TheVariants.{CallDepth}

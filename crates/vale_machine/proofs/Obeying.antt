@@ -1,7 +1,7 @@
 -- One instruction, and one step.
 use Rattle.std.proofs.Common.{◌≡◌, ℕ, ◌+◌, List, length, Option, Some, None, refl, sym, ap, ◌∙◌, subst, arith}
-use Rattle.vale_base.specs.State.{State}
-use Rattle.vale_base.specs.World.{Value}
+use Rattle.vale_state_spec.specs.State.{State}
+use Rattle.vale_state_spec.specs.World.{Value}
 use Rattle.vale_base.specs.declared.piece.Piece.{Piece}
 use Rattle.vale_base.specs.declared.spot.Spot.{Spot}
 use Rattle.vale_code.specs.Act.{act, returns}

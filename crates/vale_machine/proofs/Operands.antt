@@ -1,8 +1,8 @@
 -- What is read of registers.
 use Rattle.std.proofs.Common.{◌≡◌, ℕ, zero, suc, ◌<◌, ◌≤◌, ℤ, List, [], ◌∷◌, length, get_or, Option, Some, None, Bool, refl, ap, arith}
 use Rattle.std.specs.Prelude.{slice_set}
-use Rattle.vale_base.specs.State.{State, Answer, fails}
-use Rattle.vale_base.specs.World.{Value, Int, Truth, Text}
+use Rattle.vale_state_spec.specs.State.{State, Answer, fails}
+use Rattle.vale_state_spec.specs.World.{Value, Int, Truth, Text}
 use Rattle.vale_base.specs.declared.spot.Spot.{Spot}
 use Rattle.vale_code.specs.Frames.{Active, Frame}
 use Rattle.vale_code.specs.Instructions.{answered, certain, with_value, with_choice}

@@ -1,7 +1,7 @@
 -- How the machine goes on with what it reads.
 use Rattle.std.proofs.Common.{◌≡◌, ℕ, zero, suc, List, [], ◌∷◌, drop, Option, Some, None, Bool, refl, sym, ap, subst}
-use Rattle.vale_base.specs.State.{State, Answer, gives, print_text, print}
-use Rattle.vale_base.specs.World.{Value}
+use Rattle.vale_state_spec.specs.State.{State, Answer, gives, print_text, print}
+use Rattle.vale_state_spec.specs.World.{Value}
 use Rattle.vale_base.specs.declared.piece.Piece.{Piece}
 use Rattle.vale_base.specs.declared.spot.Spot.{Spot}
 use Rattle.vale_code.specs.Frames.{Active, Frame, Next, wrong}

@@ -2,8 +2,8 @@
 use Rattle.std.proofs.Common.{◌≡◌, ℕ, zero, suc, ◌+◌, ◌-◌, ◌<◌, ◌≤◌, List, [], ◌∷◌, ◌++◌, length, take, drop, get_or, map, replicate, Option, Some, None, ◌≢◌, refl, sym, ap, ◌∙◌, subst, arith, length-append, append_assoc}
 use Rattle.std.specs.Prelude.{IsSome, slice_range}
 use Rattle.std.proofs.lemmas.List.{length-replicate}
-use Rattle.vale_base.specs.State.{State, gives, traps, fails}
-use Rattle.vale_base.specs.World.{Value}
+use Rattle.vale_state_spec.specs.State.{State, gives, traps, fails}
+use Rattle.vale_state_spec.specs.World.{Value}
 use Rattle.vale_base.specs.declared.trap.TrapKind.{TrapKind}
 use Rattle.vale_code.specs.Registers.{Registers, Read, read, put, and_then, named, given_value, after_giving, after_keeping, give_all, registers_for}
 use Rattle.vale_code.specs.declared.ty.Ty.{Ty}

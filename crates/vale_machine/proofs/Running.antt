@@ -1,8 +1,8 @@
 -- A whole run, turn by turn.
 use Rattle.std.proofs.Common.{◌≡◌, ℕ, suc, ◌+◌, ◌<◌, List, [], Option, Some, sym, ap, ◌∙◌, subst, arith}
-use Rattle.vale_base.specs.Outcome.{End, Done, Trap, Cut}
-use Rattle.vale_base.specs.State.{State, Given, outcome}
-use Rattle.vale_base.specs.World.{Value}
+use Rattle.vale_state_spec.specs.Outcome.{End, Done, Trap, Cut}
+use Rattle.vale_state_spec.specs.State.{State, Given, outcome}
+use Rattle.vale_state_spec.specs.World.{Value}
 use Rattle.vale_base.specs.declared.piece.Piece.{Piece}
 use Rattle.vale_code.specs.Frames.{Config, Next, On, Over}
 use Rattle.vale_code.specs.Fuel.{fuel}

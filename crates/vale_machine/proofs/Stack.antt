@@ -2,8 +2,8 @@
 use Rattle.std.proofs.Common.{◌≡◌, ℕ, zero, suc, ◌+◌, ◌-◌, ◌<◌, List, [], ◌∷◌, ◌++◌, length, take, drop, reverse, Some, None, refl, sym, ap, ◌∙◌, arith}
 use Rattle.std.specs.Prelude.{slice_set}
 use Rattle.std.proofs.lemmas.List.{reverse-append, take-set-le, drop-set-add}
-use Rattle.vale_base.specs.State.{State, spend, spend_of}
-use Rattle.vale_base.specs.World.{Value}
+use Rattle.vale_state_spec.specs.State.{State, spend, spend_of}
+use Rattle.vale_state_spec.specs.World.{Value}
 use Rattle.vale_code.specs.Frames.{Active, Running, Next, On, under}
 use Rattle.vale_code.specs.Frames as frames
 use Rattle.vale_code.specs.Instructions.{onward}

@@ -2,9 +2,9 @@
 use Rattle.std.proofs.Common.{◌≡◌, ℕ, zero, suc, ◌+◌, ◌-◌, ◌<◌, ◌≤◌, List, [], ◌∷◌, ◌++◌, length, take, get_or, reverse, Option, Some, None, Bool, ◌⊎◌, inl, inr, refl, sym, ap, ◌∙◌, subst, arith, length-append, append_assoc}
 use Rattle.std.proofs.lemmas.List.{length-reverse}
 use Rattle.vale_base.specs.Limits.{report_frames}
-use Rattle.vale_base.specs.Outcome.{Cut}
-use Rattle.vale_base.specs.State.{State, Answer, traps, fails, trap_under}
-use Rattle.vale_base.specs.World.{Value, Truth}
+use Rattle.vale_state_spec.specs.Outcome.{Cut}
+use Rattle.vale_state_spec.specs.State.{State, Answer, traps, fails, trap_under}
+use Rattle.vale_state_spec.specs.World.{Value, Truth}
 use Rattle.vale_base.specs.declared.piece.Piece.{Piece}
 use Rattle.vale_base.specs.declared.spot.Spot.{Spot}
 use Rattle.vale_base.specs.declared.trap.FrameAt.{FrameAt}

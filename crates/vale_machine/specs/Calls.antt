@@ -1,6 +1,6 @@
 -- How the machine enters and leaves functions.
 use Rattle.std.specs.Prelude.{◌≡◌, ℕ, ◌+◌, ◌<◌, ◌≤◌, List, [], ◌∷◌, ◌++◌, length, map, Option, Some, None, slice_get}
-use Rattle.vale_base.specs.World.{Value}
+use Rattle.vale_state_spec.specs.World.{Value}
 use Rattle.vale_code.specs.Kinds.{result_to}
 use Rattle.vale_code.specs.Parts.{Parts}
 use Rattle.vale_code.specs.Registers.{Registers, Read}

@@ -1,7 +1,7 @@
 -- What the machine's registers hold, as values.
 use Rattle.std.specs.Prelude.{ℕ, ℤ, List, map, Option, Some, None, Bool}
-use Rattle.vale_base.specs.State.{shown}
-use Rattle.vale_base.specs.World.{Value, Int, Truth, Text}
+use Rattle.vale_state_spec.specs.State.{shown}
+use Rattle.vale_state_spec.specs.World.{Value, Int, Truth, Text}
 use Rattle.vale_code.specs.Registers.{Registers}
 use Rattle.vale_machine.specs.declared.cell.Cell.{Cell}
 use Rattle.vale_machine.specs.declared.cell.Cell.TheVariants as cell

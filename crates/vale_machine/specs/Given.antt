@@ -1,6 +1,6 @@
 -- What `main` gets, as the code's meaning has it.
 use Rattle.std.specs.Prelude.{◌≡◌, [], slice_get, Some}
-use Rattle.vale_base.specs.State.{Given, no_input, numbers, lines}
+use Rattle.vale_state_spec.specs.State.{Given, no_input, numbers, lines}
 use Rattle.vale_code.specs.Parts.{Parts}
 use Rattle.vale_code.specs.declared.func.Func.{Func}
 use Rattle.vale_machine.specs.declared.start.Input.{Input}

@@ -1,7 +1,7 @@
 -- What an instruction on values comes to.
 use Rattle.std.specs.Prelude.{◌≡◌, Option, Some, None, IsSome}
-use Rattle.vale_base.specs.State.{State, Answer, gives, traps, fails}
-use Rattle.vale_base.specs.World.{Value}
+use Rattle.vale_state_spec.specs.State.{State, Answer, gives, traps, fails}
+use Rattle.vale_state_spec.specs.World.{Value}
 use Rattle.vale_text.specs.Steps.{Comparison}
 use Rattle.vale_machine.specs.Cells.{value_in}
 use Rattle.vale_machine.specs.declared.reply.Reply.{Reply}

@@ -1,9 +1,9 @@
 -- A machine whose run goes on, and what a turn of it comes to.
 use Rattle.std.specs.Prelude.{◌≡◌, ◌≢◌, ℕ, ◌+◌, ◌≤◌, List, Option, None}
 use Rattle.vale_base.specs.Limits.{ticks_limit}
-use Rattle.vale_base.specs.Outcome.{Done, Trap, Cut, Wrong}
-use Rattle.vale_base.specs.State.{State}
-use Rattle.vale_base.specs.World.{Value}
+use Rattle.vale_state_spec.specs.Outcome.{Done, Trap, Cut, Wrong}
+use Rattle.vale_state_spec.specs.State.{State}
+use Rattle.vale_state_spec.specs.World.{Value}
 use Rattle.vale_base.specs.declared.piece.Piece.{Piece}
 use Rattle.vale_code.specs.Frames.{Config, Next, On, Over}
 use Rattle.vale_code.specs.Parts.{Parts}

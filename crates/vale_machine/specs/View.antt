@@ -1,8 +1,8 @@
 -- The machine as a configuration of the code's meaning.
 use Rattle.std.specs.Prelude.{◌≡◌, ℕ, ◌+◌, ◌-◌, ◌<◌, List, [], ◌∷◌, ◌++◌, length, take, drop, reverse, Option, Some, None, Bool, true, false, slice_get}
-use Rattle.vale_base.specs.Outcome.{Done, Cut, Wrong}
-use Rattle.vale_base.specs.State.{State, Calls, trap_under}
-use Rattle.vale_base.specs.World.{Value}
+use Rattle.vale_state_spec.specs.Outcome.{Done, Cut, Wrong}
+use Rattle.vale_state_spec.specs.State.{State, Calls, trap_under}
+use Rattle.vale_state_spec.specs.World.{Value}
 use Rattle.vale_base.specs.declared.piece.Piece.{Piece}
 use Rattle.vale_base.specs.declared.trap.FrameAt.{FrameAt}
 use Rattle.vale_code.specs.Frames.{Active, Running, Config, Next, On, Over}

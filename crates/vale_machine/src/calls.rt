@@ -1,6 +1,6 @@
 // How functions are entered and left.
 ghost use Rattle.std.specs.Prelude.{◌≡◌, ◌+◌, ◌-◌, ◌<◌, ◌≤◌, ◌^◌, ◌++◌, List, Some, OnOk, length, drop, replicate, reverse, slice_get};
-ghost use Rattle.vale_base.specs.State.{State, gives};
+ghost use Rattle.vale_state_spec.specs.State.{State, gives};
 ghost use Rattle.vale_base.specs.declared.piece.Piece.{Piece};
 ghost use Rattle.vale_code.specs.Act as a;
 ghost use Rattle.vale_code.specs.Frames.{Config, On, Running, leave, on, resume};

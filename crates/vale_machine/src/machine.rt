@@ -1,7 +1,7 @@
 // The machine's parts, and what most instructions do with the value that they come to.
 ghost use Rattle.std.specs.Prelude.{◌≡◌, ◌+◌, ◌<◌, ◌≤◌, List, Some, length, drop, ◌^◌};
-ghost use Rattle.vale_base.specs.State.{Answer};
-ghost use Rattle.vale_base.specs.World.{Value};
+ghost use Rattle.vale_state_spec.specs.State.{Answer};
+ghost use Rattle.vale_state_spec.specs.World.{Value};
 ghost use Rattle.vale_base.specs.declared.piece.Piece.{Piece};
 ghost use Rattle.vale_code.specs.Frames.{On};
 ghost use Rattle.vale_code.specs.Instructions.{answered, certain, onward};

@@ -1,6 +1,6 @@
 // What is printed.
 ghost use Rattle.std.specs.Prelude.{◌≡◌, ◌+◌, ◌<◌, ◌≤◌, ◌^◌, ◌++◌, ◌∷◌, [], List, Bool, Option, Some, None, IfOk, length, option_map, if◌then◌else◌};
-ghost use Rattle.vale_base.specs.State.{State, print_text};
+ghost use Rattle.vale_state_spec.specs.State.{State, print_text};
 ghost use Rattle.vale_base.specs.declared.piece.Piece.{Piece};
 ghost use Rattle.vale_code.specs.Act.{act};
 ghost use Rattle.vale_code.specs.Frames.{Config};

@@ -1,4 +1,4 @@
-ghost use Rattle.vale_base.specs.State.{State};
+ghost use Rattle.vale_state_spec.specs.State.{State};
 ghost use Rattle.std.specs.Prelude.{ℕ, List, Result};
 ghost use Rattle.vale_base.specs.declared.trap.TrapKind.{TrapKind};
 ghost use Rattle.vale_text.specs.Gives.{Gives};

@@ -1,7 +1,7 @@
 // How a machine begins, and what it gives.
 ghost use Rattle.std.specs.Prelude.{◌≡◌, ◌+◌, ◌<◌, ◌≤◌, ◌++◌, [], List, IfOk, true};
 ghost use Rattle.vale_base.specs.Limits.{ticks_limit};
-ghost use Rattle.vale_base.specs.State.{no_input};
+ghost use Rattle.vale_state_spec.specs.State.{no_input};
 ghost use Rattle.vale_base.specs.declared.piece.Piece.{Piece};
 ghost use Rattle.vale_cert.specs.Certificate.{Certified};
 ghost use Rattle.vale_cert.specs.Input.{takes_input};

@@ -1,6 +1,6 @@
 // Instructions on texts.
 ghost use Rattle.std.specs.Prelude.{◌≡◌, ◌+◌, ◌<◌, ◌^◌, List, length};
-ghost use Rattle.vale_base.specs.State.{State};
+ghost use Rattle.vale_state_spec.specs.State.{State};
 ghost use Rattle.vale_base.specs.declared.piece.Piece.{Piece};
 ghost use Rattle.vale_code.specs.Act.{act};
 ghost use Rattle.vale_code.specs.Frames.{Config};

@@ -1,6 +1,6 @@
 // One turn of the machine.
 ghost use Rattle.std.specs.Prelude.{◌≡◌, ◌+◌, ◌<◌, ◌^◌, List, false, length};
-ghost use Rattle.vale_base.specs.State.{State};
+ghost use Rattle.vale_state_spec.specs.State.{State};
 ghost use Rattle.vale_base.specs.declared.piece.Piece.{Piece};
 ghost use Rattle.vale_code.specs.Act.{act, act_if};
 ghost use Rattle.vale_code.specs.Frames.{Config, Next};

@@ -1,7 +1,7 @@
 // Instructions that set a register to a value that they name.
 ghost use Rattle.std.specs.Prelude.{◌≡◌, ◌+◌, ◌<◌, ◌^◌, List, Some, length, option_map, slice_get};
-ghost use Rattle.vale_base.specs.State.{State, gives};
-ghost use Rattle.vale_base.specs.World.{Value};
+ghost use Rattle.vale_state_spec.specs.State.{State, gives};
+ghost use Rattle.vale_state_spec.specs.World.{Value};
 ghost use Rattle.vale_base.specs.declared.piece.Piece.{Piece};
 ghost use Rattle.vale_code.specs.Act.{act, sets};
 ghost use Rattle.vale_code.specs.Frames.{Config};

@@ -1,9 +1,9 @@
 -- With more ticks left a part does the same, but where it is cut with fewer: there it goes on from what was printed.
 use Rattle.std.proofs.Common.{◌≡◌, ℕ, zero, suc, ◌+◌, ◌≤◌, ◌<◌, ℤ, pos, List, ◌∷◌, ◌++◌, append_assoc, Option, Some, None, Bool, true, false, refl, sym, ap, ◌∙◌, subst, arith}
 use Rattle.std.specs.Prelude.{if◌then◌else◌, ◌+ℤ◌}
-use Rattle.vale_base.specs.Outcome.{End, Done, Trap, Cut, Wrong}
-use Rattle.vale_base.specs.State.{State, Calls, Answer, gives, traps, fails, spend_of, has_depth, lent, freeze_iteration, thaw_iteration, RegionEnd, merged, kept, cleared}
-use Rattle.vale_base.specs.World.{Value, Int, Truth, Text, Own, Ref, Iso}
+use Rattle.vale_state_spec.specs.Outcome.{End, Done, Trap, Cut, Wrong}
+use Rattle.vale_state_spec.specs.State.{State, Calls, Answer, gives, traps, fails, spend_of, has_depth, lent, freeze_iteration, thaw_iteration, RegionEnd, merged, kept, cleared}
+use Rattle.vale_state_spec.specs.World.{Value, Int, Truth, Text, Own, Ref, Iso}
 use Rattle.vale_base.specs.declared.piece.Piece.{Piece}
 use Rattle.vale_base.specs.declared.spot.Spot.{Spot}
 use Rattle.vale_base.specs.declared.trap.FrameAt.{FrameAt}

@@ -1,12 +1,12 @@
 -- With more ticks a whole run does the same, but where it is cut with fewer: there it goes on from what was printed.
 use Rattle.std.proofs.Common.{◌≡◌, ℕ, zero, suc, ◌≤◌, List, [], ◌∷◌, append-nil, Option, Some, None, false, refl, sym, ap, ◌∙◌, subst, arith}
-use Rattle.vale_base.specs.Outcome.{End, Done, Trap, Cut, Wrong, Outcome}
-use Rattle.vale_base.specs.State.{State, begin, Given, given, main_frame}
-use Rattle.vale_base.specs.World.{Value}
+use Rattle.vale_state_spec.specs.Outcome.{End, Done, Trap, Cut, Wrong, Outcome}
+use Rattle.vale_state_spec.specs.State.{State, begin, Given, given, main_frame}
+use Rattle.vale_state_spec.specs.World.{Value}
 use Rattle.vale_base.specs.declared.trap.FrameAt.{FrameAt}
-use Rattle.vale_syntax.specs.Declarations.{head_params}
-use Rattle.vale_syntax.specs.Types.{Ty}
-use Rattle.vale_syntax.specs.Typed.{Expr, Block, block, Function, function_body, Typed}
+use Rattle.vale_rules_spec.specs.Declarations.{head_params}
+use Rattle.vale_rules_spec.specs.Types.{Ty}
+use Rattle.vale_rules_spec.specs.Typed.{Expr, Block, block, Function, function_body, Typed}
 use Rattle.vale_model.specs.Parts.{Parts, parts_of, param_names, main_of}
 use Rattle.vale_model.specs.Runs.{Locals, Result, goes, returned, ended, Run, under}
 use Rattle.vale_model.specs.Destruction.{Again, drop_values}

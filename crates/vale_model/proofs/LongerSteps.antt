@@ -2,9 +2,9 @@
 use Rattle.std.proofs.Common.{◌≡◌, ℕ, ◌+◌, ◌≤◌, ℤ, pos, negsuc, List, [], ◌∷◌, ◌++◌, Option, Some, None, Bool, true, false, refl}
 use Rattle.std.specs.Prelude.{slice_get, if◌then◌else◌, Result, Ok, Err, max, nat_lt, length}
 use Rattle.vale_base.specs.Limits.{width_limit}
-use Rattle.vale_base.specs.State.{State, Answer, gives, traps, print_text, print, shown, object_of, make, dies, changed, found_or_dead, look_up, on_object, with_object, name_of, load, field_in, swap, swapped_in, element, element_at, element_in, swap_element, element_swapped_at, element_swapped_in, len, push, pop, popped, freeze, RegionEnd, merged, kept, cleared, thaw, join_isolate, merge, here, live}
-use Rattle.vale_base.specs.World.{Value, Int, Truth, Text, Own, Ref, Iso, Object}
-use Rattle.vale_base.specs.World as w
+use Rattle.vale_state_spec.specs.State.{State, Answer, gives, traps, print_text, print, shown, object_of, make, dies, changed, found_or_dead, look_up, on_object, with_object, name_of, load, field_in, swap, swapped_in, element, element_at, element_in, swap_element, element_swapped_at, element_swapped_in, len, push, pop, popped, freeze, RegionEnd, merged, kept, cleared, thaw, join_isolate, merge, here, live}
+use Rattle.vale_state_spec.specs.World.{Value, Int, Truth, Text, Own, Ref, Iso, Object}
+use Rattle.vale_state_spec.specs.World as w
 use Rattle.vale_base.specs.declared.name.Kind.{Kind}
 use Rattle.vale_base.specs.declared.trap.TrapKind.{TrapKind}
 use Rattle.vale_base.specs.declared.trap.TrapKind.TheVariants.{ArrayTooLong}

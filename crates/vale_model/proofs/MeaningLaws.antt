@@ -1,14 +1,14 @@
 -- What holds of whole runs: by induction on the ticks.
 use Rattle.std.proofs.Common.{◌≡◌, ℕ, zero, suc, ◌≤◌, List, [], ◌∷◌, Option, Some, None, refl, sym, ap, ◌∙◌, subst, arith}
 use Rattle.std.specs.Prelude.{slice_get}
-use Rattle.vale_base.specs.Outcome.{Done, Trap, Cut, Wrong}
-use Rattle.vale_base.specs.State.{State, Calls, begin, Given, given, main_frame, living}
-use Rattle.vale_base.specs.World.{Value, IsDead}
+use Rattle.vale_state_spec.specs.Outcome.{Done, Trap, Cut, Wrong}
+use Rattle.vale_state_spec.specs.State.{State, Calls, begin, Given, given, main_frame, living}
+use Rattle.vale_state_spec.specs.World.{Value, IsDead}
 use Rattle.vale_base.specs.declared.spot.Spot.{Spot}
 use Rattle.vale_base.specs.declared.trap.FrameAt.{FrameAt}
-use Rattle.vale_syntax.specs.Declarations.{head_params}
-use Rattle.vale_syntax.specs.Types.{Ty}
-use Rattle.vale_syntax.specs.Typed.{Expr, Block, block, Function, function_body, Typed}
+use Rattle.vale_rules_spec.specs.Declarations.{head_params}
+use Rattle.vale_rules_spec.specs.Types.{Ty}
+use Rattle.vale_rules_spec.specs.Typed.{Expr, Block, block, Function, function_body, Typed}
 use Rattle.vale_model.specs.Parts.{Parts, parts_of, param_names, main_of}
 use Rattle.vale_model.specs.Runs.{Locals, Result, goes, returned, ended, Run, ◌>>=◌, nothing, tick, valued, under}
 use Rattle.vale_model.specs.Destruction.{Again, drop_values, destroyed, destroy}

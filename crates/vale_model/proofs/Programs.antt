@@ -2,16 +2,16 @@
 use Rattle.std.proofs.Common.{ℕ, zero, suc, List, [], ◌∷◌, ◌++◌, Option, Some, None}
 use Rattle.std.specs.Prelude.{codes, pos}
 use Rattle.std.specs.Fmt.{signed_decimal}
-use Rattle.vale_base.specs.Outcome.{Outcome, Done, Trap, Cut}
-use Rattle.vale_base.specs.State.{Given, no_input, live}
+use Rattle.vale_state_spec.specs.Outcome.{Outcome, Done, Trap, Cut}
+use Rattle.vale_state_spec.specs.State.{Given, no_input, live}
 use Rattle.vale_base.specs.declared.piece.Piece.{Piece}
 use Rattle.vale_base.specs.declared.spot.Spot.{Spot}
 use Rattle.vale_base.specs.declared.trap.FrameAt.{FrameAt}
 use Rattle.vale_base.specs.declared.trap.TrapKind.{TrapKind}
 use Rattle.vale_syntax.specs.declared.tree.NameAt.{NameAt}
-use Rattle.vale_syntax.specs.Judged.{Judged, fine, faulty}
-use Rattle.vale_syntax.specs.Typing.{typed}
-use Rattle.vale_syntax.specs.Typed.{Typed}
+use Rattle.vale_rules_spec.specs.Judged.{Judged, fine, faulty}
+use Rattle.vale_rules_spec.specs.Typing.{typed}
+use Rattle.vale_rules_spec.specs.Typed.{Typed}
 use Rattle.vale_syntax.specs.Tree.{Tree}
 use Rattle.vale_model.specs.Meaning.{meaning, run_of}
 use Rattle.vale_model.specs.Need.{need}

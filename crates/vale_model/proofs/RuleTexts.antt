@@ -1,18 +1,18 @@
 -- What single rules do, by computation, in programs that show one of them each. A program stands here as its tree.
 use Rattle.std.proofs.Common.{◌≡◌, ℕ, [], ◌∷◌, Option, Some, None, refl}
 use Rattle.std.specs.Prelude.{true, false, codes, pos}
-use Rattle.vale_base.specs.Outcome.{Outcome, Trap}
-use Rattle.vale_base.specs.State.{numbers, lines}
+use Rattle.vale_state_spec.specs.Outcome.{Outcome, Trap}
+use Rattle.vale_state_spec.specs.State.{numbers, lines}
 use Rattle.vale_base.specs.declared.trap.TrapKind.TheVariants.{DivisionByZero, DeadReference, IndexOutOfRange, EmptyPop, NotANumber, CallDepth, LoopTooWide}
 use Rattle.vale_syntax.specs.declared.tree.BinaryOp.TheVariants.{Or, And, Equal, Less, Add, Sub, Mul, Div, Rem}
 use Rattle.vale_syntax.specs.declared.tree.UnaryOp.TheVariants.{Minus, Not, Borrow}
-use Rattle.vale_syntax.specs.Judged.{Judged, fine, faulty}
-use Rattle.vale_syntax.specs.Typing.{typed}
-use Rattle.vale_syntax.specs.Typed.{Typed}
+use Rattle.vale_rules_spec.specs.Judged.{Judged, fine, faulty}
+use Rattle.vale_rules_spec.specs.Typing.{typed}
+use Rattle.vale_rules_spec.specs.Typed.{Typed}
 use Rattle.vale_syntax.specs.Tree.{int_type, bool_type, named_type, array_type, ref_type, imm_ref_type, set, chain, unary, steps, number, quote, truth, name, call, array, iso, form, no_exprs, more_exprs, link, no_links, more_links, field, method, index, no_steps, more_steps, branch, pure, parallel_range, no_else, otherwise, block, declare, destructure, return_nothing, return_value, foreach, form_stmt, express, no_stmts, last, more_stmts, param, head, function, field_decl, struct_item, interface_item, impl_item, function_item, Tree, tree}
 use Rattle.vale_model.proofs.Programs.{at, n, run, run_on, piece, frame, in_main, done, cut, trapped, line, text_line, times, live_after, need_of}
 use Rattle.std.specs.Prelude.{negsuc, Ok, Err}
-use Rattle.vale_base.specs.State.{begin, function_frame}
+use Rattle.vale_state_spec.specs.State.{begin, function_frame}
 use Rattle.vale_model.specs.Expressions.{called}
 use Rattle.vale_model.specs.Input.{taken, takes_numbers, takes_lines}
 use Rattle.vale_model.specs.Meaning.{level, outcome_of}

@@ -2,8 +2,8 @@
 use Rattle.std.proofs.Common.{◌≡◌, ℕ, zero, suc, ◌+◌, ◌<◌, ℤ, pos, List, [], ◌∷◌, Option, Some, None, Bool, true, false, refl, arith}
 use Rattle.std.specs.Prelude.{nat_lt, if◌then◌else◌, ◌+ℤ◌}
 use Rattle.vale_base.specs.Limits.{width_limit}
-use Rattle.vale_base.specs.State.{State, Calls, Answer, gives, traps, fails, spend, has_depth, lent, make, dies, object_of, freeze_iteration, thaw_iteration, end_of_isolate, isolated, iteration_frame, is_outermost, loop_counted, counting_as, width_of}
-use Rattle.vale_base.specs.World.{Value, Int, Truth, Text, Own, Ref, Iso, Object}
+use Rattle.vale_state_spec.specs.State.{State, Calls, Answer, gives, traps, fails, spend, has_depth, lent, make, dies, object_of, freeze_iteration, thaw_iteration, end_of_isolate, isolated, iteration_frame, is_outermost, loop_counted, counting_as, width_of}
+use Rattle.vale_state_spec.specs.World.{Value, Int, Truth, Text, Own, Ref, Iso, Object}
 use Rattle.vale_base.specs.declared.spot.Spot.{Spot}
 use Rattle.vale_base.specs.declared.trap.FrameAt.{FrameAt}
 use Rattle.vale_base.specs.declared.trap.TrapKind.{TrapKind}
@@ -13,8 +13,8 @@ use Rattle.vale_model.specs.Loops.{number_in, turns, in_region, iteration, colle
 use Rattle.vale_text.specs.Later.{Later, StepGoesOn}
 use Rattle.vale_model.specs.Later.{GoesOn, AlwaysGoesOn}
 use Rattle.vale_text.proofs.StateLaws.{later_refl, later_trans, spend_of_later, none_left, dies_later, freeze_iteration_later, thaw_iteration_later, loop_counted_later, counting_as_later, make_goes}
-use Rattle.vale_syntax.specs.Types.{Ty, array}
-use Rattle.vale_syntax.specs.Types as y
+use Rattle.vale_rules_spec.specs.Types.{Ty, array}
+use Rattle.vale_rules_spec.specs.Types as y
 use Rattle.vale_model.specs.Parts.{Parts, kind_of}
 
 -- ---- one part after another

@@ -1,12 +1,12 @@
 -- Scopes and destruction: an object dies, which takes its values out, and then they are dropped in order; one with a destructor
 -- is destroyed by calling it with the owner.
 use Rattle.std.specs.Prelude.{ℕ, List, [], ◌∷◌, Option, Some, None}
-use Rattle.vale_base.specs.State.{dies, drop_frame, join_isolate, object_of}
-use Rattle.vale_base.specs.World.{Value, Own, Iso, Object}
+use Rattle.vale_state_spec.specs.State.{dies, drop_frame, join_isolate, object_of}
+use Rattle.vale_state_spec.specs.World.{Value, Own, Iso, Object}
 use Rattle.vale_base.specs.declared.spot.Spot.{Spot}
 use Rattle.vale_base.specs.declared.trap.FrameAt.{FrameAt}
-use Rattle.vale_syntax.specs.Types.{Ty, kind}
-use Rattle.vale_syntax.specs.Typed.{Function, Expr, Block}
+use Rattle.vale_rules_spec.specs.Types.{Ty, kind}
+use Rattle.vale_rules_spec.specs.Typed.{Function, Expr, Block}
 use Rattle.vale_model.specs.Parts.{Parts, destructor_of, type_of_kind, kind_text}
 use Rattle.vale_model.specs.Runs.{Locals, goes, returned, Run, then_do, ◌>>=◌, nothing, wrong, change, tick, deep, outer, innermost}
 

@@ -2,11 +2,11 @@
 -- "Input").
 use Rattle.std.specs.Prelude.{ℕ, suc, ℤ, Bool, ◌||◌, ◌==◌, nat_lt, List, [], ◌∷◌, length, Result, Ok, Err, if◌then◌else◌}
 use Rattle.vale_base.specs.Limits.{input_limit, width_limit, text_limit}
-use Rattle.vale_base.specs.State.{Given, no_input, numbers, lines}
+use Rattle.vale_state_spec.specs.State.{Given, no_input, numbers, lines}
 use Rattle.vale_base.specs.declared.trap.TrapKind.{TrapKind}
 use Rattle.vale_text.specs.Operations.{number}
-use Rattle.vale_syntax.specs.Types.{Ty, array}
-use Rattle.vale_syntax.specs.Types as y
+use Rattle.vale_rules_spec.specs.Types.{Ty, array}
+use Rattle.vale_rules_spec.specs.Types as y
 
 -- what `main` takes
 pub data Form : Type 0 where

@@ -3,10 +3,10 @@
 use Rattle.std.specs.Prelude.{List, [], ◌∷◌, ◌++◌, flat_map, if◌then◌else◌}
 use Rattle.std.specs.List.{list_any}
 use Rattle.vale_syntax.specs.Tree.{Head, head}
-use Rattle.vale_syntax.specs.Declarations.{param_type, field_type}
-use Rattle.vale_syntax.specs.Types.{Ty, Seen, type_of, result_of, same}
-use Rattle.vale_syntax.specs.Typed.{Expr, expr, Node, set, chain, unary, steps, number, quote, truth, name, call, paren, array, iso, form, Exprs, no_exprs, more_exprs, Link, link, Links, no_links, more_links, Step, field, method, index, Steps, no_steps, more_steps, Form, branch, pure, parallel_range, parallel_each, ElseIf, else_if, Elses, no_else, otherwise, more_elses, Block, block, Stmt, declare, destructure, return_nothing, return_value, while, foreach, form_stmt, express, Stmts, no_stmts, last, more_stmts, Function, function_body, Item, struct_item, interface_item, impl_item, function_item}
-use Rattle.vale_syntax.specs.Types as y
+use Rattle.vale_rules_spec.specs.Declarations.{param_type, field_type}
+use Rattle.vale_rules_spec.specs.Types.{Ty, Seen, type_of, result_of, same}
+use Rattle.vale_rules_spec.specs.Typed.{Expr, expr, Node, set, chain, unary, steps, number, quote, truth, name, call, paren, array, iso, form, Exprs, no_exprs, more_exprs, Link, link, Links, no_links, more_links, Step, field, method, index, Steps, no_steps, more_steps, Form, branch, pure, parallel_range, parallel_each, ElseIf, else_if, Elses, no_else, otherwise, more_elses, Block, block, Stmt, declare, destructure, return_nothing, return_value, while, foreach, form_stmt, express, Stmts, no_stmts, last, more_stmts, Function, function_body, Item, struct_item, interface_item, impl_item, function_item}
+use Rattle.vale_rules_spec.specs.Types as y
 
 abbrev pub head_of : Function → Head
 head_of (function_body h b) = h

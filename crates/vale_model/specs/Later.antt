@@ -1,6 +1,6 @@
 -- How a part of a program goes on from a state: as runs do.
 use Rattle.std.specs.Prelude.{ℕ, ◌<◌}
-use Rattle.vale_base.specs.State.{State, Calls}
+use Rattle.vale_state_spec.specs.State.{State, Calls}
 use Rattle.vale_text.specs.Later.{Later, EndsRight}
 use Rattle.vale_model.specs.Runs.{Locals, Result, goes, returned, ended, Run}
 use Rattle.vale_model.specs.Loops.{state_in}

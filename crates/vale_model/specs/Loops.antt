@@ -2,11 +2,11 @@
 -- fresh region.
 use Rattle.std.specs.Prelude.{ℕ, zero, suc, ◌+◌, nat_lt, ℤ, pos, ◌+ℤ◌, List, [], ◌∷◌, Option, Some, None, if◌then◌else◌}
 use Rattle.vale_base.specs.Limits.{width_limit}
-use Rattle.vale_base.specs.State.{State, Calls, iteration_frame, make, dies, object_of, freeze_iteration, thaw_iteration, end_of_isolate, isolated, width_of, is_outermost, alone, loop_counted, counting_as}
-use Rattle.vale_base.specs.World.{Value, Int, Own, Object}
+use Rattle.vale_state_spec.specs.State.{State, Calls, iteration_frame, make, dies, object_of, freeze_iteration, thaw_iteration, end_of_isolate, isolated, width_of, is_outermost, alone, loop_counted, counting_as}
+use Rattle.vale_state_spec.specs.World.{Value, Int, Own, Object}
 use Rattle.vale_base.specs.declared.spot.Spot.{Spot}
 use Rattle.vale_base.specs.declared.trap.TrapKind.TheVariants.{LoopTooWide}
-use Rattle.vale_syntax.specs.Types.{Ty, array}
+use Rattle.vale_rules_spec.specs.Types.{Ty, array}
 use Rattle.vale_model.specs.Parts.{Parts, kind_of}
 use Rattle.vale_model.specs.Runs.{Locals, Result, goes, returned, ended, Run, then_do, ◌>>=◌, give, nothing, wrong, trap, step, change, tick, deep, under}
 

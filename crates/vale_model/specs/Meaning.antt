@@ -1,13 +1,13 @@
 -- What a program means: the outcome of its `main` (docs/LANGUAGE.md, "Running").
 use Rattle.std.specs.Prelude.{ℕ, zero, suc, List, [], ◌∷◌, Option, Some, None}
-use Rattle.vale_base.specs.Outcome.{Done, Cut, Outcome}
-use Rattle.vale_base.specs.State.{begin, main_frame, outcome, Given, given}
-use Rattle.vale_base.specs.World.{Value}
+use Rattle.vale_state_spec.specs.Outcome.{Done, Cut, Outcome}
+use Rattle.vale_state_spec.specs.State.{begin, main_frame, outcome, Given, given}
+use Rattle.vale_state_spec.specs.World.{Value}
 use Rattle.vale_base.specs.declared.trap.FrameAt.{FrameAt}
 use Rattle.vale_syntax.specs.Tree.{Param, param}
-use Rattle.vale_syntax.specs.Declarations.{head_params}
-use Rattle.vale_syntax.specs.Types.{Ty, void, type_of}
-use Rattle.vale_syntax.specs.Typed.{Expr, Block, block, Function, function_body, Typed}
+use Rattle.vale_rules_spec.specs.Declarations.{head_params}
+use Rattle.vale_rules_spec.specs.Types.{Ty, void, type_of}
+use Rattle.vale_rules_spec.specs.Typed.{Expr, Block, block, Function, function_body, Typed}
 use Rattle.vale_model.specs.Parts.{Parts, parts_of, param_names, main_of}
 use Rattle.vale_model.specs.Kinds.{head_of}
 use Rattle.vale_model.specs.Runs.{Locals, Result, goes, returned, ended, Run, ◌>>=◌, nothing, wrong, tick, valued, choose, under}

@@ -1,8 +1,8 @@
 -- How many frames a run may need: one for each object that lives at once, where each iteration of an outermost parallel loop is
 -- counted by itself, and those whose slots are used up.
 use Rattle.std.specs.Prelude.{ℕ, ◌+◌, ◌-◌, ◌/◌, ◌^◌, nat_lt, if◌then◌else◌}
-use Rattle.vale_base.specs.State.{State, Given}
-use Rattle.vale_syntax.specs.Typed.{Typed}
+use Rattle.vale_state_spec.specs.State.{State, Given}
+use Rattle.vale_rules_spec.specs.Typed.{Typed}
 use Rattle.vale_model.specs.Parts.{parts_of}
 use Rattle.vale_model.specs.Loops.{state_in}
 use Rattle.vale_model.specs.Meaning.{run_of}

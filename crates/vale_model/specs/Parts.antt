@@ -2,9 +2,9 @@
 use Rattle.std.specs.Prelude.{ℕ, suc, Bool, false, ◌&&◌, ◌==◌, List, [], ◌∷◌, ◌++◌, flat_map, Option, Some, None, codes, slice_get, slice_index_or, if◌then◌else◌}
 use Rattle.vale_base.specs.declared.name.Kind.{Kind}
 use Rattle.vale_syntax.specs.Tree.{Param, param, Head, head, FieldDecl, field_decl, named_type}
-use Rattle.vale_syntax.specs.Declarations.{is_called, head_name, head_params}
-use Rattle.vale_syntax.specs.Types.{Ty, void, int, bool, str, kind, array, ref, imm, iso, same, View, seen_object}
-use Rattle.vale_syntax.specs.Typed.{Function, Item, struct_item, impl_item, function_item, Typed, typed}
+use Rattle.vale_rules_spec.specs.Declarations.{is_called, head_name, head_params}
+use Rattle.vale_rules_spec.specs.Types.{Ty, void, int, bool, str, kind, array, ref, imm, iso, same, View, seen_object}
+use Rattle.vale_rules_spec.specs.Typed.{Function, Item, struct_item, impl_item, function_item, Typed, typed}
 use Rattle.vale_model.specs.Kinds.{kinds_of, head_of}
 
 -- the texts of its names, its items and its kinds

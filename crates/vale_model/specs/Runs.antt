@@ -1,8 +1,8 @@
 -- How a part of a program runs: under the calls that are under way, with the locals in scope and the state of the run.
 use Rattle.std.specs.Prelude.{ℕ, Bool, true, false, ◌==◌, List, [], ◌∷◌, Option, Some, None, if◌then◌else◌}
-use Rattle.vale_base.specs.Outcome.{End, Cut, Wrong}
-use Rattle.vale_base.specs.State.{State, Calls, Answer, gives, traps, fails, spend, has_depth, trap_under, lent}
-use Rattle.vale_base.specs.World.{Value, Truth}
+use Rattle.vale_state_spec.specs.Outcome.{End, Cut, Wrong}
+use Rattle.vale_state_spec.specs.State.{State, Calls, Answer, gives, traps, fails, spend, has_depth, trap_under, lent}
+use Rattle.vale_state_spec.specs.World.{Value, Truth}
 use Rattle.vale_base.specs.declared.spot.Spot.{Spot}
 use Rattle.vale_base.specs.declared.trap.FrameAt.{FrameAt}
 use Rattle.vale_base.specs.declared.trap.TrapKind.{TrapKind}

@@ -1,11 +1,11 @@
 //! What holds of every run: laws of the definitions, each the contract of a function that does nothing.
 
 ghost use Rattle.std.specs.Prelude.{◌≡◌, ◌≤◌, ℕ, slice_get};
-ghost use Rattle.vale_base.specs.Outcome.{Cut, Wrong};
-ghost use Rattle.vale_base.specs.State.{State, Calls, Given};
-ghost use Rattle.vale_base.specs.World.{IsDead};
+ghost use Rattle.vale_state_spec.specs.Outcome.{Cut, Wrong};
+ghost use Rattle.vale_state_spec.specs.State.{State, Calls, Given};
+ghost use Rattle.vale_state_spec.specs.World.{IsDead};
 ghost use Rattle.vale_base.specs.declared.spot.Spot.{Spot};
-ghost use Rattle.vale_syntax.specs.Typed.{Typed, Block};
+ghost use Rattle.vale_rules_spec.specs.Typed.{Typed, Block};
 ghost use Rattle.vale_model.specs.Destruction.{Again, destroy};
 ghost use Rattle.vale_model.specs.Expressions.{block_run};
 ghost use Rattle.vale_text.specs.Later.{StampsRise, NameLater, Begins};

@@ -4,9 +4,9 @@ use Rattle.std.specs.Prelude.{Bool, true, false, ◌&&◌, ◌||◌, Option, Som
 use Rattle.vale_base.specs.declared.spot.Spot.{Spot}
 use Rattle.vale_syntax.specs.declared.fault.Fault.{Fault}
 use Rattle.vale_syntax.specs.declared.tree.NameAt.{NameAt}
-use Rattle.vale_syntax.specs.Judged.{first_of}
-use Rattle.vale_ownership.specs.Owned.{Flow, ◌then◌, Ways, way, all_alike, agree, behind}
-use Rattle.vale_ownership.specs.Whole.{Locals, is_whole, are_alike}
+use Rattle.vale_rules_spec.specs.Judged.{first_of}
+use Rattle.vale_rules_spec.specs.Owned.{Flow, ◌then◌, Ways, way, all_alike, agree, behind}
+use Rattle.vale_rules_spec.specs.Whole.{Locals, is_whole, are_alike}
 use Rattle.vale_owner.specs.Found.{Found, earlier, going, naming, moving, judged, declaring, declaring_all, loop_ended, Kept, no_ways, with_way, with_ways, sided, branch_ended, or_else, back_to, in_scope, kept}
 use Rattle.vale_owner.specs.declared.ways.Ways as code
 

@@ -6,18 +6,18 @@ use Rattle.vale_base.specs.declared.spot.Spot.{Spot}
 use Rattle.vale_base.specs.declared.fault.Fail.{Fail}
 use Rattle.vale_base.specs.declared.fault.Fail.TheVariants.{Memory, Is}
 use Rattle.vale_syntax.specs.declared.fault.Fault.{Fault}
-use Rattle.vale_syntax.specs.Declarations.{head_name, head_params, param_name, is_drop}
-use Rattle.vale_syntax.specs.Judged.{own, first_of, stopped, Gives}
-use Rattle.vale_syntax.proofs.JudgedLaws.{stopped_after}
+use Rattle.vale_rules_spec.specs.Declarations.{head_name, head_params, param_name, is_drop}
+use Rattle.vale_rules_spec.specs.Judged.{own, first_of, stopped, Gives}
+use Rattle.vale_rules_spec.proofs.JudgedLaws.{stopped_after}
 use Rattle.vale_syntax.specs.Tree as s
-use Rattle.vale_syntax.specs.Typed as t
+use Rattle.vale_rules_spec.specs.Typed as t
 use Rattle.vale_syntax.specs.View.{view_head}
 use Rattle.vale_core.specs.declared.tree.Block.{out-Block}
 use Rattle.vale_core.specs.declared.tree.Function.{Function}
 use Rattle.vale_core.specs.View.{view_expr, view_stmt, view_block, view_function, stmts_of, last_end}
-use Rattle.vale_ownership.proofs.PartLaws.{of_out_block}
-use Rattle.vale_ownership.specs.Whole.{Locals}
-use Rattle.vale_ownership.specs.Owned.{function_flow, function_faults, method_faults, are_taken_apart}
+use Rattle.vale_core.proofs.PartLaws.{of_out_block}
+use Rattle.vale_rules_spec.specs.Whole.{Locals}
+use Rattle.vale_rules_spec.specs.Owned.{function_flow, function_faults, method_faults, are_taken_apart}
 use Rattle.vale_owner.specs.After.{after_stmts}
 use Rattle.vale_owner.specs.declared.so_far.SoFar.{SoFar}
 use Rattle.vale_owner.specs.Found.{Found, found, nothing, declaring, judged}

@@ -4,8 +4,8 @@ use Rattle.std.proofs.lemmas.Bool.{eqb-true, eq-eqb, ne_eqb}
 use Rattle.std.proofs.lemmas.List.{drop_more, drop_all, take_more, take-append-drop, length-take-le}
 use Rattle.std.proofs.Math.Seq.{drop-append_seam, take-length}
 use Rattle.std.specs.Prelude.{Bool, true, false, ◌==◌, ◌&&◌, Option, Some, None, if◌then◌else◌}
-use Rattle.vale_ownership.specs.Whole as w
-use Rattle.vale_ownership.specs.Whole.{Locals, is_whole, moved, are_alike}
+use Rattle.vale_rules_spec.specs.Whole as w
+use Rattle.vale_rules_spec.specs.Whole.{Locals, is_whole, moved, are_alike}
 use Rattle.vale_owner.specs.declared.locals.Local.{Local}
 use Rattle.vale_owner.specs.Found.{local_of, scope_over, in_scope}
 use Rattle.vale_owner.specs.Places.{or_first, place_of, same, alike}

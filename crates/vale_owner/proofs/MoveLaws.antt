@@ -2,8 +2,8 @@
 use Rattle.std.proofs.Common.{◌≡◌, ℕ, List, [], ◌∷◌, refl, ap, ◌∙◌}
 use Rattle.std.specs.Prelude.{Bool, ◌||◌, Option, Some, None, map, option_map}
 use Rattle.vale_base.specs.declared.spot.Spot.{Spot}
-use Rattle.vale_syntax.specs.Types as y
-use Rattle.vale_syntax.specs.Typed as t
+use Rattle.vale_rules_spec.specs.Types as y
+use Rattle.vale_rules_spec.specs.Typed as t
 use Rattle.vale_syntax.specs.View.{listed}
 use Rattle.vale_core.specs.declared.tree.Expr.{Expr, out-Expr}
 use Rattle.vale_core.specs.declared.tree.Link.{Link, out-Link}
@@ -11,9 +11,9 @@ use Rattle.vale_core.specs.declared.tree.ElseIf.{ElseIf, out-ElseIf}
 use Rattle.vale_core.specs.declared.tree.Block.{Block, out-Block}
 use Rattle.vale_core.specs.View.{view_seen, view_expr, view_node, view_stmt, view_block, view_else_if, view_link, stmts_of, last_end, return_of}
 use Rattle.vale_core.proofs.ViewLaws as v
-use Rattle.vale_ownership.proofs.PartLaws.{of_out_expr, of_out_link, of_out_block, of_out_else_if}
-use Rattle.vale_ownership.proofs.ReturnLaws.{or_or}
-use Rattle.vale_ownership.specs.Owned as o
+use Rattle.vale_core.proofs.PartLaws.{of_out_expr, of_out_link, of_out_block, of_out_else_if}
+use Rattle.vale_core.proofs.ReturnLaws.{or_or}
+use Rattle.vale_rules_spec.specs.Owned as o
 use Rattle.vale_owner.specs.Moves.{link_moves, else_if_moves, else_ifs_move}
 
 abbrev is_self_node : ℕ → t.Node → Bool

@@ -8,9 +8,9 @@ use Rattle.vale_syntax.specs.declared.tree.BinaryOp.{BinaryOp}
 use Rattle.vale_syntax.specs.declared.tree.BinaryOp.TheVariants as op
 use Rattle.vale_syntax.specs.declared.tree.UnaryOp.{UnaryOp}
 use Rattle.vale_syntax.specs.declared.tree.NameAt.{NameAt}
-use Rattle.vale_syntax.specs.Judged.{own, first_of}
-use Rattle.vale_syntax.specs.Types as y
-use Rattle.vale_syntax.specs.Typed as t
+use Rattle.vale_rules_spec.specs.Judged.{own, first_of}
+use Rattle.vale_rules_spec.specs.Types as y
+use Rattle.vale_rules_spec.specs.Typed as t
 use Rattle.vale_syntax.specs.View.{listed}
 use Rattle.vale_core.specs.declared.tree.Expr.{Expr, out-Expr}
 use Rattle.vale_core.specs.declared.tree.Link.{Link, out-Link}
@@ -18,10 +18,10 @@ use Rattle.vale_core.specs.declared.tree.ElseIf.{ElseIf, out-ElseIf}
 use Rattle.vale_core.specs.declared.tree.Block.{Block, out-Block}
 use Rattle.vale_core.specs.View.{view_expr, view_node, view_stmt, view_block, view_else_if, view_link, stmts_of, last_end, return_of}
 use Rattle.vale_core.proofs.ViewLaws as v
-use Rattle.vale_ownership.proofs.PartLaws.{of_out_expr, of_out_link, of_out_block, of_out_else_if}
-use Rattle.vale_ownership.specs.Owned.{◌then◌, expr_flow, exprs_flow, links_flow, step_flow, steps_flow, elses_flow, block_flow, body_flow, stmts_flow, stmt_flow, way, agree, behind, loop_rules}
-use Rattle.vale_ownership.specs.Returned.{block_returns}
-use Rattle.vale_ownership.specs.Whole.{Locals, are_alike}
+use Rattle.vale_core.proofs.PartLaws.{of_out_expr, of_out_link, of_out_block, of_out_else_if}
+use Rattle.vale_rules_spec.specs.Owned.{◌then◌, expr_flow, exprs_flow, links_flow, step_flow, steps_flow, elses_flow, block_flow, body_flow, stmts_flow, stmt_flow, way, agree, behind, loop_rules}
+use Rattle.vale_rules_spec.specs.Returns.{block_returns}
+use Rattle.vale_rules_spec.specs.Whole.{Locals, are_alike}
 use Rattle.vale_owner.specs.Found.{Found, earlier, going, naming, judged, told, with_first, back_to, closed, declaring, declaring_all, loop_ended, Kept, no_ways, with_way, with_ways, Sided, sided, branch_ended, or_else}
 use Rattle.vale_owner.specs.After.{after_expr, after_node, after_exprs, after_link, after_links, after_step, after_steps, after_form, after_block, after_body, after_stmts, after_stmt, after_set, after_iteration, after_side, ways_of_side, after_else_if, ways_of_else_if, after_else_ifs, ways_of_else_ifs, after_sides, may_skip, link_flow}
 use Rattle.vale_owner.proofs.FoundLaws.{made, in_turn, earlier_none, going_still, going_then, all_ways, ways_behind, one_way}

@@ -3,11 +3,11 @@ use Rattle.std.specs.Prelude.{Bool, true, false, List, [], ◌∷◌, None}
 use Rattle.vale_syntax.specs.declared.tree.BinaryOp.{BinaryOp}
 use Rattle.vale_syntax.specs.declared.tree.BinaryOp.TheVariants.{Or, And}
 use Rattle.vale_syntax.specs.declared.tree.NameAt.{NameAt}
-use Rattle.vale_syntax.specs.Judged.{first_of}
-use Rattle.vale_syntax.specs.Typed.{Expr, Node, Exprs, Link, link, Links, Step, Steps, Form, ElseIf, else_if, Elses, Block, Stmt, Stmts}
-use Rattle.vale_ownership.specs.Owned.{Flow, with_rules, link_rules, expr_flow, node_flow, exprs_flow, links_flow, step_flow, steps_flow, form_flow, elses_flow, block_flow, body_flow, stmts_flow, stmt_flow}
-use Rattle.vale_ownership.specs.Returned.{block_returns}
-use Rattle.vale_ownership.specs.Whole.{Locals}
+use Rattle.vale_rules_spec.specs.Judged.{first_of}
+use Rattle.vale_rules_spec.specs.Typed.{Expr, Node, Exprs, Link, link, Links, Step, Steps, Form, ElseIf, else_if, Elses, Block, Stmt, Stmts}
+use Rattle.vale_rules_spec.specs.Owned.{Flow, with_rules, link_rules, expr_flow, node_flow, exprs_flow, links_flow, step_flow, steps_flow, form_flow, elses_flow, block_flow, body_flow, stmts_flow, stmt_flow}
+use Rattle.vale_rules_spec.specs.Returns.{block_returns}
+use Rattle.vale_rules_spec.specs.Whole.{Locals}
 use Rattle.vale_owner.specs.Found.{Found, going, earlier, told, with_first, back_to, Kept, with_way, with_ways, Sided}
 
 unfoldable pub after_expr : Expr → Found → Found

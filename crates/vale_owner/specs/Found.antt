@@ -3,10 +3,10 @@ use Rattle.std.specs.Prelude.{ℕ, ◌-◌, Bool, true, false, ◌&&◌, ◌||�
 use Rattle.vale_base.specs.declared.spot.Spot.{Spot}
 use Rattle.vale_syntax.specs.declared.fault.Fault.{Fault}
 use Rattle.vale_syntax.specs.declared.tree.NameAt.{NameAt}
-use Rattle.vale_syntax.specs.Judged.{own, first_of}
-use Rattle.vale_ownership.specs.Owned.{Flow, Ways, name_flow}
-use Rattle.vale_ownership.specs.Whole as w
-use Rattle.vale_ownership.specs.Whole.{Locals, declared, all_declared, moved, are_alike}
+use Rattle.vale_rules_spec.specs.Judged.{own, first_of}
+use Rattle.vale_rules_spec.specs.Owned.{Flow, Ways, name_flow}
+use Rattle.vale_rules_spec.specs.Whole as w
+use Rattle.vale_rules_spec.specs.Whole.{Locals, declared, all_declared, moved, are_alike}
 use Rattle.vale_owner.specs.declared.locals.Local.{Local}
 use Rattle.vale_owner.specs.declared.so_far.SoFar.{SoFar}
 use Rattle.vale_owner.specs.declared.ways.Ways as code

@@ -1,12 +1,12 @@
 -- What is found of a whole function.
 use Rattle.std.specs.Prelude.{Bool, not, ◌&&◌, List, Option, Some, None, Result, Ok, Err}
 use Rattle.vale_syntax.specs.declared.fault.Fault.{Fault}
-use Rattle.vale_syntax.specs.Declarations.{param_name}
-use Rattle.vale_syntax.specs.Judged.{first_of}
+use Rattle.vale_rules_spec.specs.Declarations.{param_name}
+use Rattle.vale_rules_spec.specs.Judged.{first_of}
 use Rattle.vale_syntax.specs.Tree.{Param}
-use Rattle.vale_syntax.specs.Typed.{Block, Function, function_body}
-use Rattle.vale_ownership.specs.Owned.{function_flow, block_moves}
-use Rattle.vale_ownership.specs.Whole.{Locals, params_declared, is_whole}
+use Rattle.vale_rules_spec.specs.Typed.{Block, Function, function_body}
+use Rattle.vale_rules_spec.specs.Owned.{function_flow, block_moves}
+use Rattle.vale_rules_spec.specs.Whole.{Locals, params_declared, is_whole}
 use Rattle.vale_owner.specs.Found.{Found}
 
 unfoldable pub declaring_params : List Param → Found → Found

@@ -1,7 +1,7 @@
 -- Whether parts of a body move a local, one part at a time.
 use Rattle.std.specs.Prelude.{ℕ, Bool, false, ◌||◌, List, [], ◌∷◌}
-use Rattle.vale_syntax.specs.Typed.{Link, link, ElseIf, else_if}
-use Rattle.vale_ownership.specs.Owned.{expr_moves, block_moves}
+use Rattle.vale_rules_spec.specs.Typed.{Link, link, ElseIf, else_if}
+use Rattle.vale_rules_spec.specs.Owned.{expr_moves, block_moves}
 
 abbrev pub link_moves : ℕ → Link → Bool
 link_moves self (link x at op e) = expr_moves self e

@@ -1,7 +1,7 @@
 // Whether a body moves a local by anything but a destructuring.
 ghost use Rattle.std.specs.Prelude.{◌≡◌, ◌||◌, None, map, option_map};
 ghost use Rattle.vale_core.specs.View.{view_expr, view_node, view_form, view_step, view_stmt, view_block, view_link, view_else_if, exprs_of, links_of, steps_of, else_end, stmts_of, last_end};
-ghost use Rattle.vale_ownership.specs.Owned as o;
+ghost use Rattle.vale_rules_spec.specs.Owned as o;
 ghost use Rattle.vale_owner.specs.Moves.{link_moves, else_if_moves, else_ifs_move};
 
 use sqlite_items::{Boxed, Items};

@@ -1,6 +1,6 @@
 // What a walk over a body has found so far.
 ghost use Rattle.std.specs.Prelude.{◌≡◌, length, IfOk, OnOk};
-ghost use Rattle.vale_ownership.specs.Whole.{is_whole, are_alike};
+ghost use Rattle.vale_rules_spec.specs.Whole.{is_whole, are_alike};
 ghost use Rattle.vale_owner.specs.Found.{in_scope, found, nothing, naming, moving, declaring, declaring_all, judged, told, with_first, back_to, closed, loop_ended, kept, sided, branch_ended};
 
 use crate::locals::{Local, are_alike, place_of};

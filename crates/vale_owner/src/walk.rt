@@ -10,7 +10,7 @@ use sqlite_items::{Boxed, Items};
 use std::alloc::Global;
 use vale_base::Memory;
 use vale_core::{Block, ElseIf, Expr, Form, Link, Node, Step, Stmt};
-use vale_ownership::block_returns;
+use vale_core::block_returns;
 use vale_syntax::{BinaryOp, NameAt};
 
 // Whether the operand behind it may be left out.

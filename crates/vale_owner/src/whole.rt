@@ -1,13 +1,13 @@
 // Functions, items and the whole program.
 ghost use Rattle.std.specs.Prelude.{◌≡◌, not, ◌&&◌, IfOk, OnOk, map};
 ghost use Rattle.vale_base.specs.Faults.{IfFault, IsValueUnlessMemory, IsFaultUnlessMemory};
-ghost use Rattle.vale_syntax.specs.Declarations.{is_called, is_drop};
-ghost use Rattle.vale_syntax.specs.Judged.{first, stopped, Gives, IsFine, IsFirstFault};
-ghost use Rattle.vale_syntax.specs.Typed as t;
+ghost use Rattle.vale_rules_spec.specs.Declarations.{is_drop};
+ghost use Rattle.vale_rules_spec.specs.Judged.{first, stopped, Gives, IsFine, IsFirstFault};
+ghost use Rattle.vale_rules_spec.specs.Typed as t;
 ghost use Rattle.vale_syntax.specs.View.{view_param, view_head};
 ghost use Rattle.vale_syntax.specs.declared.fault.Fault.{Fault};
 ghost use Rattle.vale_core.specs.View.{view_block, view_function, view_item, view_core};
-ghost use Rattle.vale_ownership.specs.Owned.{are_taken_apart, function_faults, method_faults, item_faults, items_faults, owned};
+ghost use Rattle.vale_rules_spec.specs.Owned.{are_taken_apart, function_faults, method_faults, item_faults, items_faults, owned};
 ghost use Rattle.vale_owner.specs.Found.{found};
 ghost use Rattle.vale_owner.specs.Functions.{declaring_params, at_end, body_faults, is_taken_apart, answer};
 
@@ -17,24 +17,8 @@ use crate::walk::{walk_last, walk_stmts};
 use std::alloc::Global;
 use vale_base::{Fail, Memory, Text};
 use vale_core::{Block, Core, Function, Item};
-use vale_syntax::{Fault, Head, NameAt, Param};
-
-// Whether the name has this text.
-fn is_called(names: &[Text], text: &[u8], name: NameAt) -> bool
-    ensures { result ≡ is_called names.now text.now name }
-{
-    match names.get(name.name.0 as usize) {
-        Some(found) => *text == *found.as_slice(),
-        None => false,
-    }
-}
-
-// Whether it is a destructor's.
-fn is_drop(names: &[Text], head: &Head) -> bool
-    ensures { result ≡ is_drop names.now (view_head head.now) }
-{
-    is_called(names, b"drop", head.name)
-}
+use vale_syntax::{Fault, Head, Param};
+use vale_types::is_drop;
 
 #[tactic(auto, using(crate::proofs::FunctionLaws::params))]
 fn declare_params(params: &[Param], so_far: &mut SoFar) -> Result<(), Memory>
@@ -144,7 +128,7 @@ fn own_items(alloc: Global, names: &[Text], items: &[Item]) -> Result<(), Fail<F
     Ok(())
 }
 
-#[tactic(auto, using(vale_syntax::proofs::JudgedLaws::first_unless))]
+#[tactic(auto, using(vale_rules_spec::proofs::JudgedLaws::first_unless))]
 fn own_tree(alloc: Global, core: Core) -> Result<Core, Fail<Fault>>
     ensures same { IfOk result (λ c. c ≡ core) }
     ensures gives { Gives view_core result (first (owned (view_core core))) }
@@ -157,7 +141,7 @@ fn own_tree(alloc: Global, core: Core) -> Result<Core, Fail<Fault>>
 ///
 /// Where a node of the tree breaks one of them (docs/LANGUAGE.md, "Ownership"), it answers the code and the spot of the
 /// first such node in post-order, from 30 to 33. Else it gives the tree as it is.
-#[tactic(auto, using(vale_syntax::proofs::JudgedLaws::value_is_fine, vale_syntax::proofs::JudgedLaws::fault_is_first, vale_syntax::proofs::JudgedLaws::what_is_fine_is_given, vale_syntax::proofs::JudgedLaws::first_fault_is_given))]
+#[tactic(auto, using(vale_rules_spec::proofs::JudgedLaws::value_is_fine, vale_rules_spec::proofs::JudgedLaws::fault_is_first, vale_rules_spec::proofs::JudgedLaws::what_is_fine_is_given, vale_rules_spec::proofs::JudgedLaws::first_fault_is_given))]
 pub fn own(alloc: Global, core: Core) -> Result<Core, Fail<OwnFault>>
     ensures same { IfOk result (λ c. c ≡ core) }
     ensures owned { IfOk result (λ c. IsFine (owned (view_core core)) (view_core c)) }

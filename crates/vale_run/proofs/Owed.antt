@@ -6,7 +6,7 @@ use Rattle.vale_base.specs.Limits.{program_limit}
 use Rattle.vale_base.specs.declared.spot.Spot.{Spot}
 use Rattle.vale_ports.specs.Shelf.{Files, ReadsFile, HasFile}
 use Rattle.vale_front.specs.Front.{Unread, too_long, no_tokens, no_tree, Refused, unread, unsound}
-use Rattle.vale_syntax.specs.WellFormed.{Reads}
+use Rattle.vale_rules_spec.specs.WellFormed.{Reads}
 use Rattle.vale_run.specs.Owed.{RunsTo, refused_run, runs, ChecksTo, refused_check, checks, FormatsTo, refused_format, formats}
 use Rattle.vale_run.specs.declared.answer.Answer.{Answer}
 use Rattle.vale_words.specs.declared.job.Options.{Options}

@@ -2,8 +2,8 @@
 use Rattle.std.specs.Prelude.{ℕ, ◌≡◌, ◌⊎◌, ◌+◌, ◌/◌, ◌%◌, List, [], ◌∷◌, ◌++◌, Option, None, Some, codes, drop, take, false, slice_get, if◌then◌else◌}
 use Rattle.std.specs.Fmt.{decimal}
 use Rattle.std.specs.Str.{bytes_eq}
-use Rattle.vale_base.specs.Outcome.{Outcome, End, Done, Trap, Cut, Wrong, output}
-use Rattle.vale_base.specs.State.{no_input}
+use Rattle.vale_state_spec.specs.Outcome.{Outcome, End, Done, Trap, Cut, Wrong, output}
+use Rattle.vale_state_spec.specs.State.{no_input}
 use Rattle.vale_base.specs.declared.spot.Spot.{Spot}
 use Rattle.vale_ports.specs.Faults.{Rose}
 use Rattle.vale_ports.specs.Shelf.{ShelfState, HasFile}
@@ -11,8 +11,8 @@ use Rattle.vale_model.specs.Meaning.{meaning}
 use Rattle.vale_model.specs.Report.{spot_text, report_text}
 use Rattle.vale_syntax.specs.Canon.{canon}
 use Rattle.vale_syntax.specs.Tree.{Tree}
-use Rattle.vale_syntax.specs.Typed.{Typed}
-use Rattle.vale_syntax.specs.WellFormed.{Reads}
+use Rattle.vale_rules_spec.specs.Typed.{Typed}
+use Rattle.vale_rules_spec.specs.WellFormed.{Reads}
 use Rattle.vale_syntax.specs.declared.decls.Decls.{Decls}
 use Rattle.vale_front.specs.Front.{Unread, Refused, Accepts}
 use Rattle.vale_run.specs.declared.answer.Answer.{Answer}

@@ -2,8 +2,8 @@
 ghost use Rattle.std.specs.Prelude.{◌≡◌, ◌<◌, ◌≤◌, ◌++◌, IfOk, codes};
 ghost use Rattle.std.specs.Fmt.{decimal};
 ghost use Rattle.vale_base.specs.Limits.{ticks_limit};
-ghost use Rattle.vale_base.specs.Outcome.{Outcome, joined};
-ghost use Rattle.vale_base.specs.State.{no_input};
+ghost use Rattle.vale_state_spec.specs.Outcome.{Outcome, joined};
+ghost use Rattle.vale_state_spec.specs.State.{no_input};
 ghost use Rattle.vale_core.specs.View.{view_core};
 ghost use Rattle.vale_machine.specs.Finishes.{Finishes};
 ghost use Rattle.vale_model.specs.Meaning.{meaning};

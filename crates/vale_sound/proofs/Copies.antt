@@ -8,12 +8,12 @@ use Rattle.vale_syntax.specs.declared.tree.NameAt.{NameAt}
 use Rattle.vale_syntax.specs.declared.tree.BinaryOp.{BinaryOp}
 use Rattle.vale_syntax.specs.declared.tree.BinaryOp.TheVariants as o
 use Rattle.vale_syntax.specs.Tree.{TypeExpr, int_type, bool_type, str_type, Param, param, Head, head, function, FieldDecl, Item, struct_item, interface_item, impl_item, function_item}
-use Rattle.vale_syntax.specs.Declarations.{head_name, head_params, param_type}
-use Rattle.vale_syntax.specs.Judged.{◌⇒◌, broken}
-use Rattle.vale_syntax.specs.Types.{Ty, void, int, bool, str, is_void, is_copy, is_owned, object_of, view_here, as_frozen, type_of, result_of, Local, local_of, local_seen, is_movable, fields_of, function_named}
-use Rattle.vale_syntax.specs.Typed as t
-use Rattle.vale_syntax.specs.TypeRules.{link_gives, takes_arguments, may_push, is_array_ref, arity, built_in_gives, Called, nothing, language, struct, program, built_ins, built_in_among, called_else, called, callee, called_rules, called_gives, head_gives, is_pure_head, set_gives}
-use Rattle.vale_syntax.specs.Typing.{Env, with_local, with_params, entry, named}
+use Rattle.vale_rules_spec.specs.Declarations.{head_name, head_params, param_type}
+use Rattle.vale_rules_spec.specs.Judged.{◌⇒◌, broken}
+use Rattle.vale_rules_spec.specs.Types.{Ty, void, int, bool, str, is_void, is_copy, is_owned, object_of, view_here, as_frozen, type_of, result_of, Local, local_of, local_seen, is_movable, fields_of, function_named}
+use Rattle.vale_rules_spec.specs.Typed as t
+use Rattle.vale_rules_spec.specs.TypeRules.{link_gives, takes_arguments, may_push, is_array_ref, arity, built_in_gives, Called, nothing, language, struct, program, built_ins, built_in_among, called_else, called, callee, called_rules, called_gives, head_gives, is_pure_head, set_gives}
+use Rattle.vale_rules_spec.specs.Typing.{Env, with_local, with_params, entry, named}
 use Rattle.vale_lowering.specs.Covered.{type_is_covered, built_in_is_covered, callee_is_covered, is_local, expr_is_covered, exprs_are_covered}
 use Rattle.vale_front.specs.Missing as m
 use Rattle.vale_sound.proofs.Fine.{rule_kept, one_rule, asked}

@@ -1,7 +1,7 @@
 -- What the parts of a node are where it has no fault, and that its row is kept then.
 use Rattle.std.proofs.Common.{◌≡◌, ℕ, Bool, true, false, [], ◌∷◌, Option, Some, None, refl, ap, subst}
 use Rattle.vale_base.specs.declared.spot.Spot.{Spot}
-use Rattle.vale_syntax.specs.Judged.{Rules, broken, ◌⇒◌, fault_of, Judged, fine, faulty, unless, both, node, leaf, plain, scoped}
+use Rattle.vale_rules_spec.specs.Judged.{Rules, broken, ◌⇒◌, fault_of, Judged, fine, faulty, unless, both, node, leaf, plain, scoped}
 
 -- ---- rows
 

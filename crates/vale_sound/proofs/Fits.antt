@@ -6,9 +6,9 @@ use Rattle.vale_syntax.specs.declared.built_in.BuiltIn.TheVariants as b
 use Rattle.vale_syntax.specs.declared.tree.BinaryOp.{BinaryOp}
 use Rattle.vale_syntax.specs.declared.tree.BinaryOp.TheVariants as o
 use Rattle.vale_syntax.specs.Tree.{Item, Head, head}
-use Rattle.vale_syntax.specs.Types.{Ty, void, int, bool, str, kind, array, ref, imm, iso, same, is_void, object_of, Local, view_here, as_frozen, local_seen, fits}
-use Rattle.vale_syntax.specs.Typed as t
-use Rattle.vale_syntax.specs.TypeRules.{all_fit, takes_operands, link_gives, takes_arguments, head_gives}
+use Rattle.vale_rules_spec.specs.Types.{Ty, void, int, bool, str, kind, array, ref, imm, iso, same, is_void, object_of, Local, view_here, as_frozen, local_seen, fits}
+use Rattle.vale_rules_spec.specs.Typed as t
+use Rattle.vale_rules_spec.specs.TypeRules.{all_fit, takes_operands, link_gives, takes_arguments, head_gives}
 use Rattle.vale_lowering.specs.Covered.{type_is_covered, expr_is_covered, node_is_covered, exprs_are_covered, built_in_is_covered}
 use Rattle.vale_lowering.specs.Scopes.{head_result}
 

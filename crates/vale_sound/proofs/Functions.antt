@@ -4,13 +4,13 @@ use Rattle.std.specs.Prelude.{flat_map}
 use Rattle.std.specs.List.{AllByRecursion, list_all}
 use Rattle.std.proofs.lemmas.Bool.{and_parts}
 use Rattle.vale_syntax.specs.Tree.{Head, Function, function, Item, struct_item, interface_item, impl_item, function_item}
-use Rattle.vale_syntax.specs.Declarations.{head_name, head_params, param_type}
-use Rattle.vale_syntax.specs.Judged.{◌⇒◌, both, fine}
-use Rattle.vale_syntax.specs.Types.{is_void, is_copy, type_of, function_named}
-use Rattle.vale_syntax.specs.Typed as t
-use Rattle.vale_syntax.specs.TypeRules.{head_gives, function_rules}
-use Rattle.vale_syntax.specs.Returns.{block_returns}
-use Rattle.vale_syntax.specs.Typing.{entry, void_block, in_function, in_functions, in_item, in_items}
+use Rattle.vale_rules_spec.specs.Declarations.{head_name, head_params, param_type}
+use Rattle.vale_rules_spec.specs.Judged.{◌⇒◌, both, fine}
+use Rattle.vale_rules_spec.specs.Types.{is_void, is_copy, type_of, function_named}
+use Rattle.vale_rules_spec.specs.Typed as t
+use Rattle.vale_rules_spec.specs.TypeRules.{head_gives, function_rules}
+use Rattle.vale_rules_spec.specs.Returns.{block_returns}
+use Rattle.vale_rules_spec.specs.Typing.{entry, void_block, in_function, in_functions, in_item, in_items}
 use Rattle.vale_model.specs.Parts.{first_function, functions_of, has_name, is_pure}
 use Rattle.vale_lowering.specs.Covered.{type_is_covered, block_is_covered, function_is_covered, item_is_covered}
 use Rattle.vale_lowering.specs.Scopes.{head_result}
@@ -19,7 +19,6 @@ use Rattle.vale_sound.proofs.Fine.{one_rule, asked, of_node, of_plain, of_fine, 
 use Rattle.vale_sound.proofs.Fits.{impossible, same_gives}
 use Rattle.vale_sound.proofs.Literals.{LawfulFunction, LawfulItem}
 use Rattle.vale_sound.proofs.Parts.{IsFound, Finds, void_meets}
-use Rattle.vale_sound.proofs.Returns.{void_back}
 
 -- ---- each function suits
 
@@ -29,12 +28,12 @@ module _ (names : List (List ℕ)) (items : List Item) (functions : List t.Funct
 
   function_meets : (f : Function) (v : t.Function) → LawfulFunction f → in_function names items f ≡ fine v → FunctionMeets v
   function_meets (function h b) v law is =
-      of_node FunctionMeets (head_name h).at (λ v. function_rules (head_gives h) (block_returns b)) (λ v. t.function_body h v) (void_block names items (entry h) b) v is
+      of_node FunctionMeets (head_name h).at (λ v. function_rules (head_gives h) (block_returns v)) (λ v. t.function_body h v) (void_block names items (entry h) b) v is
       (λ w each kept cov.
       let front = not (is_pure (t.function_body h w)) && list_all (λ p. is_copy (type_of (param_type p))) (head_params h) && type_is_covered (head_result h) in (
         void_meets names items functions finds (entry h) b w law each (and_parts front (block_is_covered w) cov).1,
-        λ some. void_back names items (entry h) b w (asked (not (is_void (head_gives h))) (block_returns b) (one_rule 26 (not (is_void (head_gives h)) ⇒ block_returns b) kept)
-            (ap (λ x. not (is_void x)) (same_gives h) ∙ ap not some)) each,
+        λ some. asked (not (is_void (head_gives h))) (block_returns w) (one_rule 26 (not (is_void (head_gives h)) ⇒ block_returns w) kept)
+            (ap (λ x. not (is_void x)) (same_gives h) ∙ ap not some),
       ))
 
   abbrev AllMeet : List t.Item → Type 0
@@ -87,7 +86,7 @@ module _ (names : List (List ℕ)) (items : List Item) (n : ℕ) (h : Head) wher
 
   function_found : (xs : List Item) (f : Function) (v : t.Function) → in_function names items f ≡ fine v → FoundIn xs (function_item f) (t.function_item v)
   function_found xs (function g b) v is =
-      of_node (λ v. FoundIn xs (function_item (function g b)) (t.function_item v)) (head_name g).at (λ v. function_rules (head_gives g) (block_returns b)) (λ v. t.function_body g v) (void_block names items (entry g) b) v is
+      of_node (λ v. FoundIn xs (function_item (function g b)) (t.function_item v)) (head_name g).at (λ v. function_rules (head_gives g) (block_returns v)) (λ v. t.function_body g v) (void_block names items (entry g) b) v is
       (λ w each kept ys rest e. found_here g w xs ys ((head_name g).name.0 == n) refl rest e)
 
   item_found : (xs : List Item) (x : Item) (v : t.Item) → in_item names items x ≡ fine v → FoundIn xs x v

@@ -6,6 +6,5 @@ mod Lexed
 mod Literals
 mod Main
 mod Parts
-mod Returns
 mod Served
 mod Sound

@@ -12,16 +12,16 @@ use Rattle.vale_syntax.specs.declared.fault.Fault.{Fault}
 use Rattle.vale_syntax.specs.declared.token.Token.{Token}
 use Rattle.vale_syntax.specs.declared.tree.NameAt.{NameAt}
 use Rattle.vale_syntax.specs.Tree.{int_type, bool_type, str_type, named_type, array_type, ref_type, imm_ref_type, iso_type, Param, param, Head, head, Block, Function, function, Item, struct_item, interface_item, impl_item, function_item}
-use Rattle.vale_syntax.specs.Declarations.{same_name, is_called, is_built_in, item_name, head_name, head_params, param_type, function_head, is_function_with, is_main, is_lawful_main, is_drop, is_input, drops}
-use Rattle.vale_syntax.specs.DeclRules.{has_room, is_new_item, is_new_drop, is_new_function, is_first_main, function_rules, program_rules}
-use Rattle.vale_syntax.specs.DeclFaults.{in_block, inside_head, item_faults, program_spot}
+use Rattle.vale_rules_spec.specs.Declarations.{same_name, is_called, is_built_in, item_name, head_name, head_params, param_type, function_head, is_function_with, is_main, is_lawful_main, is_drop, is_input, drops}
+use Rattle.vale_rules_spec.specs.DeclRules.{has_room, is_new_item, is_new_drop, is_new_function, is_first_main, function_rules, program_rules}
+use Rattle.vale_rules_spec.specs.DeclFaults.{in_block, inside_head, item_faults, program_spot}
 use Rattle.vale_syntax.specs.Grammar.{each, number_of, IsFunction, IsItem}
-use Rattle.vale_syntax.specs.Judged.{◌⇒◌, broken, fault_of, own, one_by_one, unless, both, fine}
-use Rattle.vale_syntax.specs.Types.{is_copy, void, type_of}
-use Rattle.vale_syntax.specs.Typed as t
-use Rattle.vale_syntax.specs.Typing.{entry, void_block, in_function, in_functions, in_item, in_items}
-use Rattle.vale_syntax.specs.TypeRules as rules
-use Rattle.vale_syntax.specs.Returns.{block_returns}
+use Rattle.vale_rules_spec.specs.Judged.{◌⇒◌, broken, fault_of, own, one_by_one, unless, both, fine}
+use Rattle.vale_rules_spec.specs.Types.{is_copy, void, type_of}
+use Rattle.vale_rules_spec.specs.Typed as t
+use Rattle.vale_rules_spec.specs.Typing.{entry, void_block, in_function, in_functions, in_item, in_items}
+use Rattle.vale_rules_spec.specs.TypeRules as rules
+use Rattle.vale_rules_spec.specs.Returns.{block_returns}
 use Rattle.vale_model.specs.Kinds.{head_of}
 use Rattle.vale_model.specs.Parts.{first_function, functions_of, is_pure}
 use Rattle.vale_lowering.specs.Covered.{type_is_covered, block_is_covered, function_is_covered, item_is_covered}
@@ -235,7 +235,7 @@ module _ (names : List (List ℕ)) where
 
     function_at : (before xs : List Item) (f : Function) (v : t.Function) → in_function names items f ≡ fine v → FirstAt before xs (function_item f) (t.function_item v)
     function_at before xs (function h b) v is =
-        of_node (λ v. FirstAt before xs (function_item (function h b)) (t.function_item v)) (head_name h).at (λ v. rules.function_rules (rules.head_gives h) (block_returns b)) (λ v. t.function_body h v) (void_block names items (entry h) b) v is
+        of_node (λ v. FirstAt before xs (function_item (function h b)) (t.function_item v)) (head_name h).at (λ v. rules.function_rules (rules.head_gives h) (block_returns v)) (λ v. t.function_body h v) (void_block names items (entry h) b) v is
         (λ w each kept ys rest. function_first before xs h b w ys (is_main names h) refl rest)
 
     item_at : (before xs : List Item) (x : Item) (v : t.Item) → in_item names items x ≡ fine v → FirstAt before xs x v

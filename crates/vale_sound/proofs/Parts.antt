@@ -9,14 +9,14 @@ use Rattle.vale_syntax.specs.declared.tree.NameAt.{NameAt}
 use Rattle.vale_syntax.specs.declared.tree.UnaryOp.{UnaryOp}
 use Rattle.vale_syntax.specs.declared.tree.UnaryOp.TheVariants as u
 use Rattle.vale_syntax.specs.Tree.{Expr, set, chain, unary, steps, number, quote, truth, name, call, paren, array, iso, form, Exprs, no_exprs, more_exprs, Link, link, Links, no_links, more_links, Form, branch, pure, parallel_range, parallel_each, ElseIf, else_if, Elses, no_else, otherwise, more_elses, Block, block, Stmt, declare, destructure, return_nothing, return_value, while, foreach, form_stmt, express, Stmts, no_stmts, last, more_stmts, Head, FieldDecl, Item}
-use Rattle.vale_syntax.specs.Declarations.{head_params}
-use Rattle.vale_syntax.specs.Judged.{◌⇒◌, broken, both, fine}
-use Rattle.vale_syntax.specs.Types.{Ty, void, int, bool, str, same, is_void, type_of, Seen, a_value, Local, local_of, is_visible, local_seen, is_movable, fields_of, function_named, fits}
-use Rattle.vale_syntax.specs.Types as y
-use Rattle.vale_syntax.specs.Typed as t
-use Rattle.vale_syntax.specs.TypeRules.{is_bool, is_int, name_rules, declare_rules, takes_operands, link_rules, link_gives, unary_rules, unary_gives, takes_arguments, arity, all_fit, as_many, Called, nothing, language, struct, program, built_ins, built_in_among, called_else, called, callee, called_rules, called_gives, param_types, is_pure_head, array_rules, set_rules, set_gives, iso_rules, branch_rules, bounds_rules, void_rules, condition_rules, return_nothing_rules, return_value_rules, parallel_gives, struct_fields, field_types, destructure_rules}
-use Rattle.vale_syntax.specs.Takes.{is_value_under}
-use Rattle.vale_syntax.specs.Typing.{Env, with_local, after, deeper, named, form_spot, expr, exprs, operand, links, in_form, in_else_if, elses, in_block, void_block, stmts, stmt, new_name, new_names}
+use Rattle.vale_rules_spec.specs.Declarations.{head_params}
+use Rattle.vale_rules_spec.specs.Judged.{◌⇒◌, broken, both, fine}
+use Rattle.vale_rules_spec.specs.Types.{Ty, void, int, bool, str, same, is_void, type_of, Seen, a_value, Local, local_of, is_visible, local_seen, is_movable, fields_of, function_named, fits}
+use Rattle.vale_rules_spec.specs.Types as y
+use Rattle.vale_rules_spec.specs.Typed as t
+use Rattle.vale_rules_spec.specs.TypeRules.{is_bool, is_int, name_rules, declare_rules, takes_operands, link_rules, link_gives, unary_rules, unary_gives, takes_arguments, arity, all_fit, as_many, Called, nothing, language, struct, program, built_ins, built_in_among, called_else, called, callee, called_rules, called_gives, param_types, is_pure_head, array_rules, set_rules, set_gives, iso_rules, branch_rules, bounds_rules, void_rules, condition_rules, return_nothing_rules, return_value_rules, parallel_gives, struct_fields, field_types, destructure_rules}
+use Rattle.vale_rules_spec.specs.Takes.{is_value_under}
+use Rattle.vale_rules_spec.specs.Typing.{Env, with_local, after, deeper, named, form_spot, expr, exprs, operand, links, in_form, in_else_if, elses, in_block, void_block, stmts, stmt, new_name, new_names}
 use Rattle.vale_model.specs.Kinds.{head_of}
 use Rattle.vale_model.specs.Parts.{first_function, has_name}
 use Rattle.vale_lowering.specs.Covered.{type_is_covered, unary_is_covered, callee_is_covered, is_local, expr_is_covered, exprs_are_covered, links_are_covered, form_is_covered, elses_are_covered, block_is_covered, stmts_are_covered, stmt_is_covered}

@@ -5,14 +5,14 @@ use Rattle.std.proofs.lemmas.Bool.{and_from, or_parts}
 use Rattle.vale_syntax.specs.declared.tree.UnaryOp.{UnaryOp}
 use Rattle.vale_syntax.specs.declared.tree.UnaryOp.TheVariants as u
 use Rattle.vale_syntax.specs.Tree.{Expr, set, chain, unary, steps, number, quote, truth, name, call, paren, array, iso, form, Exprs, no_exprs, more_exprs, Link, link, Links, no_links, more_links, Form, branch, pure, parallel_range, parallel_each, ElseIf, else_if, Elses, no_else, otherwise, more_elses, Block, block, Stmt, declare, destructure, return_nothing, return_value, while, foreach, form_stmt, express, Stmts, no_stmts, last, more_stmts, Function, function, Item, struct_item, interface_item, impl_item, function_item, Tree, tree}
-use Rattle.vale_syntax.specs.Declarations.{head_name, head_params, param_type}
-use Rattle.vale_syntax.specs.Judged.{both, plain, fine}
-use Rattle.vale_syntax.specs.Types.{Ty, int, bool, str, is_void, is_copy, type_of, Seen, a_value, local_of, is_visible}
-use Rattle.vale_syntax.specs.Typed as t
-use Rattle.vale_syntax.specs.TypeRules.{name_rules, declare_rules, link_rules, link_gives, unary_rules, unary_gives, called, callee, called_rules, called_gives, head_gives, set_rules, set_gives, void_rules, condition_rules, bounds_rules, branch_rules, return_nothing_rules, return_value_rules, function_rules}
-use Rattle.vale_syntax.specs.Returns.{block_returns}
-use Rattle.vale_syntax.specs.Takes.{is_value_under}
-use Rattle.vale_syntax.specs.Typing.{Env, with_local, after, entry, named, form_spot, new_name, expr, exprs, operand, links, in_form, in_else_if, elses, in_block, void_block, stmts, stmt, in_function, in_item, in_items}
+use Rattle.vale_rules_spec.specs.Declarations.{head_name, head_params, param_type}
+use Rattle.vale_rules_spec.specs.Judged.{both, plain, fine}
+use Rattle.vale_rules_spec.specs.Types.{Ty, int, bool, str, is_void, is_copy, type_of, Seen, a_value, local_of, is_visible}
+use Rattle.vale_rules_spec.specs.Typed as t
+use Rattle.vale_rules_spec.specs.TypeRules.{name_rules, declare_rules, link_rules, link_gives, unary_rules, unary_gives, called, callee, called_rules, called_gives, head_gives, set_rules, set_gives, void_rules, condition_rules, bounds_rules, branch_rules, return_nothing_rules, return_value_rules, function_rules}
+use Rattle.vale_rules_spec.specs.Returns.{block_returns}
+use Rattle.vale_rules_spec.specs.Takes.{is_value_under}
+use Rattle.vale_rules_spec.specs.Typing.{Env, with_local, after, entry, named, form_spot, new_name, expr, exprs, operand, links, in_form, in_else_if, elses, in_block, void_block, stmts, stmt, in_function, in_item, in_items}
 use Rattle.vale_syntax.specs.declared.decls.Decls.{Decls}
 use Rattle.vale_lowering.specs.Covered.{type_is_covered, unary_is_covered, callee_is_covered, is_local, expr_is_covered, exprs_are_covered, links_are_covered, form_is_covered, elses_are_covered, block_is_covered, stmts_are_covered, stmt_is_covered, function_is_covered, item_is_covered, is_covered}
 use Rattle.vale_lowering.specs.Scopes.{head_result}
@@ -262,7 +262,7 @@ module _ (names : List (List ℕ)) (items : List Item) (all_served : (m.in_items
 
   function_served : (f : Function) (v : t.Function) → (m.in_item (function_item f)).unserved ≡ false → in_function names items f ≡ fine v → FunctionServed v
   function_served (function h b) v s is =
-      of_node FunctionServed (head_name h).at (λ v. function_rules (head_gives h) (block_returns b)) (λ v. t.function_body h v) (void_block names items (entry h) b) v is
+      of_node FunctionServed (head_name h).at (λ v. function_rules (head_gives h) (block_returns v)) (λ v. t.function_body h v) (void_block names items (entry h) b) v is
       (λ w each kept.
       let q = or_parts (m.in_head h).unserved (m.in_block b).unserved s in
       let p = plain_head h q.0 in

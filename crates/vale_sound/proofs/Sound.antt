@@ -3,12 +3,12 @@ use Rattle.std.proofs.Common.{◌≡◌, ℕ, true, List, []}
 use Rattle.std.specs.Prelude.{flat_map}
 use Rattle.std.specs.List.{list_all}
 use Rattle.vale_base.specs.Limits.{level_limit}
-use Rattle.vale_syntax.specs.Declarations.{declarations}
-use Rattle.vale_syntax.specs.DeclFaults.{declaration_faults}
+use Rattle.vale_rules_spec.specs.Declarations.{declarations}
+use Rattle.vale_rules_spec.specs.DeclFaults.{declaration_faults}
 use Rattle.vale_syntax.specs.Tree.{Tree, tree}
-use Rattle.vale_syntax.specs.Typed as t
-use Rattle.vale_syntax.specs.Typing.{in_items}
-use Rattle.vale_syntax.specs.WellFormed.{WellFormed}
+use Rattle.vale_rules_spec.specs.Typed as t
+use Rattle.vale_rules_spec.specs.Typing.{in_items}
+use Rattle.vale_rules_spec.specs.WellFormed.{WellFormed}
 use Rattle.vale_syntax.specs.declared.decls.Decls.{Decls}
 use Rattle.vale_model.specs.Parts.{functions_of}
 use Rattle.vale_lowering.specs.Covered.{is_covered}

@@ -1,9 +1,9 @@
 -- What is known of the code of a program that the front accepts: it is certified, takes no input, never goes wrong, does what the
 -- program means, and needs as many frames.
 use Rattle.std.specs.Prelude.{◌≡◌, ◌≢◌, ℕ, true}
-use Rattle.vale_base.specs.Outcome.{Wrong}
-use Rattle.vale_base.specs.State.{no_input}
-use Rattle.vale_syntax.specs.Typed.{Typed}
+use Rattle.vale_state_spec.specs.Outcome.{Wrong}
+use Rattle.vale_state_spec.specs.State.{no_input}
+use Rattle.vale_rules_spec.specs.Typed.{Typed}
 use Rattle.vale_model.specs.Meaning.{meaning}
 use Rattle.vale_model.specs.Need.{need}
 use Rattle.vale_code.specs.Need.{need as code_need}

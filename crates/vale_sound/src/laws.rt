@@ -3,8 +3,8 @@
 ghost use Rattle.std.specs.Prelude.{◌≡◌, ℕ, List, true};
 ghost use Rattle.std.specs.List.{list_all};
 ghost use Rattle.vale_syntax.specs.Tree.{Tree};
-ghost use Rattle.vale_syntax.specs.Typed.{Typed};
-ghost use Rattle.vale_syntax.specs.WellFormed.{WellFormed};
+ghost use Rattle.vale_rules_spec.specs.Typed.{Typed};
+ghost use Rattle.vale_rules_spec.specs.WellFormed.{WellFormed};
 ghost use Rattle.vale_syntax.specs.declared.decls.Decls.{Decls};
 ghost use Rattle.vale_front.specs.Front.{Serves, Accepts};
 ghost use Rattle.vale_lowering.specs.Covered.{is_covered};

@@ -1,6 +1,2 @@
-mod DeclRows
-mod DeclTexts
-mod TypeTexts
-pub mod JudgedLaws
-pub mod ReachLaws
+pub mod PartLaws
 pub mod ViewLaws

@@ -2,10 +2,10 @@
 use Rattle.std.proofs.Common.{◌≡◌, ℕ, zero, suc, ◌+◌, ℤ, pos, negsuc, List, [], ◌∷◌, ◌++◌, append_assoc, append-nil, Option, Some, None, Bool, true, false, refl, sym, ap, ◌∙◌, subst, arith}
 use Rattle.std.specs.Prelude.{Ok, Err}
 use Rattle.std.specs.Prelude.{slice_get, slice_set, if◌then◌else◌, Result, ◌-◌, max, nat_lt, length}
-use Rattle.vale_base.specs.State.{State, Answer, gives, traps, spend_of, print_text, print, printed, object_of, living, born, make, dies, changed, found_or_dead, look_up, on_object, with_object, name_of, load, field_in, swap, swapped_in, element, element_at, element_in, swap_element, element_swapped_at, element_swapped_in, len, push, pop, popped, freeze, freeze_iteration, RegionEnd, merged, kept, cleared, world_after, thaw, thaw_iteration, join_isolate, merge, loop_counted, counting_as, here, live, shown, front_from}
+use Rattle.vale_state_spec.specs.State.{State, Answer, gives, traps, spend_of, print_text, print, printed, object_of, living, born, make, dies, changed, found_or_dead, look_up, on_object, with_object, name_of, load, field_in, swap, swapped_in, element, element_at, element_in, swap_element, element_swapped_at, element_swapped_in, len, push, pop, popped, freeze, freeze_iteration, RegionEnd, merged, kept, cleared, world_after, thaw, thaw_iteration, join_isolate, merge, loop_counted, counting_as, here, live, shown, front_from}
 use Rattle.vale_base.specs.Limits.{width_limit}
-use Rattle.vale_base.specs.World.{Value, Int, Truth, Text, Own, Ref, Iso, Object, World, Freeze, Isolate, relabelled}
-use Rattle.vale_base.specs.World as w
+use Rattle.vale_state_spec.specs.World.{Value, Int, Truth, Text, Own, Ref, Iso, Object, World, Freeze, Isolate, relabelled}
+use Rattle.vale_state_spec.specs.World as w
 use Rattle.vale_text.specs.Steps as o
 use Rattle.vale_text.specs.Operations as p
 use Rattle.vale_base.specs.declared.name.Kind.{Kind}

@@ -1,8 +1,8 @@
 -- What becomes of names: each change of a world gives new names only at its end, and lets none come to life again.
 use Rattle.std.proofs.Common.{◌≡◌, inl, inr, ℕ, zero, suc, [], ◌∷◌, Option, Some, None, Bool, true, false, refl, sym, ◌∙◌, subst}
 use Rattle.std.specs.Prelude.{slice_get, if◌then◌else◌}
-use Rattle.vale_base.specs.World.{World, Object, Region, region_eq, moved, relabelled, unless_of, cleared}
-use Rattle.vale_base.specs.World as w
+use Rattle.vale_state_spec.specs.World.{World, Object, Region, region_eq, moved, relabelled, unless_of, cleared}
+use Rattle.vale_state_spec.specs.World as w
 use Rattle.vale_text.specs.Later.{NameLater}
 
 pub same_later : (x : Option (Option Object)) → NameLater x x

@@ -1,8 +1,8 @@
 -- How a run goes on: ticks are only spent, pieces are only added, names are only given, and the dead stay dead.
 use Rattle.std.specs.Prelude.{◌≡◌, ◌⊎◌, ℕ, ◌+◌, ◌≤◌, List, [], ◌∷◌, ◌++◌, Option, Some, None, slice_get}
-use Rattle.vale_base.specs.Outcome.{End, Cut}
-use Rattle.vale_base.specs.State.{State, Answer, gives, traps, fails}
-use Rattle.vale_base.specs.World.{Object}
+use Rattle.vale_state_spec.specs.Outcome.{End, Cut}
+use Rattle.vale_state_spec.specs.State.{State, Answer, gives, traps, fails}
+use Rattle.vale_state_spec.specs.World.{Object}
 use Rattle.vale_base.specs.declared.piece.Piece.{Piece}
 
 -- each piece was printed no earlier than the one before it, from one number of spent ticks to another

@@ -4,8 +4,8 @@ use Rattle.std.specs.Ordering.{int_cmp, nat_cmp}
 use Rattle.std.specs.declared.cmp.Ordering.{Ordering}
 use Rattle.std.specs.declared.cmp.Ordering.TheVariants.{Less, Equal, Greater}
 use Rattle.std.specs.Cmp.Lexicographic.{slice_cmp}
-use Rattle.vale_base.specs.State.{State, Answer, gives, traps, fails}
-use Rattle.vale_base.specs.World.{Value, Int, Truth, Text}
+use Rattle.vale_state_spec.specs.State.{State, Answer, gives, traps, fails}
+use Rattle.vale_state_spec.specs.World.{Value, Int, Truth, Text}
 use Rattle.vale_base.specs.declared.trap.TrapKind.{TrapKind}
 use Rattle.vale_text.specs.Operations as o
 

@@ -1,6 +1,6 @@
 -- What a name stands for in a call.
 use Rattle.std.specs.Prelude.{map}
-use Rattle.vale_syntax.specs.TypeRules as r
+use Rattle.vale_rules_spec.specs.TypeRules as r
 use Rattle.vale_syntax.specs.View.{view_field, view_head}
 use Rattle.vale_type_faults.specs.declared.calls.Called.{Called}
 use Rattle.vale_type_faults.specs.declared.calls.Called.TheVariants.{Nothing, Language, Struct, Program}

@@ -1,10 +1,10 @@
 // Calls, by the types of their arguments.
 ghost use Rattle.std.specs.Prelude.{◌≡◌, false, map, IfOk};
 ghost use Rattle.std.specs.List.{list_all};
-ghost use Rattle.vale_syntax.specs.Judged.{broken};
+ghost use Rattle.vale_rules_spec.specs.Judged.{broken};
 ghost use Rattle.vale_syntax.specs.View.{view_type};
-ghost use Rattle.vale_syntax.specs.Types.{type_of};
-ghost use Rattle.vale_syntax.specs.TypeRules.{called, called_rules, called_gives, callee, built_in_rules, call_rules, array_rules};
+ghost use Rattle.vale_rules_spec.specs.Types.{type_of};
+ghost use Rattle.vale_rules_spec.specs.TypeRules.{called, called_rules, called_gives, callee, built_in_rules, call_rules, array_rules};
 ghost use Rattle.vale_core.specs.View.{view_ty, view_callee};
 ghost use Rattle.vale_type_rules.specs.Table.{names_of, items_of};
 ghost use Rattle.vale_type_faults.specs.Called.{view_called};

@@ -1,11 +1,11 @@
 // Blocks, forms and loops, by the types of their parts.
 ghost use Rattle.std.specs.Prelude.{◌≡◌, ◌∷◌, ◌&&◌, ◌||◌, Option, IfOk, is_some, map, option_map};
 ghost use Rattle.std.specs.List.{list_all};
-ghost use Rattle.vale_syntax.specs.Judged.{broken};
-ghost use Rattle.vale_syntax.specs.Types.{same, is_void};
-ghost use Rattle.vale_syntax.specs.Typed as t;
-ghost use Rattle.vale_syntax.specs.Typed.{type, condition_types, block_types, has_else};
-ghost use Rattle.vale_syntax.specs.TypeRules.{is_bool, void_rules, condition_rules, bounds_rules, branch_rules, iso_rules, consumed_rules, isolate_in, parallel_gives};
+ghost use Rattle.vale_rules_spec.specs.Judged.{broken};
+ghost use Rattle.vale_rules_spec.specs.Types.{same, is_void};
+ghost use Rattle.vale_rules_spec.specs.Typed as t;
+ghost use Rattle.vale_rules_spec.specs.Typed.{type, condition_types, block_types, has_else};
+ghost use Rattle.vale_rules_spec.specs.TypeRules.{is_bool, void_rules, condition_rules, bounds_rules, branch_rules, iso_rules, consumed_rules, isolate_in, parallel_gives};
 ghost use Rattle.vale_core.specs.View.{elses_of, else_end, view_ty, view_expr, view_block, view_else_if};
 ghost use Rattle.vale_type_rules.specs.Table.{items_of};
 

@@ -1,7 +1,7 @@
 // Names: those that are used, and those that are declared.
 ghost use Rattle.std.specs.Prelude.{◌≡◌};
-ghost use Rattle.vale_syntax.specs.Judged.{broken};
-ghost use Rattle.vale_syntax.specs.TypeRules.{name_rules, new_name_rules, declare_rules};
+ghost use Rattle.vale_rules_spec.specs.Judged.{broken};
+ghost use Rattle.vale_rules_spec.specs.TypeRules.{name_rules, new_name_rules, declare_rules};
 ghost use Rattle.vale_core.specs.View.{view_ty};
 ghost use Rattle.vale_type_rules.specs.Scope.{locals};
 

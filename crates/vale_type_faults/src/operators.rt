@@ -1,8 +1,8 @@
 // Operators, by what is known of their operands.
 ghost use Rattle.std.specs.Prelude.{◌≡◌, IfOk};
-ghost use Rattle.vale_syntax.specs.Judged.{broken};
+ghost use Rattle.vale_rules_spec.specs.Judged.{broken};
 ghost use Rattle.vale_syntax.specs.declared.tree.UnaryOp.TheVariants as u;
-ghost use Rattle.vale_syntax.specs.TypeRules.{have_order, have_equality, takes_operands, link_rules, link_gives, unary_rules, unary_gives, borrow_gives, is_iso, merge_gives};
+ghost use Rattle.vale_rules_spec.specs.TypeRules.{have_order, have_equality, takes_operands, link_rules, link_gives, unary_rules, unary_gives, borrow_gives, is_iso, merge_gives};
 ghost use Rattle.vale_core.specs.View.{view_ty, view_view, view_seen};
 
 use std::alloc::Global;

@@ -1,8 +1,8 @@
 // What is set, destructured and returned, by the types of the parts.
 ghost use Rattle.std.specs.Prelude.{◌≡◌, IfOk, map, option_map};
-ghost use Rattle.vale_syntax.specs.Judged.{broken};
+ghost use Rattle.vale_rules_spec.specs.Judged.{broken};
 ghost use Rattle.vale_syntax.specs.View.{view_field};
-ghost use Rattle.vale_syntax.specs.TypeRules.{set_rules, set_gives, destructure_rules, return_nothing_rules, return_value_rules, function_rules};
+ghost use Rattle.vale_rules_spec.specs.TypeRules.{set_rules, set_gives, destructure_rules, return_nothing_rules, return_value_rules, function_rules};
 ghost use Rattle.vale_core.specs.View.{view_ty};
 ghost use Rattle.vale_type_rules.specs.Table.{items_of};
 

@@ -1,12 +1,12 @@
 // Steps, by what they start from.
 ghost use Rattle.std.specs.Prelude.{◌≡◌, List, Some, map, IfOk, option_map};
 ghost use Rattle.std.specs.Option.{option_and_then};
-ghost use Rattle.vale_syntax.specs.Judged.{broken};
+ghost use Rattle.vale_rules_spec.specs.Judged.{broken};
 ghost use Rattle.vale_syntax.specs.Tree as e;
 ghost use Rattle.vale_syntax.specs.View.{view_type, view_field, view_head};
-ghost use Rattle.vale_syntax.specs.Types.{type_of, is_owned, method_named};
-ghost use Rattle.vale_syntax.specs.TypeRules.{fields_seen, methods_seen, elements_seen, field_rules, index_rules, method_rules, method_gives, part_of};
-ghost use Rattle.vale_syntax.specs.Typing.{type_in, is_settable};
+ghost use Rattle.vale_rules_spec.specs.Types.{type_of, is_owned, method_named};
+ghost use Rattle.vale_rules_spec.specs.TypeRules.{fields_seen, methods_seen, elements_seen, field_rules, index_rules, method_rules, method_gives, part_of};
+ghost use Rattle.vale_rules_spec.specs.Typing.{type_in, is_settable};
 ghost use Rattle.vale_core.specs.View.{view_ty, view_view, view_seen};
 ghost use Rattle.vale_type_rules.specs.Table.{items_of};
 

@@ -8,7 +8,7 @@ use Rattle.std.specs.Option.{option_and_then, option_map_or}
 use Rattle.vale_syntax.specs.declared.tree.Item as c
 use Rattle.vale_syntax.specs.View.{view_item}
 use Rattle.vale_syntax.specs.Tree.{Head, FieldDecl, field_decl, Item, struct_item, interface_item, impl_item, function_item}
-use Rattle.vale_syntax.specs.Types.{fields_of, field_named, methods_of, method_named, function_named}
+use Rattle.vale_rules_spec.specs.Types.{fields_of, field_named, methods_of, method_named, function_named}
 use Rattle.vale_type_rules.specs.Plain.{or_else}
 use Rattle.vale_type_rules.specs.declared.places.Places.{Places}
 use Rattle.vale_type_rules.specs.Places.{is_name, place_from, HasPlaces}

@@ -1,20 +1,17 @@
 -- What is known of a typed part, by how it is made.
 use Rattle.std.proofs.Common.{◌≡◌, List, [], ◌∷◌, refl, ap, rules}
 use Rattle.std.specs.Prelude.{true, Option, None, Some}
-use Rattle.vale_core.specs.declared.tree.ElseIf.{ElseIf, out-ElseIf}
 use Rattle.vale_core.specs.declared.tree.Form.{the_lemmas}
 use Rattle.vale_core.specs.declared.tree.Expr.{Expr, out-Expr}
 use Rattle.vale_core.specs.declared.tree.Block.{Block, out-Block}
-use Rattle.vale_syntax.specs.Typed as t
+use Rattle.vale_rules_spec.specs.Typed as t
 use Rattle.vale_core.specs.declared.tree.Link.{Link, out-Link}
 use Rattle.vale_syntax.specs.View.{listed}
-use Rattle.vale_syntax.specs.Typed.{Steps, no_steps, more_steps, seen, block_type, link_seen, stmts_type, step_may_be_set, last_may_be_set, condition_types, has_else, may_be_set}
+use Rattle.vale_rules_spec.specs.Typed.{Steps, no_steps, more_steps, seen, block_type, link_seen, stmts_type, step_may_be_set, last_may_be_set, condition_types, has_else, may_be_set}
 use Rattle.vale_type_rules.specs.Plain.{last_or}
 use Rattle.vale_core.specs.View.{view_ty, view_seen, view_expr, view_node, view_link, view_block, view_else_if, elses_of, else_end}
+use Rattle.vale_core.proofs.PartLaws.{of_out_expr, of_out_else_if}
 use Rattle.vale_core.proofs.ViewLaws as c
-
-pub of_out_expr : (e : Expr) → view_expr e ≡ t.expr (view_seen (out-Expr e).seen) (view_node (out-Expr e).node)
-of_out_expr e = search (rules, the_lemmas)
 
 pub of_seen : (e : Expr) → seen (view_expr e) ≡ view_seen (out-Expr e).seen
 of_seen e = ap seen (of_out_expr e)
@@ -40,9 +37,6 @@ last_whole (more_steps s ss) = last_behind s ss
 pub type_of_end : (ss : List t.Stmt) (end : t.Stmts) → stmts_type (listed t.more_stmts ss end) ≡ stmts_type end
 type_of_end [] end = refl
 type_of_end (s ∷ ss) end = type_of_end ss end
-
-pub of_out_else_if : (e : ElseIf) → view_else_if e ≡ t.else_if (out-ElseIf e).at (view_expr (out-ElseIf e).condition) (view_block (out-ElseIf e).block)
-of_out_else_if e = search (rules, the_lemmas)
 
 -- what is after `else` has no condition
 pub no_conditions : (o : Option t.Block) → condition_types (else_end o) ≡ []

@@ -9,12 +9,9 @@ use Rattle.vale_syntax.specs.declared.tree.Link.{Link, out-Link}
 use Rattle.vale_syntax.specs.declared.tree.Form.TheVariants as f
 use Rattle.vale_syntax.specs.Tree as t
 use Rattle.vale_syntax.specs.View.{listed, view_expr, view_form, view_stmt, view_block, view_else_if, view_link, elses_of, else_end, stmts_of, last_end}
-use Rattle.vale_syntax.specs.Takes.{takes, link_takes, form_takes, else_if_takes, elses_take, block_takes, stmts_take, stmt_takes}
+use Rattle.vale_rules_spec.specs.Takes.{takes, link_takes, form_takes, else_if_takes, elses_take, block_takes, stmts_take, stmt_takes}
 use Rattle.vale_syntax.proofs.ViewLaws as v
-use Rattle.vale_type_rules.proofs.ReturnLaws.{of_out_block, of_out_else_if}
-
-of_out_link : (l : Link) → view_link l ≡ t.link (out-Link l).at (out-Link l).op (view_expr (out-Link l).operand)
-of_out_link l = search (rules, the_lemmas)
+use Rattle.vale_syntax.proofs.PartLaws.{of_out_block, of_out_else_if, of_out_link}
 
 or_or : (a b c : Bool) → (a || (b || c)) ≡ ((a || b) || c)
 or_or true b c = refl

@@ -4,9 +4,9 @@ use Rattle.std.specs.List.{list_any, slice_get}
 use Rattle.std.specs.Option.{option_and_then, option_map_or}
 use Rattle.std.specs.HashSet.{contains}
 use Rattle.vale_syntax.specs.Tree.{Head, FieldDecl, field_decl, Item, struct_item, interface_item, function_item}
-use Rattle.vale_syntax.specs.Reach.{is_reached}
-use Rattle.vale_syntax.specs.Declarations.{head_name, function_head, leads, iso_holders}
-use Rattle.vale_syntax.specs.Types.{is_impl}
+use Rattle.vale_rules_spec.specs.Reach.{is_reached}
+use Rattle.vale_rules_spec.specs.Declarations.{head_name, function_head, leads, iso_holders}
+use Rattle.vale_rules_spec.specs.Types.{is_impl}
 use Rattle.vale_types.specs.declared.names.Names.{Names}
 use Rattle.vale_types.specs.Names.{has}
 use Rattle.vale_type_rules.specs.declared.places.Places.{Places}

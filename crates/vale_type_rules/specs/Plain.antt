@@ -2,8 +2,8 @@
 use Rattle.std.specs.Prelude.{Bool, List, Option, Some, None}
 use Rattle.std.specs.List.{list_all}
 use Rattle.vale_syntax.specs.Tree.{ElseIf}
-use Rattle.vale_syntax.specs.Returns.{else_if_returns}
-use Rattle.vale_syntax.specs.Typed.{Steps, no_steps, more_steps, step_may_be_set}
+use Rattle.vale_rules_spec.specs.Returns.{else_if_returns}
+use Rattle.vale_rules_spec.specs.Typed.{Steps, no_steps, more_steps, step_may_be_set}
 
 -- the first where there is one, else the second
 abbrev pub or_else : {A : Type 0} → Option A → Option A → Option A

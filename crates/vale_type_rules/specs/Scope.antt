@@ -1,7 +1,7 @@
 -- The locals that a scope has.
 use Rattle.std.specs.Prelude.{List, [], ◌∷◌}
 use Rattle.vale_core.specs.View.{view_ty}
-use Rattle.vale_syntax.specs.Types as y
+use Rattle.vale_rules_spec.specs.Types as y
 use Rattle.vale_type_rules.specs.declared.scope.Local.{Local}
 use Rattle.vale_type_rules.specs.declared.scope.Scope.{Scope}
 use Rattle.vale_type_rules.specs.declared.scope.Scope.TheVariants.{Outside, Frame'}

@@ -1,8 +1,8 @@
 // What the built-in functions take and give.
 ghost use Rattle.std.specs.Prelude.{◌≡◌, map, IfOk};
-ghost use Rattle.vale_syntax.specs.Types as y;
-ghost use Rattle.vale_syntax.specs.Types.{same};
-ghost use Rattle.vale_syntax.specs.TypeRules.{arity, takes_arguments, may_push, is_array_ref, popped, built_in_gives};
+ghost use Rattle.vale_rules_spec.specs.Types as y;
+ghost use Rattle.vale_rules_spec.specs.Types.{same};
+ghost use Rattle.vale_rules_spec.specs.TypeRules.{arity, takes_arguments, may_push, is_array_ref, popped, built_in_gives};
 ghost use Rattle.vale_core.specs.View.{view_ty};
 ghost use Rattle.vale_type_rules.specs.Table.{items_of};
 

@@ -1,8 +1,8 @@
 // Which types fit.
 ghost use Rattle.std.specs.Prelude.{◌≡◌, map};
 ghost use Rattle.std.specs.List.{list_all};
-ghost use Rattle.vale_syntax.specs.Types.{is_object_of, fits, fits_argument};
-ghost use Rattle.vale_syntax.specs.TypeRules.{all_fit, is_int, is_bool};
+ghost use Rattle.vale_rules_spec.specs.Types.{is_object_of, fits, fits_argument};
+ghost use Rattle.vale_rules_spec.specs.TypeRules.{all_fit, is_int, is_bool};
 ghost use Rattle.vale_core.specs.View.{view_ty};
 ghost use Rattle.vale_type_rules.specs.Table.{items_of};
 

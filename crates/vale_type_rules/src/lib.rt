@@ -9,7 +9,6 @@ mod index;
 mod lookup;
 mod parts;
 mod places;
-mod returns;
 mod scope;
 mod seen;
 mod signature;
@@ -26,7 +25,6 @@ pub use parts::{
     block_type, chain_seen, link_seen, may_be_set, seen_of, step_seen, steps_seen, type_in,
     types_in,
 };
-pub use returns::block_returns;
 pub use scope::{Local, Scope, is_movable, is_visible, local_of, local_seen};
 pub use seen::{
     a_value, as_frozen, as_shared, copy_seen, copy_view, is_frozen, is_loose, part_seen,

@@ -1,6 +1,6 @@
 // What is known of typed parts.
 ghost use Rattle.std.specs.Prelude.{◌≡◌, map, IfOk};
-ghost use Rattle.vale_syntax.specs.Typed.{seen, type, types, block_type, link_seen, chain_seen, step_seen, steps_seen, step_may_be_set, last_may_be_set, may_be_set};
+ghost use Rattle.vale_rules_spec.specs.Typed.{seen, type, types, block_type, link_seen, chain_seen, step_seen, steps_seen, step_may_be_set, last_may_be_set, may_be_set};
 ghost use Rattle.vale_core.specs.View.{exprs_of, links_of, steps_of, view_ty, view_seen, view_expr, view_link, view_step, view_block};
 
 use crate::seen::copy_seen;

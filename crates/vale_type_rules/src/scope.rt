@@ -1,7 +1,7 @@
 // The visible locals.
 ghost use Rattle.std.specs.Prelude.{◌≡◌, ◌==◌, ◌&&◌, option_map, List, IfOk};
-ghost use Rattle.vale_syntax.specs.Types as y;
-ghost use Rattle.vale_syntax.specs.Types.{local_of, local_seen, is_movable, is_visible};
+ghost use Rattle.vale_rules_spec.specs.Types as y;
+ghost use Rattle.vale_rules_spec.specs.Types.{local_of, local_seen, is_movable, is_visible};
 ghost use Rattle.vale_core.specs.View.{view_ty, view_seen};
 ghost use Rattle.vale_type_rules.specs.Scope.{view_local, framed, locals};
 ghost use Rattle.vale_type_rules.specs.Plain.{or_else};

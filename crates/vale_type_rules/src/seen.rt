@@ -1,6 +1,6 @@
 // What is known of values, locals, fields and elements.
 ghost use Rattle.std.specs.Prelude.{◌≡◌, option_map, IfOk};
-ghost use Rattle.vale_syntax.specs.Types.{value_view, a_value, is_loose, seen_object, is_frozen, as_frozen, as_shared, part_seen, view_here};
+ghost use Rattle.vale_rules_spec.specs.Types.{value_view, a_value, is_loose, seen_object, is_frozen, as_frozen, as_shared, part_seen, view_here};
 ghost use Rattle.vale_core.specs.View.{view_ty, view_view, view_seen};
 
 use crate::ty::{copy_found, object_of};

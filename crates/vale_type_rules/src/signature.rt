@@ -1,7 +1,7 @@
 // What the parameters of a head and the fields of a struct take.
 ghost use Rattle.std.specs.Prelude.{◌≡◌, map, IfOk};
 ghost use Rattle.vale_syntax.specs.View.{view_param, view_field, view_head};
-ghost use Rattle.vale_syntax.specs.TypeRules.{param_types, field_types, method_takes, needs_frozen};
+ghost use Rattle.vale_rules_spec.specs.TypeRules.{param_types, field_types, method_takes, needs_frozen};
 ghost use Rattle.vale_core.specs.View.{view_ty};
 
 use crate::ty::type_of;

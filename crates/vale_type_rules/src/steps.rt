@@ -2,8 +2,8 @@
 ghost use Rattle.std.specs.Prelude.{◌≡◌, map, option_map};
 ghost use Rattle.std.specs.Option.{option_and_then};
 ghost use Rattle.vale_syntax.specs.View.{view_field, view_head};
-ghost use Rattle.vale_syntax.specs.Types.{field_named, method_named};
-ghost use Rattle.vale_syntax.specs.TypeRules.{fields_seen, methods_seen, elements_seen, struct_fields};
+ghost use Rattle.vale_rules_spec.specs.Types.{field_named, method_named};
+ghost use Rattle.vale_rules_spec.specs.TypeRules.{fields_seen, methods_seen, elements_seen, struct_fields};
 ghost use Rattle.vale_core.specs.View.{view_ty, view_view};
 ghost use Rattle.vale_type_rules.specs.Table.{items_of};
 

@@ -42,7 +42,7 @@ impl Table {
     ghost use Rattle.std.specs.List.{list_any};
     ghost use Rattle.std.specs.Option.{option_and_then};
     ghost use Rattle.vale_syntax.specs.View.{view_field, view_head};
-    ghost use Rattle.vale_syntax.specs.Types.{fields_of, field_named, methods_of, method_named, function_named, is_impl, may_be_isolated};
+    ghost use Rattle.vale_rules_spec.specs.Types.{fields_of, field_named, methods_of, method_named, function_named, is_impl, may_be_isolated};
     ghost use Rattle.vale_type_rules.specs.Places.{place_from};
     ghost use Rattle.vale_type_rules.specs.Index.{keys_at, field_at, method_at};
     ghost use Rattle.vale_core.specs.View.{view_ty};

@@ -1,7 +1,7 @@
 // Whether an expression takes a local away: it names the local as a value, or sets it.
 ghost use Rattle.std.specs.Prelude.{◌≡◌, None, map, option_map};
 ghost use Rattle.vale_syntax.specs.View.{view_expr, view_form, view_step, view_stmt, view_block, view_else_if, view_link, exprs_of, links_of, steps_of, elses_of, else_end, stmts_of, last_end};
-ghost use Rattle.vale_syntax.specs.Takes.{is_local, takes, exprs_take, links_take, step_takes, steps_take, form_takes, else_if_takes, elses_take, block_takes, stmts_take, stmt_takes};
+ghost use Rattle.vale_rules_spec.specs.Takes.{is_local, takes, exprs_take, links_take, step_takes, steps_take, form_takes, else_if_takes, elses_take, block_takes, stmts_take, stmt_takes};
 
 use sqlite_items::Boxed;
 use vale_base::Name;

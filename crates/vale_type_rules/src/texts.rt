@@ -1,22 +1,11 @@
 // What names are called.
 ghost use Rattle.std.specs.Prelude.{◌≡◌};
-ghost use Rattle.vale_syntax.specs.Declarations.{is_called};
-ghost use Rattle.vale_syntax.specs.TypeRules.{built_in_among, built_ins};
+ghost use Rattle.vale_rules_spec.specs.TypeRules.{built_in_among, built_ins};
 ghost use Rattle.vale_type_rules.specs.Table.{names_of};
 
 use crate::table::Table;
-use vale_base::Text;
 use vale_syntax::{BuiltIn, NameAt};
-
-/// Whether the name has this text.
-fn is_called(names: &[Text], text: &[u8], name: NameAt) -> bool
-    ensures { result ≡ is_called names.now text.now name }
-{
-    match names.get(name.name.0 as usize) {
-        Some(found) => *text == *found.as_slice(),
-        None => false,
-    }
-}
+use vale_types::is_called;
 
 /// The built-in function that the name stands for.
 pub fn built_in_named(table: &Table, name: NameAt) -> Option<BuiltIn>

@@ -1,7 +1,7 @@
 // Types, from how they are written and from one another.
 ghost use Rattle.std.specs.Prelude.{◌≡◌, option_map, IfOk};
 ghost use Rattle.vale_syntax.specs.View.{view_type};
-ghost use Rattle.vale_syntax.specs.Types.{type_of, result_of, object_of};
+ghost use Rattle.vale_rules_spec.specs.Types.{type_of, result_of, object_of};
 ghost use Rattle.vale_core.specs.View.{view_ty};
 
 use sqlite_items::Boxed;

@@ -1,7 +1,7 @@
 // How a step sees its base.
 ghost use Rattle.std.specs.Prelude.{◌≡◌, ◌+◌, IfOk};
 ghost use Rattle.vale_syntax.specs.View.{view_expr};
-ghost use Rattle.vale_syntax.specs.Typing.{name_in, index_view};
+ghost use Rattle.vale_rules_spec.specs.Typing.{name_in, index_view};
 ghost use Rattle.vale_core.specs.Plain.{number_of};
 ghost use Rattle.vale_core.specs.View.{view_view};
 

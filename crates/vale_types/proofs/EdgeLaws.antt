@@ -9,8 +9,8 @@ use Rattle.vale_syntax.specs.declared.tree.Item.{Item}
 use Rattle.vale_syntax.specs.declared.tree.FieldDecl.{FieldDecl}
 use Rattle.vale_syntax.specs.View.{view_item, view_field}
 use Rattle.vale_syntax.specs.Tree as t
-use Rattle.vale_syntax.specs.Reach.{Edge}
-use Rattle.vale_syntax.specs.Declarations.{field_type, base_of, edge_to, leads_of, leads, iso_holder, iso_holders}
+use Rattle.vale_rules_spec.specs.Reach.{Edge}
+use Rattle.vale_rules_spec.specs.Declarations.{field_type, base_of, edge_to, leads_of, leads, iso_holder, iso_holders}
 use Rattle.vale_types.specs.Isos.{is_in, is_edge, field_edges, source_of, sources_of}
 use Rattle.vale_types.proofs.TestLaws.{or_here, or_there, or_none, or_or}
 

@@ -4,9 +4,9 @@ use Rattle.std.specs.Prelude.{Bool, true, ◌&&◌, ◌==◌, Result, Ok, Err, I
 use Rattle.std.specs.List.{list_any}
 use Rattle.std.proofs.lemmas.Bool.{and_parts, and_from, or_cases, eqb-true, eq-eqb}
 use Rattle.vale_syntax.specs.Tree.{Item}
-use Rattle.vale_syntax.specs.Reach.{Edge, Leads, IsReached, here, along, is_reached}
-use Rattle.vale_syntax.specs.Declarations.{leads, iso_holders}
-use Rattle.vale_syntax.proofs.ReachLaws.{itself_along, one_more, is_sound}
+use Rattle.vale_rules_spec.specs.Reach.{Edge, Leads, IsReached, here, along, is_reached}
+use Rattle.vale_rules_spec.specs.Declarations.{leads, iso_holders}
+use Rattle.vale_rules_spec.proofs.ReachLaws.{itself_along, one_more, is_sound}
 use Rattle.vale_base.specs.declared.fault.Memory.{Memory}
 use Rattle.vale_types.specs.declared.names.Names.{Names}
 use Rattle.vale_types.specs.Names.{has}

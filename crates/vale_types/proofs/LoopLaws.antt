@@ -7,7 +7,7 @@ use Rattle.std.proofs.lemmas.List.{drop_more, drop_all}
 use Rattle.vale_base.specs.declared.fault.Fail.{Fail}
 use Rattle.vale_base.specs.declared.fault.Fail.TheVariants.{Memory, Is}
 use Rattle.vale_syntax.specs.declared.fault.Fault.{Fault}
-use Rattle.vale_syntax.specs.Judged.{stopped, one_by_one, Gives}
+use Rattle.vale_rules_spec.specs.Judged.{stopped, one_by_one, Gives}
 use Rattle.vale_types.proofs.RowLaws.{next_part, faulty_part}
 
 module _ {X Y : Type 0} (judge : List Y → Y → List Fault) (view : X → Y) (before : List Y) (xs : List X) where

@@ -11,8 +11,8 @@ use Rattle.vale_syntax.specs.declared.tree.Form.TheVariants as f
 use Rattle.vale_syntax.specs.Tree as t
 use Rattle.vale_syntax.specs.Tree.{Item}
 use Rattle.vale_syntax.specs.View.{view_expr, view_form, view_stmt, view_block, view_else_if, elses_of, else_end, stmts_of, last_end}
-use Rattle.vale_syntax.specs.DeclFaults.{◌▸◌, in_expr, in_form, in_elses, in_block, in_stmts}
-use Rattle.vale_syntax.proofs.JudgedLaws.{◌>>=◌}
+use Rattle.vale_rules_spec.specs.DeclFaults.{◌▸◌, in_expr, in_form, in_elses, in_block, in_stmts}
+use Rattle.vale_rules_spec.proofs.JudgedLaws.{◌>>=◌}
 use Rattle.vale_syntax.proofs.ViewLaws.{of_if}
 use Rattle.vale_types.specs.Walk.{walked}
 use Rattle.vale_types.proofs.WalkLaws.{walked_then, walked_stmts, walked_elses}

@@ -3,8 +3,8 @@ use Rattle.std.proofs.Common.{◌≡◌, ℕ, List, [], ◌∷◌, refl, ◌∙�
 use Rattle.std.specs.Prelude.{Bool, true, false, Ok, Err}
 use Rattle.vale_base.specs.declared.spot.Spot.{Spot}
 use Rattle.vale_syntax.specs.declared.fault.Fault.{Fault}
-use Rattle.vale_syntax.specs.Judged.{Rules, own, stopped, one_by_one}
-use Rattle.vale_syntax.proofs.JudgedLaws.{◌>>=◌, stopped_then}
+use Rattle.vale_rules_spec.specs.Judged.{Rules, own, stopped, one_by_one}
+use Rattle.vale_rules_spec.proofs.JudgedLaws.{◌>>=◌, stopped_then}
 
 pub rule_then : {A : Type 0} (at : Spot) (code : ℕ) (holds : Bool) (rules : Rules) (a : A) → stopped (own at ((code, holds) ∷ rules)) a ≡ (stopped (own at ((code, holds) ∷ [])) a >>= λ a. stopped (own at rules) a)
 rule_then at code true rules a = refl

@@ -3,7 +3,7 @@ use Rattle.std.proofs.Common.{◌≡◌, ℕ, ◌+◌, ◌<◌, ◌≤◌, List,
 use Rattle.std.specs.Prelude.{Bool, true, false, ◌||◌, ◌==◌, if◌then◌else◌}
 use Rattle.std.proofs.lemmas.Bool.{or_cases, eqb-true, eq-eqb}
 use Rattle.std.proofs.lemmas.List.Folds.{list_any-append}
-use Rattle.vale_syntax.specs.Reach.{Edge}
+use Rattle.vale_rules_spec.specs.Reach.{Edge}
 use Rattle.vale_types.specs.declared.spread.Spread.{Spread}
 use Rattle.vale_types.specs.Names.{has}
 use Rattle.vale_types.specs.Isos.{is_in, is_edge, missing, Within, IsClosed, IsLeast}

@@ -9,10 +9,10 @@ use Rattle.vale_syntax.specs.declared.tree.TypeExpr.{TypeExpr}
 use Rattle.vale_syntax.specs.declared.tree.TypeExpr.TheVariants as x
 use Rattle.vale_syntax.specs.Tree.{Item}
 use Rattle.vale_syntax.specs.View.{view_type}
-use Rattle.vale_syntax.specs.Judged.{stopped, own}
-use Rattle.vale_syntax.specs.DeclRules.{iso_rules}
-use Rattle.vale_syntax.specs.DeclFaults.{type_faults}
-use Rattle.vale_syntax.proofs.JudgedLaws.{stopped_after}
+use Rattle.vale_rules_spec.specs.Judged.{stopped, own}
+use Rattle.vale_rules_spec.specs.DeclRules.{iso_rules}
+use Rattle.vale_rules_spec.specs.DeclFaults.{type_faults}
+use Rattle.vale_rules_spec.proofs.JudgedLaws.{stopped_after}
 use Rattle.vale_syntax.proofs.ViewLaws.{of_iso_type}
 
 pub isolate_then : (items : List Item) (position : Position) (at : Spot) (root : TypeExpr) (r : Result (Unit {0}) Fault)

@@ -2,11 +2,11 @@
 use Rattle.std.proofs.Common.{◌≡◌, sym, ◌∙◌, ℕ, ◌+◌, ◌-◌, List, [], ◌∷◌, ◌++◌, refl, ap, arith}
 use Rattle.std.specs.Prelude.{Result, Ok, Err}
 use Rattle.vale_syntax.specs.declared.fault.Fault.{Fault}
-use Rattle.vale_syntax.specs.Judged.{stopped}
-use Rattle.vale_syntax.specs.DeclFaults.{Body, nothing, names_here, type_here, ◌▸◌, in_stmt, in_stmts, in_else_if, in_elses}
+use Rattle.vale_rules_spec.specs.Judged.{stopped}
+use Rattle.vale_rules_spec.specs.DeclFaults.{Body, nothing, names_here, type_here, ◌▸◌, in_stmt, in_stmts, in_else_if, in_elses}
 use Rattle.vale_syntax.specs.Tree.{Item, Stmt, Stmts, no_stmts, more_stmts, ElseIf, Elses, no_else, more_elses}
 use Rattle.vale_syntax.specs.View.{listed}
-use Rattle.vale_syntax.proofs.JudgedLaws.{◌>>=◌}
+use Rattle.vale_rules_spec.proofs.JudgedLaws.{◌>>=◌}
 use Rattle.vale_types.specs.Walk.{walked}
 
 stopped_both : (fs gs : List Fault) (left m n : ℕ) → stopped (fs ++ gs) (left - (m + n)) ≡ (stopped fs (left - m) >>= λ l. stopped gs (l - n))

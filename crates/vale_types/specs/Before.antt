@@ -4,8 +4,8 @@ use Rattle.std.specs.List.{list_any}
 use Rattle.std.specs.Option.{option_map_or}
 use Rattle.vale_syntax.specs.declared.tree.NameAt.{NameAt}
 use Rattle.vale_syntax.specs.Tree.{Item}
-use Rattle.vale_syntax.specs.Declarations.{same_name, item_name, is_function_with, is_main}
-use Rattle.vale_syntax.specs.DeclRules.{drops_same}
+use Rattle.vale_rules_spec.specs.Declarations.{same_name, item_name, is_function_with, is_main}
+use Rattle.vale_rules_spec.specs.DeclRules.{drops_same}
 use Rattle.vale_types.specs.declared.names.Names.{Names}
 use Rattle.vale_types.specs.declared.before.Before.{Before}
 use Rattle.vale_types.specs.Names.{has}

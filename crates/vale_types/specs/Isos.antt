@@ -2,8 +2,8 @@
 use Rattle.std.specs.Prelude.{◌≡◌, ℕ, ◌+◌, Bool, true, ◌&&◌, ◌==◌, if◌then◌else◌, List, [], ◌∷◌, flat_map, filter_map, Option, Some, None}
 use Rattle.std.specs.List.{list_any}
 use Rattle.vale_syntax.specs.Tree.{FieldDecl, Item, struct_item, interface_item, impl_item, function_item}
-use Rattle.vale_syntax.specs.Reach.{Edge}
-use Rattle.vale_syntax.specs.Declarations.{field_type, base_of, edge_to}
+use Rattle.vale_rules_spec.specs.Reach.{Edge}
+use Rattle.vale_rules_spec.specs.Declarations.{field_type, base_of, edge_to}
 
 -- whether the number is in the list
 abbrev pub is_in : List ℕ → ℕ → Bool

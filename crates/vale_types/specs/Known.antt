@@ -3,9 +3,9 @@ use Rattle.std.specs.Prelude.{◌≡◌, ℕ, List}
 use Rattle.std.specs.List.{list_any}
 use Rattle.vale_syntax.specs.declared.tree.NameAt.{NameAt}
 use Rattle.vale_syntax.specs.Tree.{Item}
-use Rattle.vale_syntax.specs.Reach.{is_reached}
-use Rattle.vale_syntax.specs.Declarations.{is_struct_of, leads, iso_holders}
-use Rattle.vale_syntax.specs.DeclRules.{is_kind}
+use Rattle.vale_rules_spec.specs.Reach.{is_reached}
+use Rattle.vale_rules_spec.specs.Declarations.{is_struct_of, leads, iso_holders}
+use Rattle.vale_rules_spec.specs.DeclRules.{is_kind}
 use Rattle.vale_types.specs.declared.known.Known.{Known}
 use Rattle.vale_types.specs.Names.{has}
 

@@ -1,7 +1,7 @@
 // The bodies of functions: the types that stand in them, and the names that they declare.
 ghost use Rattle.std.specs.Prelude.{◌≡◌, map, option_map};
 ghost use Rattle.vale_syntax.specs.View.{view_item, view_expr, view_form, view_step, view_stmt, view_block, view_else_if, view_link, exprs_of, links_of, steps_of, elses_of, else_end, stmts_of, last_end};
-ghost use Rattle.vale_syntax.specs.DeclFaults.{in_expr, in_exprs, in_link, in_links, in_step, in_steps, in_form, in_else_if, in_elses, in_block, in_stmts, in_stmt};
+ghost use Rattle.vale_rules_spec.specs.DeclFaults.{in_expr, in_exprs, in_link, in_links, in_step, in_steps, in_form, in_else_if, in_elses, in_block, in_stmts, in_stmt};
 ghost use Rattle.vale_types.specs.Known.{Knows};
 ghost use Rattle.vale_types.specs.Walk.{walked};
 

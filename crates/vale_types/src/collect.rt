@@ -1,7 +1,7 @@
 // The declarations in order.
 ghost use Rattle.std.specs.Prelude.{◌≡◌, map, IfOk};
 ghost use Rattle.vale_syntax.specs.View.{view_item};
-ghost use Rattle.vale_syntax.specs.Declarations.{declarations};
+ghost use Rattle.vale_rules_spec.specs.Declarations.{declarations};
 
 use sqlite_items::Items;
 use std::alloc::Global;

@@ -1,10 +1,10 @@
 // Fields and heads.
 ghost use Rattle.std.specs.Prelude.{◌≡◌, map, option_map, List, [], ◌∷◌, OnOk};
 ghost use Rattle.vale_syntax.specs.Tree as t;
-ghost use Rattle.vale_syntax.specs.Judged.{stopped, one_by_one, Gives};
+ghost use Rattle.vale_rules_spec.specs.Judged.{stopped, one_by_one, Gives};
 ghost use Rattle.vale_syntax.specs.View.{view_item, view_type, view_field, view_param, view_head};
-ghost use Rattle.vale_syntax.specs.Declarations.{field_name, param_name};
-ghost use Rattle.vale_syntax.specs.DeclFaults.{field_faults, param_faults, result_faults, inside_head};
+ghost use Rattle.vale_rules_spec.specs.Declarations.{field_name, param_name};
+ghost use Rattle.vale_rules_spec.specs.DeclFaults.{field_faults, param_faults, result_faults, inside_head};
 ghost use Rattle.vale_types.specs.Known.{Knows};
 ghost use Rattle.vale_types.specs.Before.{AreNamesOf};
 

@@ -2,11 +2,11 @@
 ghost use Rattle.std.specs.Prelude.{◌≡◌, ℕ, map, List, [], ◌∷◌, OnOk, true};
 ghost use Rattle.std.specs.List.{list_any, list_all};
 ghost use Rattle.vale_syntax.specs.Tree as t;
-ghost use Rattle.vale_syntax.specs.Judged.{stopped, one_by_one, own, Gives};
+ghost use Rattle.vale_rules_spec.specs.Judged.{stopped, one_by_one, own, Gives};
 ghost use Rattle.vale_syntax.specs.View.{view_item, view_field, view_head, view_function};
-ghost use Rattle.vale_syntax.specs.Declarations.{is_function_with, is_lawful_main};
-ghost use Rattle.vale_syntax.specs.DeclRules as rules;
-ghost use Rattle.vale_syntax.specs.DeclFaults.{item_faults};
+ghost use Rattle.vale_rules_spec.specs.Declarations.{is_function_with, is_lawful_main};
+ghost use Rattle.vale_rules_spec.specs.DeclRules as rules;
+ghost use Rattle.vale_rules_spec.specs.DeclFaults.{item_faults};
 ghost use Rattle.vale_types.specs.Known.{Knows};
 ghost use Rattle.vale_types.specs.Before.{IsOf};
 ghost use Rattle.vale_types.specs.Plain.{is_plain};

@@ -3,8 +3,8 @@ ghost use Rattle.std.specs.Prelude.{◌≡◌, map, ◌||◌, IfOk};
 ghost use Rattle.std.specs.List.{list_any};
 ghost use Rattle.vale_syntax.specs.declared.tree.NameAt.{NameAt};
 ghost use Rattle.vale_syntax.specs.View.{view_item};
-ghost use Rattle.vale_syntax.specs.Declarations.{is_struct_of, is_interface_of};
-ghost use Rattle.vale_syntax.specs.DeclRules.{is_kind};
+ghost use Rattle.vale_rules_spec.specs.Declarations.{is_struct_of, is_interface_of};
+ghost use Rattle.vale_rules_spec.specs.DeclRules.{is_kind};
 ghost use Rattle.vale_types.specs.Names.{has};
 
 use crate::names::Names;

@@ -20,4 +20,6 @@ mod types;
 pub use names::Names;
 pub use program::{DeclFault, declare, has_no_interface};
 pub use reach::iso_names;
+pub use special::is_drop;
+pub use texts::is_called;
 pub use vale_syntax::{Declared, Decls, Implemented};

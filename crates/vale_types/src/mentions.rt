@@ -1,7 +1,7 @@
 // Which names mention a name.
 ghost use Rattle.std.specs.Prelude.{◌≡◌, ℕ, ◌&&◌, ◌||◌, ◌==◌, false, map, IfOk, OnOk};
 ghost use Rattle.vale_syntax.specs.View.{view_item, view_field};
-ghost use Rattle.vale_syntax.specs.Declarations.{leads, leads_of};
+ghost use Rattle.vale_rules_spec.specs.Declarations.{leads, leads_of};
 ghost use Rattle.vale_types.specs.Isos.{is_in, is_edge, field_edges};
 
 use crate::types::base_of;

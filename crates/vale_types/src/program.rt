@@ -2,10 +2,10 @@
 ghost use Rattle.std.specs.Prelude.{◌≡◌, ◌↔◌, map, IfOk, IsTrue};
 ghost use Rattle.vale_base.specs.Faults.{IfFault, IsValueUnlessMemory, IsFaultUnlessMemory};
 ghost use Rattle.vale_syntax.specs.View.{view_item, view_tree};
-ghost use Rattle.vale_syntax.specs.Judged.{first, Gives, IsFine, IsFirstFault, stopped, own};
-ghost use Rattle.vale_syntax.specs.Declarations.{declarations, is_function_with, is_main, is_lawful_main};
-ghost use Rattle.vale_syntax.specs.DeclRules.{program_rules};
-ghost use Rattle.vale_syntax.specs.DeclFaults.{declared, program_spot};
+ghost use Rattle.vale_rules_spec.specs.Judged.{first, Gives, IsFine, IsFirstFault, stopped, own};
+ghost use Rattle.vale_rules_spec.specs.Declarations.{declarations, is_function_with, is_main, is_lawful_main};
+ghost use Rattle.vale_rules_spec.specs.DeclRules.{program_rules};
+ghost use Rattle.vale_rules_spec.specs.DeclFaults.{declared, program_spot};
 ghost use Rattle.vale_syntax.specs.declared.decls.Decls.{Decls};
 ghost use Rattle.vale_syntax.specs.declared.fault.Fault.{Fault};
 ghost use Rattle.vale_types.specs.Plain.{is_plain, HasNoInterface};
@@ -69,7 +69,7 @@ fn check_program(names: &[Text], items: &[Item]) -> Result<(), Fault>
     kept(Spot { line: 1, col: 1 }, 13, has_main(names, items))
 }
 
-#[tactic(auto, using(vale_syntax::proofs::JudgedLaws::first_unless, vale_syntax::proofs::JudgedLaws::stopped_then))]
+#[tactic(auto, using(vale_rules_spec::proofs::JudgedLaws::first_unless, vale_rules_spec::proofs::JudgedLaws::stopped_then))]
 fn declare_all(alloc: Global, tree: &Tree) -> Result<Decls, Fail<Fault>>
     requires { HasNoInterface (view_tree tree.now) }
     ensures { Gives (λ d. d) result (first (declared (view_tree tree.now))) }
@@ -112,7 +112,7 @@ pub fn has_no_interface(tree: &Tree) -> bool
 /// Where a node of the tree breaks a rule of declarations (docs/LANGUAGE.md, "Declarations"), it answers the code and the
 /// spot of the first such node in post-order, and there the lowest code, from 10 to 17. Else it gives the structs,
 /// interfaces, implementations and functions in the order of the program.
-#[tactic(auto, using(vale_syntax::proofs::JudgedLaws::value_is_fine, vale_syntax::proofs::JudgedLaws::fault_is_first, vale_syntax::proofs::JudgedLaws::what_is_fine_is_given, vale_syntax::proofs::JudgedLaws::first_fault_is_given))]
+#[tactic(auto, using(vale_rules_spec::proofs::JudgedLaws::value_is_fine, vale_rules_spec::proofs::JudgedLaws::fault_is_first, vale_rules_spec::proofs::JudgedLaws::what_is_fine_is_given, vale_rules_spec::proofs::JudgedLaws::first_fault_is_given))]
 pub fn declare(alloc: Global, tree: &Tree) -> Result<Decls, Fail<DeclFault>>
     requires { HasNoInterface (view_tree tree.now) }
     ensures declared { IfOk result (λ d. IsFine (declared (view_tree tree.now)) d) }

@@ -2,8 +2,8 @@
 ghost use Rattle.std.specs.Prelude.{◌≡◌, ℕ, ◌||◌, Bool, true, false, map, Option, Some, None, if◌then◌else◌, IfOk, OnOk};
 ghost use Rattle.std.specs.List.{list_any};
 ghost use Rattle.vale_syntax.specs.View.{view_item, view_field};
-ghost use Rattle.vale_syntax.specs.Reach.{is_reached};
-ghost use Rattle.vale_syntax.specs.Declarations.{field_type, has_iso, leads, iso_holder, iso_holders};
+ghost use Rattle.vale_rules_spec.specs.Reach.{is_reached};
+ghost use Rattle.vale_rules_spec.specs.Declarations.{field_type, has_iso, leads, iso_holder, iso_holders};
 ghost use Rattle.vale_types.specs.Names.{has};
 ghost use Rattle.vale_types.specs.Isos.{is_in, IsLeast};
 ghost use Rattle.vale_types.specs.Spread.{finds, awaits};

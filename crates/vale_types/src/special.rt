@@ -1,7 +1,7 @@
 // Functions named `main` and `drop`.
 ghost use Rattle.std.specs.Prelude.{◌≡◌, map};
 ghost use Rattle.vale_syntax.specs.View.{view_item, view_head, view_param};
-ghost use Rattle.vale_syntax.specs.Declarations.{is_input, is_main, is_lawful_main, is_drop, drops};
+ghost use Rattle.vale_rules_spec.specs.Declarations.{is_input, is_main, is_lawful_main, is_drop, drops};
 ghost use Rattle.vale_types.specs.Known.{Knows};
 
 use crate::known::Known;
@@ -41,6 +41,7 @@ pub fn is_lawful_main(names: &[Text], head: &Head) -> bool
         && is_input(head.params.as_slice())
 }
 
+/// Whether it is a destructor's.
 pub fn is_drop(names: &[Text], head: &Head) -> bool
     ensures { result ≡ is_drop names.now (view_head head.now) }
 {

@@ -1,6 +1,6 @@
 // What names are called.
 ghost use Rattle.std.specs.Prelude.{◌≡◌};
-ghost use Rattle.vale_syntax.specs.Declarations.{is_called, is_built_in};
+ghost use Rattle.vale_rules_spec.specs.Declarations.{is_called, is_built_in};
 
 use vale_base::Text;
 use vale_syntax::NameAt;

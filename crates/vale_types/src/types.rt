@@ -1,10 +1,10 @@
 // The types of a program, as they are written.
 ghost use Rattle.std.specs.Prelude.{◌≡◌, map, [], ◌∷◌};
-ghost use Rattle.vale_syntax.specs.Judged.{stopped, own};
+ghost use Rattle.vale_rules_spec.specs.Judged.{stopped, own};
 ghost use Rattle.vale_syntax.specs.View.{view_item, view_type};
-ghost use Rattle.vale_syntax.specs.Declarations.{is_object, is_isolates, has_iso, base_of, reaches_iso};
-ghost use Rattle.vale_syntax.specs.DeclRules.{may_hold_frozen, may_hold_isolates, array_rules, ref_rules, imm_ref_rules, iso_rules, named_rules};
-ghost use Rattle.vale_syntax.specs.DeclFaults.{type_faults};
+ghost use Rattle.vale_rules_spec.specs.Declarations.{is_object, is_isolates, has_iso, base_of, reaches_iso};
+ghost use Rattle.vale_rules_spec.specs.DeclRules.{may_hold_frozen, may_hold_isolates, array_rules, ref_rules, imm_ref_rules, iso_rules, named_rules};
+ghost use Rattle.vale_rules_spec.specs.DeclFaults.{type_faults};
 ghost use Rattle.vale_types.specs.Known.{Knows};
 
 use crate::known::Known;
@@ -139,7 +139,7 @@ fn isolate(
 }
 
 /// The first fault of a type in this position.
-#[tactic(auto, using(vale_syntax::proofs::JudgedLaws::stopped_then, crate::proofs::TypeLaws::isolate_then))]
+#[tactic(auto, using(vale_rules_spec::proofs::JudgedLaws::stopped_then, crate::proofs::TypeLaws::isolate_then))]
 pub fn check_type(
     items: &[Item],
     known: &Known,

@@ -1,6 +1,6 @@
 -- The locals of a block, with one more.
 use Rattle.std.proofs.Common.{◌≡◌, List, [], ◌∷◌, ◌++◌, refl}
-use Rattle.vale_syntax.specs.Types as y
+use Rattle.vale_rules_spec.specs.Types as y
 use Rattle.vale_type_rules.specs.declared.scope.Local.{Local}
 use Rattle.vale_type_rules.specs.Scope.{view_local, framed}
 

@@ -9,16 +9,16 @@ use Rattle.vale_syntax.specs.declared.tree.Expr.{Expr}
 use Rattle.vale_syntax.specs.declared.tree.Block.{Block}
 use Rattle.vale_syntax.specs.declared.tree.ElseIf.{ElseIf}
 use Rattle.vale_syntax.specs.declared.tree.Form.TheVariants as f
-use Rattle.vale_syntax.specs.Judged.{broken, first, leaf, Gives}
+use Rattle.vale_rules_spec.specs.Judged.{broken, first, leaf, Gives}
 use Rattle.vale_syntax.specs.Tree as e
 use Rattle.vale_syntax.specs.Tree.{Item}
-use Rattle.vale_syntax.specs.Types as y
-use Rattle.vale_syntax.specs.TypeRules.{branch_rules}
-use Rattle.vale_syntax.specs.Typed as t
-use Rattle.vale_syntax.specs.Typed.{type, block_type, condition_types, block_types, has_else}
-use Rattle.vale_syntax.specs.Typing.{Env, expr, in_form, in_else_if, in_block, elses}
+use Rattle.vale_rules_spec.specs.Types as y
+use Rattle.vale_rules_spec.specs.TypeRules.{branch_rules}
+use Rattle.vale_rules_spec.specs.Typed as t
+use Rattle.vale_rules_spec.specs.Typed.{type, block_type, condition_types, block_types, has_else}
+use Rattle.vale_rules_spec.specs.Typing.{Env, expr, in_form, in_else_if, in_block, elses}
 use Rattle.vale_syntax.specs.View.{listed, view_expr, view_form, view_block, view_else_if, elses_of, else_end}
-use Rattle.vale_syntax.proofs.JudgedLaws.{◌>>=◌, meets, first_leaf}
+use Rattle.vale_rules_spec.proofs.JudgedLaws.{◌>>=◌, meets, first_leaf}
 use Rattle.vale_syntax.proofs.ViewLaws.{of_if}
 use Rattle.vale_typing.proofs.LoopLaws.{with_parts, no_parts, first_pair}
 use Rattle.vale_typing.proofs.NodeLaws.{third_left}

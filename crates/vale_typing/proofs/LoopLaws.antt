@@ -5,9 +5,9 @@ use Rattle.std.proofs.lemmas.List.{drop_more, drop_all, map-append}
 use Rattle.vale_base.specs.declared.fault.Fail.{Fail}
 use Rattle.vale_base.specs.declared.fault.Fail.TheVariants.{Memory, Is}
 use Rattle.vale_syntax.specs.declared.fault.Fault.{Fault}
-use Rattle.vale_syntax.specs.Judged.{Judged, fine, faulty, first, both, scoped, plain, Gives}
+use Rattle.vale_rules_spec.specs.Judged.{Judged, fine, faulty, first, both, scoped, plain, Gives}
 use Rattle.vale_syntax.specs.View.{listed}
-use Rattle.vale_syntax.proofs.JudgedLaws.{◌>>=◌}
+use Rattle.vale_rules_spec.proofs.JudgedLaws.{◌>>=◌}
 
 -- what a loop gives that has these parts and meets this answer for those that are left
 abbrev pub with_parts : {A L : Type 0} → (A → L → L) → List A → Result L Fault → Result L Fault

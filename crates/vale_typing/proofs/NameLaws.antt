@@ -4,11 +4,11 @@ use Rattle.std.specs.Prelude.{Result, Ok, Err, Option, Some, None}
 use Rattle.vale_base.specs.declared.spot.Spot.{Spot}
 use Rattle.vale_syntax.specs.declared.fault.Fault.{Fault}
 use Rattle.vale_syntax.specs.declared.tree.NameAt.{NameAt}
-use Rattle.vale_syntax.specs.Judged.{broken, first}
-use Rattle.vale_syntax.specs.TypeRules.{new_name_rules}
-use Rattle.vale_syntax.specs.Types.{void}
-use Rattle.vale_syntax.specs.Typing.{Env, with_local, new_name, new_names}
-use Rattle.vale_syntax.proofs.JudgedLaws.{◌>>=◌, meets, first_leaf}
+use Rattle.vale_rules_spec.specs.Judged.{broken, first}
+use Rattle.vale_rules_spec.specs.TypeRules.{new_name_rules}
+use Rattle.vale_rules_spec.specs.Types.{void}
+use Rattle.vale_rules_spec.specs.Typing.{Env, with_local, new_name, new_names}
+use Rattle.vale_rules_spec.proofs.JudgedLaws.{◌>>=◌, meets, first_leaf}
 use Rattle.vale_typing.proofs.LoopLaws.{with_parts, part_passes, pair_passes, first_pair}
 
 -- one name more

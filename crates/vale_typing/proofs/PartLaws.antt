@@ -1,22 +1,21 @@
 -- What is known of a block, of an `if` and of an operator, by their parts.
-use Rattle.std.proofs.Common.{◌≡◌, ℕ, List, ap, ◌∙◌, rules}
+use Rattle.std.proofs.Common.{◌≡◌, ℕ, List, ap, ◌∙◌}
 use Rattle.std.specs.Prelude.{Ok, map, option_map, true}
 use Rattle.vale_syntax.specs.declared.tree.Block.{Block, out-Block}
 use Rattle.vale_syntax.specs.declared.tree.ElseIf.{ElseIf, out-ElseIf}
 use Rattle.vale_syntax.specs.declared.tree.Link.{Link, out-Link}
-use Rattle.vale_syntax.specs.declared.tree.Expr as source
-use Rattle.vale_syntax.specs.Judged.{broken, first, both, plain, node}
+use Rattle.vale_rules_spec.specs.Judged.{broken, first, both, plain, node}
 use Rattle.vale_syntax.specs.Tree as e
 use Rattle.vale_syntax.specs.Tree.{Item}
-use Rattle.vale_syntax.specs.Types.{Seen, a_value}
-use Rattle.vale_syntax.specs.TypeRules.{void_rules, link_rules, link_gives}
-use Rattle.vale_syntax.specs.Typed as t
-use Rattle.vale_syntax.specs.Typed.{type, stmts_type, block_type, condition_types, has_else}
-use Rattle.vale_syntax.specs.Typing.{Env, block_spot, expr, operand, stmts, in_else_if, in_block, void_block}
+use Rattle.vale_rules_spec.specs.Types.{Seen, a_value}
+use Rattle.vale_rules_spec.specs.TypeRules.{void_rules, link_rules, link_gives}
+use Rattle.vale_rules_spec.specs.Typed as t
+use Rattle.vale_rules_spec.specs.Typed.{type, stmts_type, block_type, condition_types, has_else}
+use Rattle.vale_rules_spec.specs.Typing.{Env, block_spot, expr, operand, stmts, in_else_if, in_block, void_block}
 use Rattle.vale_syntax.specs.View as v
 use Rattle.vale_syntax.specs.View.{listed}
-use Rattle.vale_syntax.proofs.JudgedLaws.{◌>>=◌, meets, first_node, first_plain}
-use Rattle.vale_type_rules.proofs.ReturnLaws.{of_out_block, of_out_else_if}
+use Rattle.vale_rules_spec.proofs.JudgedLaws.{◌>>=◌, meets, first_node, first_plain}
+use Rattle.vale_syntax.proofs.PartLaws.{of_out_block, of_out_else_if, of_out_link}
 
 pub of_block_spot : (b : Block) → block_spot (v.view_block b) ≡ (out-Block b).at
 of_block_spot b = ap block_spot (of_out_block b)
@@ -35,9 +34,6 @@ module _ (names : List (List ℕ)) (items : List Item) (env : Env) where
 
   pub in_else_if_parts : (x : ElseIf) → first (in_else_if names items env (v.view_else_if x)) ≡ first (plain (λ a. t.else_if (out-ElseIf x).at a.0 a.1) (both (expr names items env true (v.view_expr (out-ElseIf x).condition)) (in_block names items env (v.view_block (out-ElseIf x).block))))
   in_else_if_parts x = ap (λ (y : e.ElseIf). first (in_else_if names items env y)) (of_out_else_if x)
-
-  of_out_link : (l : Link) → v.view_link l ≡ e.link (out-Link l).at (out-Link l).op (v.view_expr (out-Link l).operand)
-  of_out_link l = search (rules, source.the_lemmas)
 
   pub in_link : (s : Seen) (l : Link) → first (operand names items env s (v.view_link l)) ≡ first (node (out-Link l).at (λ a. link_rules (out-Link l).op s.value (type a)) (λ a. t.link (a_value (link_gives (out-Link l).op s.value)) (out-Link l).at (out-Link l).op a) (expr names items env true (v.view_expr (out-Link l).operand)))
   in_link s l = ap (λ (y : e.Link). first (operand names items env s y)) (of_out_link l)

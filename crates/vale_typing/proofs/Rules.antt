@@ -1,7 +1,7 @@
 -- The laws by which the walk is proved.
 use Rattle.vale_syntax.proofs.ViewLaws as v
 use Rattle.vale_core.proofs.ViewLaws as c
-use Rattle.vale_syntax.proofs.JudgedLaws.{first_own, first_node, first_plain, first_both, first_scoped}
+use Rattle.vale_rules_spec.proofs.JudgedLaws.{first_own, first_node, first_plain, first_both, first_scoped}
 use Rattle.vale_typing.proofs.PartLaws.{first_void, in_link, in_else_if_parts, in_block_parts}
 
 pub ruleset exprs = (first_own, first_node, first_plain, first_both, first_scoped, v.of_set, v.of_chain, v.of_unary, v.of_steps, v.of_number, v.of_quote, v.of_truth, v.of_name, v.of_call, v.of_paren, v.of_array, v.of_iso, v.of_form)

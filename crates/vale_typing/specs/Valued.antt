@@ -1,8 +1,8 @@
 -- What parts of blocks and of forms stand for.
 use Rattle.std.specs.Prelude.{map, option_map}
 use Rattle.vale_core.specs.View.{stmts_of, view_ty, view_expr, view_form, view_stmt}
-use Rattle.vale_syntax.specs.Types as y
-use Rattle.vale_syntax.specs.Typed as t
+use Rattle.vale_rules_spec.specs.Types as y
+use Rattle.vale_rules_spec.specs.Typed as t
 use Rattle.vale_typing.specs.declared.valued.Inside.{Inside}
 use Rattle.vale_typing.specs.declared.valued.Valued.{Valued}
 

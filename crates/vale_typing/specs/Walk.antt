@@ -6,9 +6,9 @@ use Rattle.vale_core.specs.declared.tree.Expr.{Expr}
 use Rattle.vale_core.specs.declared.tree.Link.{Link}
 use Rattle.vale_core.specs.declared.tree.Step.{Step}
 use Rattle.vale_core.specs.View.{exprs_of, links_of, steps_of, elses_of, else_end, last_end, view_expr, view_link, view_step, view_else_if, view_block}
-use Rattle.vale_syntax.specs.Types.{Ty, Local}
-use Rattle.vale_syntax.specs.Typed as t
-use Rattle.vale_syntax.specs.Typing.{Env}
+use Rattle.vale_rules_spec.specs.Types.{Ty, Local}
+use Rattle.vale_rules_spec.specs.Typed as t
+use Rattle.vale_rules_spec.specs.Typing.{Env}
 
 abbrev pub env_at : Ty → ℕ → List Local → Env
 env_at gives depth scope = record { gives = gives; depth = depth; scope = scope }

@@ -1,12 +1,12 @@
 // One walk over the bodies: each part's parts, and then the part itself.
 ghost use Rattle.std.specs.Prelude.{◌≡◌, None, map, option_map};
-ghost use Rattle.vale_syntax.specs.Judged.{first, Gives};
+ghost use Rattle.vale_rules_spec.specs.Judged.{first, Gives};
 ghost use Rattle.vale_syntax.specs.View.{view_expr, view_form, view_step, view_stmt, view_block, view_else_if, view_link, exprs_of, links_of, steps_of, elses_of, else_end, stmts_of, last_end, return_of};
 ghost use Rattle.vale_syntax.specs.declared.tree.Block.{out-Block};
 ghost use Rattle.vale_syntax.specs.Tree as e;
-ghost use Rattle.vale_syntax.specs.Typing as d;
-ghost use Rattle.vale_syntax.specs.Typed.{seen};
-ghost use Rattle.vale_syntax.specs.Typing.{with_local, name_in};
+ghost use Rattle.vale_rules_spec.specs.Typing as d;
+ghost use Rattle.vale_rules_spec.specs.Typed.{seen};
+ghost use Rattle.vale_rules_spec.specs.Typing.{with_local, name_in};
 ghost use Rattle.vale_core.specs.Plain.{number_of};
 ghost use Rattle.vale_core.specs.View as c;
 ghost use Rattle.vale_core.specs.View.{view_ty, view_seen};

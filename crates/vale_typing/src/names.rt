@@ -1,12 +1,12 @@
 // The names that are declared, and what steps and operators say of their parts.
 ghost use Rattle.std.specs.Prelude.{◌≡◌, ◌+◌, ◌<◌, List, IfOk, OnOk, length, drop, map};
-ghost use Rattle.vale_syntax.specs.Judged.{first, leaf, Gives};
+ghost use Rattle.vale_rules_spec.specs.Judged.{first, leaf, Gives};
 ghost use Rattle.vale_syntax.specs.View.{view_step, steps_of};
-ghost use Rattle.vale_syntax.specs.Takes.{is_value_under};
-ghost use Rattle.vale_syntax.specs.Types as y;
-ghost use Rattle.vale_syntax.specs.TypeRules.{new_name_rules, isolate_in};
-ghost use Rattle.vale_syntax.specs.Typed.{type};
-ghost use Rattle.vale_syntax.specs.Typing.{new_names, with_local, with_locals, after, isolate_of, is_used};
+ghost use Rattle.vale_rules_spec.specs.Takes.{is_value_under};
+ghost use Rattle.vale_rules_spec.specs.Types as y;
+ghost use Rattle.vale_rules_spec.specs.TypeRules.{new_name_rules, isolate_in};
+ghost use Rattle.vale_rules_spec.specs.Typed.{type};
+ghost use Rattle.vale_rules_spec.specs.Typing.{new_names, with_local, with_locals, after, isolate_of, is_used};
 ghost use Rattle.vale_core.specs.View.{view_ty, view_expr, view_stmt};
 ghost use Rattle.vale_type_rules.specs.Scope.{framed, locals};
 ghost use Rattle.vale_typing.specs.Walk.{env_at};
@@ -20,7 +20,7 @@ use vale_type_faults::new_name_fault;
 use vale_type_rules::{Local, Scope, type_in};
 
 /// Whether the name is a new one.
-#[tactic(auto, using(vale_syntax::proofs::JudgedLaws::first_leaf))]
+#[tactic(auto, using(vale_rules_spec::proofs::JudgedLaws::first_leaf))]
 pub fn new_name(scope: &Scope, name: NameAt) -> Result<(), Fail<Fault>>
     ensures { Gives (λ u. name) result (first (leaf name.at (new_name_rules name (locals scope.now)) name)) }
 {

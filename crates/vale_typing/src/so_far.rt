@@ -1,8 +1,8 @@
 // What there is of a list of parts whose walk is under way.
 ghost use Rattle.std.specs.Prelude.{◌≡◌, ◌∷◌, ◌++◌, [], None, List, IfOk, OnOk};
-ghost use Rattle.vale_syntax.specs.Types as y;
-ghost use Rattle.vale_syntax.specs.Typed.{link_seen, step_seen};
-ghost use Rattle.vale_syntax.specs.Typing.{after};
+ghost use Rattle.vale_rules_spec.specs.Types as y;
+ghost use Rattle.vale_rules_spec.specs.Typed.{link_seen, step_seen};
+ghost use Rattle.vale_rules_spec.specs.Typing.{after};
 ghost use Rattle.vale_core.specs.View.{view_seen, view_link, view_step, view_stmt};
 ghost use Rattle.vale_type_rules.specs.Scope.{framed};
 ghost use Rattle.vale_typing.specs.Walk.{env_at};

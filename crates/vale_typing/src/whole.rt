@@ -1,13 +1,13 @@
 // Functions, items and the whole program.
 ghost use Rattle.std.specs.Prelude.{◌≡◌, List, [], IfOk, map};
 ghost use Rattle.vale_base.specs.Faults.{IfFault, IsValueUnlessMemory, IsFaultUnlessMemory};
-ghost use Rattle.vale_syntax.specs.DeclFaults.{declared};
-ghost use Rattle.vale_syntax.specs.Declarations.{head_name};
-ghost use Rattle.vale_syntax.specs.Judged.{first, leaf, Gives, IsFine, IsFirstFault};
-ghost use Rattle.vale_syntax.specs.TypeRules.{head_gives, function_rules};
-ghost use Rattle.vale_syntax.specs.Typed as t;
-ghost use Rattle.vale_syntax.specs.Typing.{with_params, in_function, in_functions, in_item, in_items, typed};
-ghost use Rattle.vale_syntax.specs.Types as y;
+ghost use Rattle.vale_rules_spec.specs.DeclFaults.{declared};
+ghost use Rattle.vale_rules_spec.specs.Declarations.{head_name};
+ghost use Rattle.vale_rules_spec.specs.Judged.{first, leaf, Gives, IsFine, IsFirstFault};
+ghost use Rattle.vale_rules_spec.specs.TypeRules.{head_gives, function_rules};
+ghost use Rattle.vale_rules_spec.specs.Typed as t;
+ghost use Rattle.vale_rules_spec.specs.Typing.{with_params, in_function, in_functions, in_item, in_items, typed};
+ghost use Rattle.vale_rules_spec.specs.Types as y;
 ghost use Rattle.vale_syntax.specs.View.{view_param, view_head, view_function, view_item, view_tree};
 ghost use Rattle.vale_syntax.specs.declared.fault.Fault.{Fault};
 ghost use Rattle.vale_core.specs.View as c;
@@ -21,11 +21,13 @@ use crate::copies::{copy_fields, copy_head, copy_heads};
 use sqlite_items::Items;
 use std::alloc::Global;
 use vale_base::{Fail, Memory};
-use vale_core::{Block as TypedBlock, Core, Function as TypedFunction, Item as TypedItem};
+use vale_core::{
+    Block as TypedBlock, Core, Function as TypedFunction, Item as TypedItem, block_returns,
+};
 use vale_held::Held;
 use vale_syntax::{Decls, Fault, Function, Head, Item, Param, Tree};
 use vale_type_faults::function_fault;
-use vale_type_rules::{Local, Scope, Table, block_returns, result_of, type_of};
+use vale_type_rules::{Local, Scope, Table, result_of, type_of};
 
 /// The locals that the parameters of a function are.
 fn params_in(alloc: Global, params: &[Param]) -> Result<Vec<Local>, Memory>
@@ -44,7 +46,7 @@ fn params_in(alloc: Global, params: &[Param]) -> Result<Vec<Local>, Memory>
 }
 
 /// A function over its body, which always returns or doesn't.
-#[tactic(auto, using(vale_syntax::proofs::JudgedLaws::first_leaf))]
+#[tactic(auto, using(vale_rules_spec::proofs::JudgedLaws::first_leaf))]
 fn function_over(
     alloc: Global,
     head: &Head,
@@ -75,7 +77,7 @@ fn type_function(
     let outside = Scope::Outside;
     let scope = Scope::Frame(&locals, &outside);
     let body = type_void_block(alloc, table, &function.body, gives.get(), 0, &scope)?;
-    let returns = block_returns(&function.body);
+    let returns = block_returns(body.get());
     function_over(alloc, &function.head, returns, body)
 }
 
@@ -143,7 +145,7 @@ fn type_tree(alloc: Global, tree: Tree) -> Result<Core, Fail<Fault>>
 /// Where a node of the tree breaks a rule of types (docs/LANGUAGE.md, "Types"), it answers the code and the spot of the
 /// first such node in post-order, and there the lowest code, from 20 to 28. Else it gives the tree with what is known of
 /// each expression.
-#[tactic(auto, using(vale_syntax::proofs::JudgedLaws::value_is_fine, vale_syntax::proofs::JudgedLaws::fault_is_first, vale_syntax::proofs::JudgedLaws::what_is_fine_is_given, vale_syntax::proofs::JudgedLaws::first_fault_is_given))]
+#[tactic(auto, using(vale_rules_spec::proofs::JudgedLaws::value_is_fine, vale_rules_spec::proofs::JudgedLaws::fault_is_first, vale_rules_spec::proofs::JudgedLaws::what_is_fine_is_given, vale_rules_spec::proofs::JudgedLaws::first_fault_is_given))]
 pub fn type_all(alloc: Global, tree: Tree, _decls: &Decls) -> Result<Core, Fail<TypeFault>>
     requires plain { HasNoInterface (view_tree tree) }
     requires declared { IsFine (declared (view_tree tree)) _decls.now }

@@ -1,10 +1,10 @@
 // Calls over their arguments: what each gives, or its own fault.
 ghost use Rattle.std.specs.Prelude.{map};
-ghost use Rattle.vale_syntax.specs.Judged.{first, leaf, Gives};
-ghost use Rattle.vale_syntax.specs.Types.{a_value};
-ghost use Rattle.vale_syntax.specs.Typed as t;
-ghost use Rattle.vale_syntax.specs.Typed.{types};
-ghost use Rattle.vale_syntax.specs.TypeRules.{called, called_rules, called_gives, callee};
+ghost use Rattle.vale_rules_spec.specs.Judged.{first, leaf, Gives};
+ghost use Rattle.vale_rules_spec.specs.Types.{a_value};
+ghost use Rattle.vale_rules_spec.specs.Typed as t;
+ghost use Rattle.vale_rules_spec.specs.Typed.{types};
+ghost use Rattle.vale_rules_spec.specs.TypeRules.{called, called_rules, called_gives, callee};
 ghost use Rattle.vale_core.specs.View.{exprs_of, view_expr};
 ghost use Rattle.vale_type_rules.specs.Table.{names_of, items_of};
 
@@ -18,7 +18,7 @@ use vale_type_faults::{called_by, called_fault, called_gives, callee};
 use vale_type_rules::{Table, a_value, types_in};
 
 /// A call.
-#[tactic(auto, using(vale_syntax::proofs::JudgedLaws::first_leaf))]
+#[tactic(auto, using(vale_rules_spec::proofs::JudgedLaws::first_leaf))]
 pub fn call(
     alloc: Global,
     table: &Table,

@@ -1,12 +1,12 @@
 // Operators and steps behind what they start from: what each is, or its own fault.
 ghost use Rattle.std.specs.Prelude.{map};
 ghost use Rattle.std.specs.Option.{option_and_then};
-ghost use Rattle.vale_syntax.specs.Judged.{first, leaf, fine, Gives};
-ghost use Rattle.vale_syntax.specs.Types.{a_value, field_named, method_named};
-ghost use Rattle.vale_syntax.specs.Typed as t;
-ghost use Rattle.vale_syntax.specs.Typed.{type};
-ghost use Rattle.vale_syntax.specs.TypeRules.{link_rules, link_gives, fields_seen, methods_seen, elements_seen, index_rules, part_of};
-ghost use Rattle.vale_syntax.specs.Typing.{field_step, method_step};
+ghost use Rattle.vale_rules_spec.specs.Judged.{first, leaf, fine, Gives};
+ghost use Rattle.vale_rules_spec.specs.Types.{a_value, field_named, method_named};
+ghost use Rattle.vale_rules_spec.specs.Typed as t;
+ghost use Rattle.vale_rules_spec.specs.Typed.{type};
+ghost use Rattle.vale_rules_spec.specs.TypeRules.{link_rules, link_gives, fields_seen, methods_seen, elements_seen, index_rules, part_of};
+ghost use Rattle.vale_rules_spec.specs.Typing.{field_step, method_step};
 ghost use Rattle.vale_core.specs.View.{exprs_of, view_ty, view_view, view_seen, view_expr, view_link, view_step};
 ghost use Rattle.vale_type_rules.specs.Table.{names_of, items_of};
 
@@ -23,7 +23,7 @@ use vale_type_faults::{
 use vale_type_rules::{Table, a_value, copy_view, field_seen, type_in, types_in};
 
 /// `.f`.
-#[tactic(auto, using(vale_syntax::proofs::JudgedLaws::first_leaf))]
+#[tactic(auto, using(vale_rules_spec::proofs::JudgedLaws::first_leaf))]
 pub fn field(
     alloc: Global,
     table: &Table,
@@ -45,7 +45,7 @@ pub fn field(
 }
 
 /// `.m(args)`.
-#[tactic(auto, using(vale_syntax::proofs::JudgedLaws::first_leaf))]
+#[tactic(auto, using(vale_rules_spec::proofs::JudgedLaws::first_leaf))]
 pub fn method(
     alloc: Global,
     table: &Table,
@@ -66,7 +66,7 @@ pub fn method(
 }
 
 /// `[e]`, which sees its base so.
-#[tactic(auto, using(vale_syntax::proofs::JudgedLaws::first_leaf))]
+#[tactic(auto, using(vale_rules_spec::proofs::JudgedLaws::first_leaf))]
 pub fn index(
     alloc: Global,
     as_value: bool,
@@ -86,7 +86,7 @@ pub fn index(
 }
 
 /// An operator and the operand after it, behind an operand of which this is known.
-#[tactic(auto, using(vale_syntax::proofs::JudgedLaws::first_leaf))]
+#[tactic(auto, using(vale_rules_spec::proofs::JudgedLaws::first_leaf))]
 pub fn operand(
     alloc: Global,
     before: &Seen,

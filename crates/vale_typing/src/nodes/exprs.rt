@@ -1,12 +1,12 @@
 // Expressions over their parts: what each is, or its own fault.
 ghost use Rattle.std.specs.Prelude.{Ok, map};
-ghost use Rattle.vale_syntax.specs.Judged.{first, leaf, Gives};
-ghost use Rattle.vale_syntax.specs.Types as y;
-ghost use Rattle.vale_syntax.specs.Types.{a_value, type_of};
+ghost use Rattle.vale_rules_spec.specs.Judged.{first, leaf, Gives};
+ghost use Rattle.vale_rules_spec.specs.Types as y;
+ghost use Rattle.vale_rules_spec.specs.Types.{a_value, type_of};
 ghost use Rattle.vale_syntax.specs.View.{view_type};
-ghost use Rattle.vale_syntax.specs.Typed as t;
-ghost use Rattle.vale_syntax.specs.Typed.{seen, type, types, chain_seen, steps_seen};
-ghost use Rattle.vale_syntax.specs.TypeRules.{unary_rules, unary_gives, array_rules};
+ghost use Rattle.vale_rules_spec.specs.Typed as t;
+ghost use Rattle.vale_rules_spec.specs.Typed.{seen, type, types, chain_seen, steps_seen};
+ghost use Rattle.vale_rules_spec.specs.TypeRules.{unary_rules, unary_gives, array_rules};
 ghost use Rattle.vale_core.specs.View.{exprs_of, links_of, steps_of, view_expr, view_link, view_step};
 ghost use Rattle.vale_type_rules.specs.Table.{items_of};
 ghost use Rattle.vale_typing.specs.Valued.{view_valued};
@@ -70,7 +70,7 @@ pub fn form(alloc: Global, form: Held<Valued>) -> Result<Held<Expr>, Fail<Fault>
 }
 
 /// `[]T(args)`.
-#[tactic(auto, using(vale_syntax::proofs::JudgedLaws::first_leaf, vale_type_rules::proofs::TyLaws::types))]
+#[tactic(auto, using(vale_rules_spec::proofs::JudgedLaws::first_leaf, vale_type_rules::proofs::TyLaws::types))]
 pub fn array(
     alloc: Global,
     table: &Table,
@@ -91,7 +91,7 @@ pub fn array(
 }
 
 /// An operator before its operand.
-#[tactic(auto, using(vale_syntax::proofs::JudgedLaws::first_leaf))]
+#[tactic(auto, using(vale_rules_spec::proofs::JudgedLaws::first_leaf))]
 pub fn unary(
     alloc: Global,
     at: Spot,

@@ -1,11 +1,11 @@
 // Blocks and forms over their parts: what each is, or its own fault.
 ghost use Rattle.std.specs.Prelude.{◌≡◌, ◌∷◌, Ok, IfOk, map, option_map};
-ghost use Rattle.vale_syntax.specs.Judged.{first, leaf, Gives};
+ghost use Rattle.vale_rules_spec.specs.Judged.{first, leaf, Gives};
 ghost use Rattle.vale_syntax.specs.View as e;
-ghost use Rattle.vale_syntax.specs.Typing.{block_spot};
-ghost use Rattle.vale_syntax.specs.Typed as t;
-ghost use Rattle.vale_syntax.specs.Typed.{type, block_type, stmts_type, condition_types, block_types, has_else};
-ghost use Rattle.vale_syntax.specs.TypeRules.{void_rules, branch_rules, consumed_rules};
+ghost use Rattle.vale_rules_spec.specs.Typing.{block_spot};
+ghost use Rattle.vale_rules_spec.specs.Typed as t;
+ghost use Rattle.vale_rules_spec.specs.Typed.{type, block_type, stmts_type, condition_types, block_types, has_else};
+ghost use Rattle.vale_rules_spec.specs.TypeRules.{void_rules, branch_rules, consumed_rules};
 ghost use Rattle.vale_core.specs.View.{elses_of, last_end, view_ty, view_expr, view_block, view_else_if};
 ghost use Rattle.vale_typing.specs.Valued.{view_inside, view_valued};
 
@@ -21,7 +21,7 @@ use vale_type_faults::{branch_fault, consumed_fault, void_fault};
 use vale_type_rules::{block_type, type_in};
 
 /// The block of a function, a `while` or a `foreach`.
-#[tactic(auto, using(vale_syntax::proofs::JudgedLaws::first_leaf, crate::proofs::PartLaws::of_block_spot))]
+#[tactic(auto, using(vale_rules_spec::proofs::JudgedLaws::first_leaf, crate::proofs::PartLaws::of_block_spot))]
 pub fn void_block(of: &source::Block, block: Held<Block>) -> Result<Held<Block>, Fail<Fault>>
     ensures { Gives view_block result (first (leaf (block_spot (e.view_block of.now)) (void_rules (block_type (view_block block))) (view_block block))) }
 {
@@ -32,7 +32,7 @@ pub fn void_block(of: &source::Block, block: Held<Block>) -> Result<Held<Block>,
 }
 
 /// The array of isolates that a loop consumes.
-#[tactic(auto, using(vale_syntax::proofs::JudgedLaws::first_leaf))]
+#[tactic(auto, using(vale_rules_spec::proofs::JudgedLaws::first_leaf))]
 pub fn consumed(at: Spot, over: Held<Expr>) -> Result<Held<Expr>, Fail<Fault>>
     ensures { Gives view_expr result (first (leaf at (consumed_rules (type (view_expr over))) (view_expr over))) }
 {
@@ -75,7 +75,7 @@ pub fn else_if(
 }
 
 /// `if c { } else if d { } else { }`.
-#[tactic(auto, using(vale_syntax::proofs::JudgedLaws::first_leaf))]
+#[tactic(auto, using(vale_rules_spec::proofs::JudgedLaws::first_leaf))]
 pub fn branch(
     alloc: Global,
     at: Spot,

@@ -1,11 +1,11 @@
 // Isolates and parallel loops over their parts: what each is, or its own fault.
 ghost use Rattle.std.specs.Prelude.{Ok};
-ghost use Rattle.vale_syntax.specs.Judged.{first, leaf, Gives};
-ghost use Rattle.vale_syntax.specs.Types as y;
-ghost use Rattle.vale_syntax.specs.Types.{a_value};
-ghost use Rattle.vale_syntax.specs.Typed as t;
-ghost use Rattle.vale_syntax.specs.Typed.{type, block_type};
-ghost use Rattle.vale_syntax.specs.TypeRules.{iso_rules, bounds_rules, parallel_gives};
+ghost use Rattle.vale_rules_spec.specs.Judged.{first, leaf, Gives};
+ghost use Rattle.vale_rules_spec.specs.Types as y;
+ghost use Rattle.vale_rules_spec.specs.Types.{a_value};
+ghost use Rattle.vale_rules_spec.specs.Typed as t;
+ghost use Rattle.vale_rules_spec.specs.Typed.{type, block_type};
+ghost use Rattle.vale_rules_spec.specs.TypeRules.{iso_rules, bounds_rules, parallel_gives};
 ghost use Rattle.vale_core.specs.View.{view_expr, view_block};
 ghost use Rattle.vale_type_rules.specs.Table.{items_of};
 ghost use Rattle.vale_typing.specs.Valued.{view_valued};
@@ -20,7 +20,7 @@ use vale_type_faults::{bounds_fault, iso_fault, parallel_gives};
 use vale_type_rules::{Table, a_value, block_type, type_in};
 
 /// `iso { }`.
-#[tactic(auto, using(vale_syntax::proofs::JudgedLaws::first_leaf, vale_type_rules::proofs::TyLaws::types))]
+#[tactic(auto, using(vale_rules_spec::proofs::JudgedLaws::first_leaf, vale_type_rules::proofs::TyLaws::types))]
 pub fn iso(
     alloc: Global,
     table: &Table,
@@ -38,7 +38,7 @@ pub fn iso(
 }
 
 /// `parallel foreach i in a..b { }`.
-#[tactic(auto, using(vale_syntax::proofs::JudgedLaws::first_leaf))]
+#[tactic(auto, using(vale_rules_spec::proofs::JudgedLaws::first_leaf))]
 pub fn parallel_range(
     alloc: Global,
     table: &Table,

@@ -1,12 +1,12 @@
 // Names and what is set: what each is, or its own fault.
 ghost use Rattle.std.specs.Prelude.{◌≡◌};
-ghost use Rattle.vale_syntax.specs.Judged.{first, leaf, Gives};
-ghost use Rattle.vale_syntax.specs.Types as y;
-ghost use Rattle.vale_syntax.specs.Types.{a_value};
-ghost use Rattle.vale_syntax.specs.Typed as t;
-ghost use Rattle.vale_syntax.specs.Typed.{seen, type, may_be_set};
-ghost use Rattle.vale_syntax.specs.TypeRules.{name_rules, set_rules, set_gives};
-ghost use Rattle.vale_syntax.specs.Typing.{named};
+ghost use Rattle.vale_rules_spec.specs.Judged.{first, leaf, Gives};
+ghost use Rattle.vale_rules_spec.specs.Types as y;
+ghost use Rattle.vale_rules_spec.specs.Types.{a_value};
+ghost use Rattle.vale_rules_spec.specs.Typed as t;
+ghost use Rattle.vale_rules_spec.specs.Typed.{seen, type, may_be_set};
+ghost use Rattle.vale_rules_spec.specs.TypeRules.{name_rules, set_rules, set_gives};
+ghost use Rattle.vale_rules_spec.specs.Typing.{named};
 ghost use Rattle.vale_core.specs.View.{view_expr, view_ty};
 ghost use Rattle.vale_type_rules.specs.Scope.{locals};
 ghost use Rattle.vale_type_rules.specs.Table.{items_of};
@@ -46,7 +46,7 @@ pub fn name(
 }
 
 /// `set p = e`.
-#[tactic(auto, using(vale_syntax::proofs::JudgedLaws::first_leaf))]
+#[tactic(auto, using(vale_rules_spec::proofs::JudgedLaws::first_leaf))]
 pub fn set(
     alloc: Global,
     table: &Table,

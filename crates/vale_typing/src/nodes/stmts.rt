@@ -1,12 +1,12 @@
 // Statements over their parts: what each is, or its own fault.
 ghost use Rattle.std.specs.Prelude.{◌≡◌, [], Ok, IfOk, map, option_map};
 ghost use Rattle.std.specs.Option.{option_map_or};
-ghost use Rattle.vale_syntax.specs.Judged.{first, leaf, Gives};
+ghost use Rattle.vale_rules_spec.specs.Judged.{first, leaf, Gives};
 ghost use Rattle.vale_syntax.specs.View.{view_field, view_form};
-ghost use Rattle.vale_syntax.specs.Typing.{form_spot};
-ghost use Rattle.vale_syntax.specs.Typed as t;
-ghost use Rattle.vale_syntax.specs.Typed.{type};
-ghost use Rattle.vale_syntax.specs.TypeRules.{declare_rules, destructure_rules, struct_fields, field_types, return_nothing_rules, return_value_rules, condition_rules, bounds_rules, void_rules};
+ghost use Rattle.vale_rules_spec.specs.Typing.{form_spot};
+ghost use Rattle.vale_rules_spec.specs.Typed as t;
+ghost use Rattle.vale_rules_spec.specs.Typed.{type};
+ghost use Rattle.vale_rules_spec.specs.TypeRules.{declare_rules, destructure_rules, struct_fields, field_types, return_nothing_rules, return_value_rules, condition_rules, bounds_rules, void_rules};
 ghost use Rattle.vale_core.specs.View.{view_ty, view_expr, view_stmt, view_block};
 ghost use Rattle.vale_type_rules.specs.Scope.{locals};
 ghost use Rattle.vale_type_rules.specs.Table.{items_of};
@@ -27,7 +27,7 @@ use vale_type_faults::{
 use vale_type_rules::{Scope, Table, field_types, struct_fields, type_in};
 
 /// `x = e;`.
-#[tactic(auto, using(vale_syntax::proofs::JudgedLaws::first_leaf))]
+#[tactic(auto, using(vale_rules_spec::proofs::JudgedLaws::first_leaf))]
 pub fn declare(
     alloc: Global,
     scope: &Scope,
@@ -54,7 +54,7 @@ fn types_of(alloc: Global, fields: Option<&[FieldDecl]>) -> Result<Items<Ty>, Me
 }
 
 /// `[x, y] = e;`.
-#[tactic(auto, using(vale_syntax::proofs::JudgedLaws::first_leaf))]
+#[tactic(auto, using(vale_rules_spec::proofs::JudgedLaws::first_leaf))]
 pub fn destructure(
     alloc: Global,
     table: &Table,
@@ -74,7 +74,7 @@ pub fn destructure(
 }
 
 /// `return;` in a function that gives this.
-#[tactic(auto, using(vale_syntax::proofs::JudgedLaws::first_leaf))]
+#[tactic(auto, using(vale_rules_spec::proofs::JudgedLaws::first_leaf))]
 pub fn return_nothing(gives: &Ty, at: Spot) -> Result<Held<Stmt>, Fail<Fault>>
     ensures { Gives view_stmt result (first (leaf at (return_nothing_rules (view_ty gives.now)) (t.return_nothing at))) }
 {
@@ -85,7 +85,7 @@ pub fn return_nothing(gives: &Ty, at: Spot) -> Result<Held<Stmt>, Fail<Fault>>
 }
 
 /// `return e;` in a function that gives this.
-#[tactic(auto, using(vale_syntax::proofs::JudgedLaws::first_leaf))]
+#[tactic(auto, using(vale_rules_spec::proofs::JudgedLaws::first_leaf))]
 pub fn return_value(
     alloc: Global,
     table: &Table,
@@ -102,7 +102,7 @@ pub fn return_value(
 }
 
 /// `while e { }`.
-#[tactic(auto, using(vale_syntax::proofs::JudgedLaws::first_leaf))]
+#[tactic(auto, using(vale_rules_spec::proofs::JudgedLaws::first_leaf))]
 pub fn while_loop(
     at: Spot,
     condition: Held<Expr>,
@@ -118,7 +118,7 @@ pub fn while_loop(
 }
 
 /// `foreach i in a..b { }`.
-#[tactic(auto, using(vale_syntax::proofs::JudgedLaws::first_leaf))]
+#[tactic(auto, using(vale_rules_spec::proofs::JudgedLaws::first_leaf))]
 pub fn foreach(
     at: Spot,
     name: NameAt,
@@ -147,7 +147,7 @@ fn form_spot(form: &source::Form) -> Spot
 }
 
 /// A form that is a statement.
-#[tactic(auto, using(vale_syntax::proofs::JudgedLaws::first_leaf))]
+#[tactic(auto, using(vale_rules_spec::proofs::JudgedLaws::first_leaf))]
 pub fn form_stmt(of: &source::Form, form: Held<Valued>) -> Result<Held<Stmt>, Fail<Fault>>
     ensures { Gives view_stmt result (first (leaf (form_spot (view_form of.now)) (void_rules (view_valued form).0) (t.form_stmt (view_valued form).1))) }
 {

@@ -54,6 +54,7 @@ invariant_of-result c =
           reads = c.requires.2;
           declares = c.in-Ok.ensures.declared;
           types = rw c.in-Ok-own.ensures.same c.in-Ok-type_all.ensures.typed;
+          owns = rw c.in-Ok-own.ensures.same (rw c.in-Ok-own.ensures.same at c.in-Ok-own.ensures.owned);
         },
       ) ∣₁;
     }

@@ -1,6 +1,6 @@
 use Rattle.std.proofs.Common.{◌≡◌, map, take}
-use Rattle.vale_syntax.specs.Declarations.{param_type}
-use Rattle.vale_syntax.specs.Types.{type_of}
+use Rattle.vale_rules_spec.specs.Declarations.{param_type}
+use Rattle.vale_rules_spec.specs.Types.{type_of}
 use Rattle.vale_syntax.specs.View.{view_param}
 use Rattle.vale_lowering.specs.Scopes.{code_type}
 use Rattle.vale_lower_code.proofs.function.param_types.Given as goal

@@ -1,6 +1,6 @@
 use Rattle.std.proofs.Common.{◌≡◌, ◌+◌, map, drop}
 use Rattle.std.specs.Prelude.{codes}
-use Rattle.vale_syntax.specs.Declarations.{is_called, head_name}
+use Rattle.vale_rules_spec.specs.Declarations.{is_called, head_name}
 use Rattle.vale_core.specs.View.{view_function}
 use Rattle.vale_model.specs.Kinds.{head_of}
 use Rattle.vale_lowering.specs.Scopes.{number_of_function}

@@ -1,5 +1,5 @@
 use Rattle.vale_lowering.specs.Lowered.{lowered}
-use Rattle.vale_base.specs.State.{no_input}
+use Rattle.vale_state_spec.specs.State.{no_input}
 use Rattle.vale_lower_facts.specs.Marks.{lowered_facts}
 use Rattle.vale_lower_facts.proofs.Program.{takes_no_input}
 use Rattle.vale_lower_facts.proofs.laws.suitable_code_does_what_is_meant.Goals as goal

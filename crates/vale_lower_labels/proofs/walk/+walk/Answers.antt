@@ -3,7 +3,7 @@ use Rattle.std.proofs.lemmas.Result.{on_ok_weaker}
 use Rattle.vale_core.specs.declared.tree.Block.{out-Block}
 use Rattle.vale_core.specs.View.{view_expr, view_block, last_end}
 use Rattle.vale_core.proofs.ViewLaws.{of_int}
-use Rattle.vale_syntax.specs.Types.{Ty}
+use Rattle.vale_rules_spec.specs.Types.{Ty}
 use Rattle.vale_lower_facts.specs.Slots.{local, with_slot}
 use Rattle.vale_lower_labels.specs.Progress.{progress, with_marks}
 use Rattle.vale_lower_labels.specs.Standing.{stand, framed, slots_of, plain}

@@ -1,5 +1,5 @@
 use Rattle.std.proofs.Common.{◌≡◌, ℕ, List, map, take}
-use Rattle.vale_syntax.specs.Typed as t
+use Rattle.vale_rules_spec.specs.Typed as t
 use Rattle.vale_core.specs.View.{view_function}
 use Rattle.vale_model.specs.Parts.{Parts}
 use Rattle.vale_lowering.specs.Lowered.{lowered_function}

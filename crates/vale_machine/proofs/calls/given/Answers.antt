@@ -1,5 +1,5 @@
 use Rattle.std.proofs.Common.{Some, ap, ◌∙◌}
-use Rattle.vale_base.specs.State.{gives}
+use Rattle.vale_state_spec.specs.State.{gives}
 use Rattle.vale_code.specs.Registers.{as_frozen, given_value, read}
 use Rattle.vale_code.specs.declared.ty.Ty.{Ty}
 use Rattle.vale_machine.specs.Cells.{values_in}

@@ -1,5 +1,5 @@
 use Rattle.std.proofs.Common.{◌≡◌, ◌<◌, ◌≤◌, List, length, drop, get_or, Some, ◌∙◌, subst, arith}
-use Rattle.vale_base.specs.State.{begin, fails, gives}
+use Rattle.vale_state_spec.specs.State.{begin, fails, gives}
 use Rattle.vale_code.specs.Registers.{given_value, read}
 use Rattle.vale_code.specs.declared.ty.Ty.TheVariants as t
 use Rattle.vale_machine.specs.Cells.{values_in}

@@ -2,7 +2,7 @@ use Rattle.std.proofs.Common.{None, map, sym, ap, ◌∙◌}
 use Rattle.std.specs.Prelude.{◌||◌}
 use Rattle.vale_core.specs.declared.tree.Block.{out-Block}
 use Rattle.vale_core.specs.View.{view_stmt, stmts_of}
-use Rattle.vale_ownership.specs.Owned.{stmts_move}
+use Rattle.vale_rules_spec.specs.Owned.{stmts_move}
 use Rattle.vale_owner.proofs.MoveLaws.{block_by_parts}
 use Rattle.vale_owner.proofs.moves.+moves.Goals as goal
 

@@ -1,7 +1,7 @@
 use Rattle.std.proofs.Common.{◌≡◌, map, drop}
 use Rattle.std.specs.Prelude.{None}
 use Rattle.vale_core.specs.View.{view_expr, view_stmt, view_step, view_link, view_else_if, exprs_of, links_of, steps_of, stmts_of}
-use Rattle.vale_ownership.specs.Owned.{exprs_move, links_move, steps_move, stmts_move}
+use Rattle.vale_rules_spec.specs.Owned.{exprs_move, links_move, steps_move, stmts_move}
 use Rattle.vale_owner.specs.Moves.{else_ifs_move}
 use Rattle.vale_owner.proofs.moves.+moves.Given as goal
 

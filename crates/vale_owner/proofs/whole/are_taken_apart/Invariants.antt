@@ -1,7 +1,7 @@
 use Rattle.std.proofs.Common.{◌≡◌, map, drop}
 use Rattle.vale_syntax.specs.View.{view_param}
 use Rattle.vale_core.specs.View.{view_block}
-use Rattle.vale_ownership.specs.Owned.{are_taken_apart}
+use Rattle.vale_rules_spec.specs.Owned.{are_taken_apart}
 use Rattle.vale_owner.specs.Found.{found}
 use Rattle.vale_owner.proofs.whole.are_taken_apart.Given as goal
 

@@ -1,7 +1,7 @@
 use Rattle.std.proofs.Common.{map, refl}
 use Rattle.std.proofs.lemmas.Result.{err_from_is_err_and}
 use Rattle.vale_core.specs.View.{view_item}
-use Rattle.vale_ownership.specs.Owned.{item_faults, items_faults}
+use Rattle.vale_rules_spec.specs.Owned.{item_faults, items_faults}
 use Rattle.vale_owner.proofs.FunctionLaws.{faults_next, faults_stop, faults_done}
 use Rattle.vale_owner.proofs.whole.own_items.Goals as goal
 

@@ -1,7 +1,7 @@
 use Rattle.std.proofs.Common.{◌≡◌, map, drop}
-use Rattle.vale_syntax.specs.Judged.{stopped}
+use Rattle.vale_rules_spec.specs.Judged.{stopped}
 use Rattle.vale_core.specs.View.{view_function}
-use Rattle.vale_ownership.specs.Owned.{method_faults}
+use Rattle.vale_rules_spec.specs.Owned.{method_faults}
 use Rattle.vale_owner.proofs.whole.own_methods.Given as goal
 
 -- those before have no fault

@@ -1,5 +1,5 @@
 use Rattle.std.proofs.Common.{◌≡◌, ◌++◌, drop}
-use Rattle.vale_base.specs.Outcome.{joined}
+use Rattle.vale_state_spec.specs.Outcome.{joined}
 use Rattle.vale_run.proofs.running.joined.Given as goal
 
 abbrev pub invariant-loop-piece : goal.invariant-loop-piece

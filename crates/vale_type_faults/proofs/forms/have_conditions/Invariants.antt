@@ -1,8 +1,8 @@
 use Rattle.std.proofs.Common.{◌≡◌, Option, map, drop}
 use Rattle.std.specs.List.{list_all}
-use Rattle.vale_syntax.specs.Typed as t
-use Rattle.vale_syntax.specs.Typed.{condition_types}
-use Rattle.vale_syntax.specs.TypeRules.{is_bool}
+use Rattle.vale_rules_spec.specs.Typed as t
+use Rattle.vale_rules_spec.specs.Typed.{condition_types}
+use Rattle.vale_rules_spec.specs.TypeRules.{is_bool}
 use Rattle.vale_core.specs.View.{elses_of, view_else_if}
 use Rattle.vale_type_faults.proofs.forms.have_conditions.Given as goal
 

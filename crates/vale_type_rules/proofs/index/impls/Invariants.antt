@@ -1,7 +1,7 @@
 use Rattle.std.proofs.Common.{◌≡◌, ℕ, map, drop, ◌||◌}
 use Rattle.std.specs.List.{list_any}
 use Rattle.vale_syntax.specs.View.{view_item}
-use Rattle.vale_syntax.specs.Types.{is_impl}
+use Rattle.vale_rules_spec.specs.Types.{is_impl}
 use Rattle.vale_type_rules.specs.Index.{has_impl}
 use Rattle.vale_type_rules.proofs.index.impls.Given as goal
 

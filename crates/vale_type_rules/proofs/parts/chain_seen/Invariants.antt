@@ -1,5 +1,5 @@
 use Rattle.std.proofs.Common.{◌≡◌, map, drop}
-use Rattle.vale_syntax.specs.Typed.{chain_seen}
+use Rattle.vale_rules_spec.specs.Typed.{chain_seen}
 use Rattle.vale_core.specs.View.{links_of, view_seen, view_link}
 use Rattle.vale_type_rules.proofs.parts.chain_seen.Given as goal
 

@@ -1,5 +1,5 @@
 use Rattle.std.proofs.Common.{◌≡◌, map, drop}
-use Rattle.vale_syntax.specs.Typed.{last_may_be_set}
+use Rattle.vale_rules_spec.specs.Typed.{last_may_be_set}
 use Rattle.vale_core.specs.View.{steps_of, view_step}
 use Rattle.vale_type_rules.specs.Plain.{last_or}
 use Rattle.vale_type_rules.proofs.parts.last_may_be_set.Given as goal

@@ -1,5 +1,5 @@
 use Rattle.std.proofs.Common.{◌≡◌, map, drop}
-use Rattle.vale_syntax.specs.Typed.{steps_seen}
+use Rattle.vale_rules_spec.specs.Typed.{steps_seen}
 use Rattle.vale_core.specs.View.{steps_of, view_seen, view_step}
 use Rattle.vale_type_rules.proofs.parts.steps_seen.Given as goal
 

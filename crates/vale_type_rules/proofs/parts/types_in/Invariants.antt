@@ -1,5 +1,5 @@
 use Rattle.std.proofs.Common.{◌≡◌, ◌++◌, map, drop}
-use Rattle.vale_syntax.specs.Typed.{types}
+use Rattle.vale_rules_spec.specs.Typed.{types}
 use Rattle.vale_core.specs.View.{exprs_of, view_ty, view_expr}
 use Rattle.vale_type_rules.proofs.parts.types_in.Given as goal
 

@@ -1,6 +1,6 @@
 use Rattle.std.proofs.Common.{◌≡◌, ◌++◌, map, drop}
 use Rattle.vale_syntax.specs.View.{view_field}
-use Rattle.vale_syntax.specs.TypeRules.{field_types}
+use Rattle.vale_rules_spec.specs.TypeRules.{field_types}
 use Rattle.vale_core.specs.View.{view_ty}
 use Rattle.vale_type_rules.proofs.signature.field_types.Given as goal
 

@@ -1,6 +1,6 @@
 use Rattle.std.proofs.Common.{◌≡◌, map, drop, None}
 use Rattle.vale_syntax.specs.View.{view_expr, view_step, view_stmt, view_else_if, view_link, exprs_of, links_of, steps_of, elses_of, stmts_of}
-use Rattle.vale_syntax.specs.Takes.{exprs_take, links_take, steps_take, elses_take, stmts_take}
+use Rattle.vale_rules_spec.specs.Takes.{exprs_take, links_take, steps_take, elses_take, stmts_take}
 use Rattle.vale_type_rules.proofs.taking.+takes.Given as goal
 
 -- what is left of the list gives what the whole list gives

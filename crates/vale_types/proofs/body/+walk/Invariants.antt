@@ -1,6 +1,6 @@
 use Rattle.std.proofs.Common.{◌≡◌, map, drop, None}
 use Rattle.vale_syntax.specs.View.{view_item, view_expr, view_step, view_stmt, view_else_if, view_link, exprs_of, links_of, steps_of, elses_of, stmts_of}
-use Rattle.vale_syntax.specs.DeclFaults.{in_exprs, in_links, in_steps, in_elses, in_stmts}
+use Rattle.vale_rules_spec.specs.DeclFaults.{in_exprs, in_links, in_steps, in_elses, in_stmts}
 use Rattle.vale_types.specs.Walk.{walked}
 use Rattle.vale_types.proofs.body.+walk.Given as goal
 

@@ -1,6 +1,6 @@
 use Rattle.std.proofs.Common.{◌≡◌, ◌++◌, map, drop}
 use Rattle.vale_syntax.specs.View.{view_item}
-use Rattle.vale_syntax.specs.Declarations.{structs_from, interfaces_from, impls_from, functions_from}
+use Rattle.vale_rules_spec.specs.Declarations.{structs_from, interfaces_from, impls_from, functions_from}
 use Rattle.vale_types.proofs.collect.collect.Given as goal
 
 -- each list, with those of the items that are left, is that of all

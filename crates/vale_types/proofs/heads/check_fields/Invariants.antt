@@ -1,9 +1,9 @@
 use Rattle.std.proofs.Common.{◌≡◌, List, [], map, drop}
 use Rattle.vale_syntax.specs.Tree.{FieldDecl}
-use Rattle.vale_syntax.specs.Judged.{stopped, one_by_one}
+use Rattle.vale_rules_spec.specs.Judged.{stopped, one_by_one}
 use Rattle.vale_syntax.specs.View.{view_item, view_field}
-use Rattle.vale_syntax.specs.Declarations.{field_name}
-use Rattle.vale_syntax.specs.DeclFaults.{field_faults}
+use Rattle.vale_rules_spec.specs.Declarations.{field_name}
+use Rattle.vale_rules_spec.specs.DeclFaults.{field_faults}
 use Rattle.vale_types.specs.Before.{AreNamesOf}
 use Rattle.vale_types.proofs.heads.check_fields.Given as goal
 

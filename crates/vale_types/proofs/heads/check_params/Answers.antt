@@ -1,8 +1,8 @@
 use Rattle.std.proofs.Common.{[], ◌∷◌, map, refl}
 use Rattle.std.proofs.lemmas.Result.{err_from_is_err_and}
-use Rattle.vale_syntax.specs.Judged.{stopped, one_by_one}
+use Rattle.vale_rules_spec.specs.Judged.{stopped, one_by_one}
 use Rattle.vale_syntax.specs.View.{view_item, view_param}
-use Rattle.vale_syntax.specs.DeclFaults.{param_faults}
+use Rattle.vale_rules_spec.specs.DeclFaults.{param_faults}
 use Rattle.vale_types.proofs.LoopLaws.{part_passes, part_fails, parts_end}
 use Rattle.vale_types.proofs.heads.check_params.Goals as goal
 

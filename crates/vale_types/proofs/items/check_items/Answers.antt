@@ -1,9 +1,9 @@
 use Rattle.std.proofs.Common.{◌≡◌, [], ◌∷◌, map, refl, sym, true, subst}
 use Rattle.std.proofs.lemmas.Result.{err_from_is_err_and}
 use Rattle.vale_syntax.specs.declared.tree.Item.{Item}
-use Rattle.vale_syntax.specs.Judged.{stopped, one_by_one}
+use Rattle.vale_rules_spec.specs.Judged.{stopped, one_by_one}
 use Rattle.vale_syntax.specs.View.{view_item}
-use Rattle.vale_syntax.specs.DeclFaults.{item_faults}
+use Rattle.vale_rules_spec.specs.DeclFaults.{item_faults}
 use Rattle.vale_types.specs.Plain.{is_plain}
 use Rattle.vale_types.proofs.LoopLaws.{part_passes, part_fails, parts_end, one_of_all}
 use Rattle.vale_types.proofs.items.check_items.Goals as goal

@@ -1,8 +1,8 @@
 use Rattle.std.proofs.Common.{◌≡◌, List, [], map, drop}
 use Rattle.vale_syntax.specs.Tree.{Item}
-use Rattle.vale_syntax.specs.Judged.{stopped, one_by_one}
+use Rattle.vale_rules_spec.specs.Judged.{stopped, one_by_one}
 use Rattle.vale_syntax.specs.View.{view_item}
-use Rattle.vale_syntax.specs.DeclFaults.{item_faults}
+use Rattle.vale_rules_spec.specs.DeclFaults.{item_faults}
 use Rattle.vale_types.specs.Before.{IsOf}
 use Rattle.vale_types.proofs.items.check_items.Given as goal
 

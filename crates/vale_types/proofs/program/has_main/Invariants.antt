@@ -1,7 +1,7 @@
 use Rattle.std.proofs.Common.{◌≡◌, map, drop}
 use Rattle.std.specs.List.{list_any}
 use Rattle.vale_syntax.specs.View.{view_item}
-use Rattle.vale_syntax.specs.Declarations.{is_function_with, is_main}
+use Rattle.vale_rules_spec.specs.Declarations.{is_function_with, is_main}
 use Rattle.vale_types.proofs.program.has_main.Given as goal
 
 -- the items that are left decide

@@ -1,7 +1,7 @@
 use Rattle.std.proofs.Common.{◌≡◌, map, drop}
 use Rattle.std.specs.List.{list_any}
 use Rattle.vale_syntax.specs.View.{view_field}
-use Rattle.vale_syntax.specs.Declarations.{field_type, has_iso}
+use Rattle.vale_rules_spec.specs.Declarations.{field_type, has_iso}
 use Rattle.vale_types.proofs.reach.any_iso.Given as goal
 
 -- the fields that are left decide

@@ -1,6 +1,6 @@
 use Rattle.std.proofs.Common.{◌≡◌, ℕ, ◌||◌, map, drop}
 use Rattle.vale_syntax.specs.View.{view_item}
-use Rattle.vale_syntax.specs.Declarations.{iso_holders}
+use Rattle.vale_rules_spec.specs.Declarations.{iso_holders}
 use Rattle.vale_types.specs.Isos.{is_in}
 use Rattle.vale_types.specs.Spread.{finds, awaits}
 use Rattle.vale_types.proofs.reach.holders.Given as goal

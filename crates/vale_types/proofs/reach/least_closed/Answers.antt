@@ -1,7 +1,7 @@
 use Rattle.std.proofs.Common.{◌≡◌, ℕ, map, sym, ap, ◌∙◌, arith}
 use Rattle.std.specs.Prelude.{List, length}
 use Rattle.vale_syntax.specs.View.{view_item}
-use Rattle.vale_syntax.specs.Declarations.{leads, iso_holders}
+use Rattle.vale_rules_spec.specs.Declarations.{leads, iso_holders}
 use Rattle.vale_types.specs.Names.{has}
 use Rattle.vale_types.specs.Isos.{is_in, sources_of}
 use Rattle.vale_types.proofs.EdgeLaws.{from_source}

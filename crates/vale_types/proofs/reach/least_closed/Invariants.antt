@@ -1,6 +1,6 @@
 use Rattle.std.proofs.Common.{map}
 use Rattle.vale_syntax.specs.View.{view_item}
-use Rattle.vale_syntax.specs.Declarations.{leads, iso_holders}
+use Rattle.vale_rules_spec.specs.Declarations.{leads, iso_holders}
 use Rattle.vale_types.specs.Isos.{sources_of}
 use Rattle.vale_types.specs.Spread.{work}
 use Rattle.vale_types.proofs.SpreadLaws.{IsSpreading}

@@ -1,8 +1,8 @@
 use Rattle.std.proofs.Common.{◌≡◌, map, sym, ◌∙◌}
 use Rattle.std.specs.Prelude.{Ok}
 use Rattle.vale_syntax.specs.View.{view_item, view_type}
-use Rattle.vale_syntax.specs.Judged.{stopped}
-use Rattle.vale_syntax.specs.DeclFaults.{type_faults}
+use Rattle.vale_rules_spec.specs.Judged.{stopped}
+use Rattle.vale_rules_spec.specs.DeclFaults.{type_faults}
 use Rattle.vale_syntax.specs.declared.position.Position.TheVariants.{Value}
 use Rattle.vale_types.proofs.TypeLaws.{isolate_then}
 use Rattle.vale_types.proofs.types.+check_type.Goals as goal

@@ -6,16 +6,16 @@ use Rattle.vale_syntax.specs.declared.tree.Expr.{Expr}
 use Rattle.vale_base.specs.declared.name.Name.{Name}
 use Rattle.vale_syntax.specs.declared.tree.Link.{Link}
 use Rattle.vale_syntax.specs.declared.tree.Step.{Step}
-use Rattle.vale_syntax.specs.Judged.{first}
-use Rattle.vale_syntax.specs.Types.{Seen, a_value}
-use Rattle.vale_syntax.specs.TypeRules.{set_rules, set_gives, destructure_rules, struct_fields, field_types, bounds_rules, parallel_gives}
-use Rattle.vale_syntax.specs.Typed as t
-use Rattle.vale_syntax.specs.Typed.{seen, type, may_be_set, chain_seen, steps_seen, link_seen, step_seen, block_type}
-use Rattle.vale_syntax.specs.Typing as d
-use Rattle.vale_syntax.specs.Typing.{name_in, is_used, Env, after, with_local, deeper}
+use Rattle.vale_rules_spec.specs.Judged.{first}
+use Rattle.vale_rules_spec.specs.Types.{Seen, a_value}
+use Rattle.vale_rules_spec.specs.TypeRules.{set_rules, set_gives, destructure_rules, struct_fields, field_types, bounds_rules, parallel_gives}
+use Rattle.vale_rules_spec.specs.Typed as t
+use Rattle.vale_rules_spec.specs.Typed.{seen, type, may_be_set, chain_seen, steps_seen, link_seen, step_seen, block_type}
+use Rattle.vale_rules_spec.specs.Typing as d
+use Rattle.vale_rules_spec.specs.Typing.{name_in, is_used, Env, after, with_local, deeper}
 use Rattle.vale_syntax.specs.View.{view_expr, view_link, view_step, exprs_of, links_of, steps_of, view_else_if, elses_of, view_stmt, stmts_of, view_block}
 use Rattle.vale_syntax.proofs.ViewLaws.{of_set, of_chain, of_steps, of_parallel_range, of_foreach}
-use Rattle.vale_syntax.proofs.JudgedLaws.{◌>>=◌}
+use Rattle.vale_rules_spec.proofs.JudgedLaws.{◌>>=◌}
 use Rattle.vale_core.specs.Plain.{number_of}
 use Rattle.vale_core.specs.View as core
 use Rattle.vale_core.specs.View.{view_ty, view_seen}
@@ -29,7 +29,7 @@ use Rattle.vale_syntax.specs.declared.tree.Block.{out-Block}
 use Rattle.vale_syntax.specs.declared.tree.Stmt.{Stmt}
 use Rattle.std.specs.Option.{option_map_or}
 use Rattle.vale_typing.proofs.NameLaws.{new_names_same}
-use Rattle.vale_syntax.specs.Types as y
+use Rattle.vale_rules_spec.specs.Types as y
 use Rattle.vale_core.proofs.ViewLaws.{of_int}
 use Rattle.vale_typing.specs.Valued.{view_valued}
 use Rattle.vale_typing.proofs.IfLaws.{else_ifs_fail, end_fails, if_ends}

@@ -1,12 +1,12 @@
 use Rattle.std.proofs.Common.{◌≡◌, map, drop}
 use Rattle.std.specs.Prelude.{None, option_map}
 use Rattle.vale_syntax.specs.declared.tree.Block.{out-Block}
-use Rattle.vale_syntax.specs.Judged.{first}
+use Rattle.vale_rules_spec.specs.Judged.{first}
 use Rattle.vale_syntax.specs.View.{view_expr, view_step, view_stmt, view_else_if, view_link, exprs_of, links_of, steps_of, elses_of, stmts_of}
-use Rattle.vale_syntax.specs.Typing as d
-use Rattle.vale_syntax.specs.Typed as t
-use Rattle.vale_syntax.specs.Typed.{seen}
-use Rattle.vale_syntax.specs.Typing.{name_in}
+use Rattle.vale_rules_spec.specs.Typing as d
+use Rattle.vale_rules_spec.specs.Typed as t
+use Rattle.vale_rules_spec.specs.Typed.{seen}
+use Rattle.vale_rules_spec.specs.Typing.{name_in}
 use Rattle.vale_core.specs.Plain.{number_of}
 use Rattle.vale_core.specs.View as c
 use Rattle.vale_core.specs.View.{view_ty, view_seen}

@@ -1,8 +1,8 @@
 use Rattle.std.proofs.Common.{◌∷◌, ap, ◌∙◌}
 use Rattle.std.specs.Prelude.{List, Ok}
 use Rattle.vale_syntax.specs.declared.tree.NameAt.{NameAt}
-use Rattle.vale_syntax.specs.Judged.{first}
-use Rattle.vale_syntax.specs.Typing.{new_names}
+use Rattle.vale_rules_spec.specs.Judged.{first}
+use Rattle.vale_rules_spec.specs.Typing.{new_names}
 use Rattle.vale_core.proofs.ViewLaws.{of_void}
 use Rattle.vale_type_rules.specs.Scope.{framed, locals}
 use Rattle.vale_typing.specs.Walk.{env_at}

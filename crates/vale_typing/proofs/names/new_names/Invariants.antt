@@ -1,7 +1,7 @@
 use Rattle.std.proofs.Common.{◌≡◌, ◌∷◌, drop}
-use Rattle.vale_syntax.specs.Judged.{first}
-use Rattle.vale_syntax.specs.Types as y
-use Rattle.vale_syntax.specs.Typing.{new_names}
+use Rattle.vale_rules_spec.specs.Judged.{first}
+use Rattle.vale_rules_spec.specs.Types as y
+use Rattle.vale_rules_spec.specs.Typing.{new_names}
 use Rattle.vale_type_rules.specs.Scope.{framed, locals}
 use Rattle.vale_typing.specs.Walk.{env_at}
 use Rattle.vale_typing.proofs.LoopLaws.{with_parts}

@@ -1,6 +1,6 @@
 use Rattle.std.proofs.Common.{◌≡◌, [], drop, map}
-use Rattle.vale_syntax.specs.Types as y
-use Rattle.vale_syntax.specs.Typing.{with_params}
+use Rattle.vale_rules_spec.specs.Types as y
+use Rattle.vale_rules_spec.specs.Typing.{with_params}
 use Rattle.vale_syntax.specs.View.{view_param}
 use Rattle.vale_type_rules.specs.Scope.{framed}
 use Rattle.vale_typing.specs.Walk.{env_at}

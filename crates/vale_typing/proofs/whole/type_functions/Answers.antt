@@ -2,9 +2,9 @@ use Rattle.std.proofs.Common.{List, ◌∷◌, ◌+◌, map, drop, ap, ◌∙◌
 use Rattle.std.specs.Prelude.{Result, Ok}
 use Rattle.vale_syntax.specs.declared.fault.Fault.{Fault}
 use Rattle.vale_syntax.specs.declared.tree.Function.{Function}
-use Rattle.vale_syntax.specs.Judged.{first}
-use Rattle.vale_syntax.specs.Typed as t
-use Rattle.vale_syntax.specs.Typing.{in_function, in_functions}
+use Rattle.vale_rules_spec.specs.Judged.{first}
+use Rattle.vale_rules_spec.specs.Typed as t
+use Rattle.vale_rules_spec.specs.Typing.{in_function, in_functions}
 use Rattle.vale_syntax.specs.View.{view_function}
 use Rattle.vale_core.specs.View as core
 use Rattle.vale_type_rules.specs.Table.{names_of, items_of}

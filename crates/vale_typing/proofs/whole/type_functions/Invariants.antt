@@ -1,6 +1,6 @@
 use Rattle.std.proofs.Common.{◌≡◌, ◌∷◌, drop, map}
-use Rattle.vale_syntax.specs.Judged.{first}
-use Rattle.vale_syntax.specs.Typing.{in_functions}
+use Rattle.vale_rules_spec.specs.Judged.{first}
+use Rattle.vale_rules_spec.specs.Typing.{in_functions}
 use Rattle.vale_syntax.specs.View.{view_function}
 use Rattle.vale_core.specs.View as c
 use Rattle.vale_type_rules.specs.Table.{names_of, items_of}

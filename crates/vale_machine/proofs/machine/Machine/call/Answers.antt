@@ -1,6 +1,6 @@
 use Rattle.std.proofs.Common.{◌≡◌, ◌<◌, ◌≤◌, ◌+◌, ◌-◌, ◌++◌, List, length, replicate, Some, None, sym, ap, ◌∙◌, subst, arith}
 use Rattle.vale_base.specs.Limits.{depth_limit}
-use Rattle.vale_base.specs.Outcome.{Cut}
+use Rattle.vale_state_spec.specs.Outcome.{Cut}
 use Rattle.vale_code.specs.Frames.{Over}
 use Rattle.vale_code.specs.Kinds.{result_to}
 use Rattle.vale_code.specs.Registers.{give_all}

@@ -1,5 +1,5 @@
 use Rattle.std.proofs.Common.{Bool, Option, refl, sym, ap, subst}
-use Rattle.vale_base.specs.World.{Truth}
+use Rattle.vale_state_spec.specs.World.{Truth}
 use Rattle.vale_code.specs.Act.{sets}
 use Rattle.vale_code.specs.Instructions.{with_choice}
 use Rattle.vale_machine.specs.View.{Stepped, active, below, state_of}

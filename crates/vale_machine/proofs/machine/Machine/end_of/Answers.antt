@@ -1,5 +1,5 @@
 use Rattle.std.proofs.Common.{None, refl, sym, ap, ◌∙◌, subst}
-use Rattle.vale_base.specs.Outcome.{Trap}
+use Rattle.vale_state_spec.specs.Outcome.{Trap}
 use Rattle.vale_base.specs.declared.trap.TrapInfo.{TrapInfo}
 use Rattle.vale_code.specs.Frames.{Over}
 use Rattle.vale_machine.specs.View.{Stepped, state_of}

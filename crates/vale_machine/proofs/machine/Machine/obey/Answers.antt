@@ -1,5 +1,5 @@
 use Rattle.std.proofs.Common.{rules}
-use Rattle.vale_base.specs.World.{Int}
+use Rattle.vale_state_spec.specs.World.{Int}
 use Rattle.vale_machine.proofs.Obeying.{obeyed, obeyed_call, obeyed_void, obeyed_ret}
 use Rattle.vale_machine.proofs.machine.Machine.obey.Goals as goal
 

@@ -1,5 +1,5 @@
 use Rattle.std.proofs.Common.{Bool, Option, None, sym, ap, ◌≡◌, ◌∙◌, subst}
-use Rattle.vale_base.specs.State.{print}
+use Rattle.vale_state_spec.specs.State.{print}
 use Rattle.vale_code.specs.Instructions.{certain, with_choice, with_value}
 use Rattle.vale_code.specs.Registers.{read}
 use Rattle.vale_machine.specs.Cells.{shown_in, values_in}

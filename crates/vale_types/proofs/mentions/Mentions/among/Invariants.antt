@@ -1,6 +1,6 @@
 use Rattle.std.proofs.Common.{◌≡◌, ℕ, ◌||◌, map, drop}
 use Rattle.vale_syntax.specs.View.{view_item}
-use Rattle.vale_syntax.specs.Declarations.{leads}
+use Rattle.vale_rules_spec.specs.Declarations.{leads}
 use Rattle.vale_types.specs.Isos.{is_edge}
 use Rattle.vale_types.specs.Mentions.{mentions}
 use Rattle.vale_types.proofs.mentions.Mentions.among.Given as goal

@@ -1,4 +1,0 @@
-pub mod Owned
-pub mod Returned
-pub mod Sides
-pub mod Whole

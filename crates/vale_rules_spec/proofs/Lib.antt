@@ -1,0 +1,6 @@
+mod DeclRows
+mod DeclTexts
+mod OwnTexts
+mod TypeTexts
+pub mod JudgedLaws
+pub mod ReachLaws

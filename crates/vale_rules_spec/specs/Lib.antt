@@ -1,0 +1,16 @@
+pub mod DeclFaults
+pub mod DeclRules
+pub mod Declarations
+pub mod Judged
+pub mod Owned
+pub mod Reach
+pub mod Returns
+pub mod Sides
+pub mod Sites
+pub mod Takes
+pub mod TypeRules
+pub mod Typed
+pub mod Types
+pub mod Typing
+pub mod WellFormed
+pub mod Whole
