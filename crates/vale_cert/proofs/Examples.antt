@@ -74,7 +74,7 @@ prints_seven = refl
 prints_nothing : of_main (i.Print 0 1 ∷ i.Int 0 (pos 7) ∷ i.RetVoid ∷ []) [] ≡ fails 3 0
 prints_nothing = refl
 
--- a loop: a label at its first instruction and behind it
+-- a loop: a label at its first instruction and after it
 counts : of_main
     (i.Int 0 (pos 0) ∷ i.Int 1 (pos 3) ∷ i.Tick ∷ i.Add 0 0 1 at ∷ i.Cmp 2 2 0 1 ∷ i.Unless 2 7 ∷ i.Jump 2 ∷ i.RetVoid ∷ [])
     (label 2 (number ∷ number ∷ Empty ∷ Empty ∷ []) ∷ label 7 (Empty ∷ Empty ∷ Empty ∷ Empty ∷ []) ∷ []) ≡ None

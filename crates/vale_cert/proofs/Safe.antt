@@ -91,7 +91,7 @@ frozen_from n d kind (Held t.Truth m l) o e there h = let x : false ≡ true = (
 frozen_from n d kind (Held t.Text m l) o e there h = let x : false ≡ true = (and_parts _ _ e).1 in absurd (let y : ⊥ = cc in y)
 
 module _ (depth : ℕ) where
-  -- what is kept behind an argument was kept before it
+  -- what is kept after an argument was kept before it
   pass_kept : (a : ℕ) (ty : Ty) (row : Row) → (passed depth a ty row).kept.types ≡ true → (passed depth a ty row).kept.present ≡ true → (row.kept.types ≡ true) × (row.kept.present ≡ true)
   pass_kept a (t.Frozen k) row e g = ((and_parts _ _ e).0, (and_parts _ _ g).0)
   pass_kept a t.Void row e g = ((and_parts _ _ e).0, (and_parts _ _ g).0)

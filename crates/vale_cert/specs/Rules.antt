@@ -182,7 +182,7 @@ abbrev pub calls : ℕ → List RegFact → Option Func → ℕ → List ℕ →
 calls depth regs None to args = refused regs
 calls depth regs (Some callee) to args = call_by_form (callee.form == 0) depth regs callee to args
 
--- ---- leaving: at depth 0, and with no owner and no isolate left behind
+-- ---- leaving: at depth 0, and with no owner and no isolate left after
 
 abbrev pub leaves : ℕ → List RegFact → Kept → Kept
 leaves depth regs kept = record {

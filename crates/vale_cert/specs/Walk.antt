@@ -62,7 +62,7 @@ module _ (code : Parts) (f : Func) (labels : List Label) (base : ℕ) where
   has_target None = true
   has_target (Some p) = is_label (label_at labels p)
 
-  -- the place behind an instruction, where that is its successor
+  -- the place after an instruction, where that is its successor
   abbrev pub next_of : ℕ → Instr → Option ℕ
   next_of p instr = if goes_on instr then Some (p + 1) else None
 
@@ -82,7 +82,7 @@ module _ (code : Parts) (f : Func) (labels : List Label) (base : ℕ) where
   abbrev pub known_after : Instr → Known → Option Known
   known_after instr known = if goes_on instr then Some (after instr known) else None
 
-  -- an instruction that nothing is known before is at no label behind one that doesn't go on
+  -- an instruction that nothing is known before is at no label after one that doesn't go on
   abbrev pub if_known : ℕ → Option Known → (Known → Option Fault) → Option Fault
   if_known p None go = Some (record { rule = 7; at = base + p })
   if_known p (Some known) go = go known

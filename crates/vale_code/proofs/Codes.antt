@@ -37,7 +37,7 @@ main_of body = function 0 0 [] t.Void 8 body
 abbrev pub code_of : List KindInfo → List Impl → List Func → Parts
 code_of kinds impls funcs = record { texts = codes "main" ∷ codes "f" ∷ codes "S" ∷ []; kinds = kinds; impls = impls; funcs = funcs; main = 0 }
 
--- only `main`, which ends behind this
+-- only `main`, which ends after this
 abbrev pub alone : List Instr → Parts
 alone body = code_of [] [] (main_of (body ++ i.RetVoid ∷ []) ∷ [])
 

@@ -15,7 +15,7 @@ use Rattle.vale_text.specs.Operations as operations
 use Rattle.vale_code.proofs.Fits as fits
 use Rattle.vale_code.proofs.Fits.{ticks, ticks_fewer, Fits, fetch_within, top_most}
 use Rattle.vale_text.proofs.StateLaws as laws
-use Rattle.vale_text.specs.Later.{Later, StepGoesOn}
+use Rattle.vale_text.specs.Progress.{Progresses, StepGoesOn}
 use Rattle.vale_code.specs.Act.{act, answers, surely, value, values, owner, without_first, act_if, step_of, step_by, loops, call, call_of_object, dispatch, makes, opens, returns, loops_over_numbers, loops_over_array}
 use Rattle.vale_code.specs.Destroy.{destroy, destroy_by, destroy_object, first_owned, Owned, drop_rest, drop_next}
 use Rattle.vale_code.specs.Enter.{Form, enter}
@@ -52,7 +52,7 @@ module _ (code : Parts) (origin : State) (b : ℕ) where
   abbrev pub Room : List Frame → State → Type 0
   Room frames s = at_below code frames + ticks code s < b + (width code + width code)
 
-  destroys_by : (o : Option ℕ) (n : ℕ) (x : Object) (at : Spot) (frames : List Frame) (s : State) → Later origin s → Room frames s → Fits code origin b (destroy_by code o n x at frames s)
+  destroys_by : (o : Option ℕ) (n : ℕ) (x : Object) (at : Spot) (frames : List Frame) (s : State) → Progresses origin s → Room frames s → Fits code origin b (destroy_by code o n x at frames s)
   destroys_by (Some f) n x at frames s l room =
       fits.with_a_function code origin b f s _ l (λ form func.
       fits.destroys code origin b form s _ l (fits.enters code origin b f form func _ None (Own n ∷ []) frames s l room))
@@ -63,11 +63,11 @@ module _ (code : Parts) (origin : State) (b : ℕ) where
         right = tt;
       }))
 
-  destroys_object : (o : Option Object) (n : ℕ) (at : Spot) (frames : List Frame) (s : State) → Later origin s → Room frames s → Fits code origin b (destroy_object code o n at frames s)
+  destroys_object : (o : Option Object) (n : ℕ) (at : Spot) (frames : List Frame) (s : State) → Progresses origin s → Room frames s → Fits code origin b (destroy_object code o n at frames s)
   destroys_object None n at frames s l room = fits.stays code origin b None s l
   destroys_object (Some o) n at frames s l room = destroys_by (destructor_of code o.kind) n o at frames s l room
 
-  pub destroys : (v : Value) (at : Spot) (frames : List Frame) (s : State) → Later origin s → Room frames s → Fits code origin b (destroy code v at frames s)
+  pub destroys : (v : Value) (at : Spot) (frames : List Frame) (s : State) → Progresses origin s → Room frames s → Fits code origin b (destroy code v at frames s)
   destroys (Own n) at frames s l room = destroys_object (object_of n s) n at frames s l room
   destroys (Iso n) at frames s l room =
       destroys_object (object_of n (join_isolate n s)) n at frames (join_isolate n s) (laws.later_trans origin s (join_isolate n s) l (laws.join_isolate_later n s)) room
@@ -76,19 +76,19 @@ module _ (code : Parts) (origin : State) (b : ℕ) where
   destroys (Text t) at frames s l room = fits.stays code origin b None s l
   destroys (Ref n) at frames s l room = fits.stays code origin b None s l
 
-  pub iterates : (f : Iterating) (k : ℕ) (item : Value) (frames : List Frame) (s : State) → Later origin s → Room frames s → Fits code origin b (iterate code f k item frames s)
+  pub iterates : (f : Iterating) (k : ℕ) (item : Value) (frames : List Frame) (s : State) → Progresses origin s → Room frames s → Fits code origin b (iterate code f k item frames s)
   iterates f k item frames s l room =
       fits.with_a_function code origin b f.function s _ l (λ form func.
       fits.iterates code origin b form s _ l (fits.enters code origin b f.function form func _ (Some 0) (item ∷ f.captured) frames s l room))
 
-  counts_on : (x : Bool) (last : Config → State) (f : Iterating) (frames : List Frame) (s : State) → Later s (counted_from x code last f frames s)
+  counts_on : (x : Bool) (last : Config → State) (f : Iterating) (frames : List Frame) (s : State) → Progresses s (counted_from x code last f frames s)
   counts_on true last f frames s = laws.loop_counted_later _ s
   counts_on false last f frames s = laws.later_refl s
 
-  pub loop_fits : (last : Config → State) (f : Iterating) (frames : List Frame) (s : State) → Later origin s → at_below code frames + ticks code s + 1 < b
+  pub loop_fits : (last : Config → State) (f : Iterating) (frames : List Frame) (s : State) → Progresses origin s → at_below code frames + ticks code s + 1 < b
       → Fits code origin b (loop_begins code last f frames s)
   loop_fits last f frames s l room =
-      let on : Later s (counted_from (is_outermost s) code last f frames s) = counts_on (is_outermost s) last f frames s in
+      let on : Progresses s (counted_from (is_outermost s) code last f frames s) = counts_on (is_outermost s) last f frames s in
       record {
         less = omega (arith, room, ticks_fewer code s (counted_from (is_outermost s) code last f frames s) on);
         later = laws.later_trans origin s (counted_from (is_outermost s) code last f frames s) l on;
@@ -108,15 +108,15 @@ module _ (code : Parts) (below : List Frame) (s : State) where
   pub drops : (f : Emptying) → Fits code s one_more (drop_next code f below s)
   drops f = drops_rest (first_owned f.rest) f
 
-  array : (kind : Option Kind) (f : Iterating) (t : State) → Later s t → Fits code s one_more (array_made kind f below t)
+  array : (kind : Option Kind) (f : Iterating) (t : State) → Progresses s t → Fits code s one_more (array_made kind f below t)
   array None f t l = fits.stays code s one_more None t l
   array (Some kind) f t l =
       fits.after code s one_more t _ l (λ u lu less.
-      let birth : Later u (born kind f.done u) = laws.born_later_state kind f.done u in
+      let birth : Progresses u (born kind f.done u) = laws.born_later_state kind f.done u in
       fits.leaves code s one_more below f.dest _ (born kind f.done u) (laws.later_trans s u (born kind f.done u) lu birth)
       (omega (arith, less, ticks_fewer code s t l, ticks_fewer code u (born kind f.done u) birth)))
 
-  gathers : (item : Option Ty) (f : Iterating) (t : State) → Later s t → Fits code s one_more (gathered code item f below t)
+  gathers : (item : Option Ty) (f : Iterating) (t : State) → Progresses s t → Fits code s one_more (gathered code item f below t)
   gathers None f t l = fits.leaves code s one_more below None None t l (omega (arith, ticks_fewer code s t l))
   gathers (Some item) f t l = array (array_of code item) f t l
 
@@ -137,7 +137,7 @@ module _ (code : Parts) (last : Config → State) (f : Active) (below : List Fra
   abbrev b : ℕ
   b = ticks code s + at_top code (Running f) + at_below code below
 
-  itself : Later s s
+  itself : Progresses s s
   itself = laws.later_refl s
 
   module _ (instr : Instr) (e : fetch code f.function f.place ≡ Some instr) where
@@ -151,14 +151,14 @@ module _ (code : Parts) (last : Config → State) (f : Active) (below : List Fra
     some_left : places_from code f.place ≤ at_top code (Running f)
     some_left = omega arith
 
-    on_from : is_tick (Some instr) ≡ false → (regs : Registers) (t : State) → Later s t → Fits code s b (onward f regs below t)
+    on_from : is_tick (Some instr) ≡ false → (regs : Registers) (t : State) → Progresses s t → Fits code s b (onward f regs below t)
     on_from plain regs t l = record {
       less = omega (arith, here, full plain, ticks_fewer code s t l, top_most code (behind f regs));
       later = l;
       right = tt;
     }
 
-    on_after_tick : (regs : Registers) (t u : State) → Later s t → ticks code t + for_tick code ≡ ticks code s → Later t u → Fits code s b (onward f regs below u)
+    on_after_tick : (regs : Registers) (t u : State) → Progresses s t → ticks code t + for_tick code ≡ ticks code s → Progresses t u → Fits code s b (onward f regs below u)
     on_after_tick regs t u l less lu = record {
       less = omega (arith, here, less, ticks_fewer code t u lu, top_most code (behind f regs));
       later = laws.later_trans s t u l lu;
@@ -179,7 +179,7 @@ module _ (code : Parts) (last : Config → State) (f : Active) (below : List Fra
     certainly plain to regs (traps kind) goes = fits.stays code s b None s itself
     certainly plain to regs fails goes = fits.stays code s b None s itself
 
-    certainly_after : (to : Option ℕ) (regs : Registers) (t : State) (a : Answer) → Later s t → ticks code t + for_tick code ≡ ticks code s → StepGoesOn t a
+    certainly_after : (to : Option ℕ) (regs : Registers) (t : State) (a : Answer) → Progresses s t → ticks code t + for_tick code ≡ ticks code s → StepGoesOn t a
         → Fits code s b (certain f to regs below t a)
     certainly_after to regs t (gives v u) l less goes = on_after_tick (with_result to v regs) t u l less goes
     certainly_after to regs t (traps kind) l less goes = fits.stays code s b None t l
@@ -281,7 +281,7 @@ module _ (code : Parts) (last : Config → State) (f : Active) (below : List Fra
 
     -- ---- parallel loops
 
-    looping : (to : ℕ) (items : Items) (g : ℕ) (args : List ℕ) (regs : Registers) (at : Spot) (t : State) → Later s t
+    looping : (to : ℕ) (items : Items) (g : ℕ) (args : List ℕ) (regs : Registers) (at : Spot) (t : State) → Progresses s t
         → places_from code (f.place + 1) + (width code + width code) + at_below code below + ticks code t + 1 < b
         → Fits code s b (loops code last f below s to items g args regs at t)
     looping to items g args regs at t l enough =

@@ -10,7 +10,7 @@ use Rattle.vale_base.specs.declared.trap.FrameAt.{FrameAt}
 use Rattle.vale_base.specs.declared.trap.TrapKind.{TrapKind}
 use Rattle.vale_base.specs.declared.trap.TrapKind.TheVariants.{CallDepth}
 use Rattle.vale_text.proofs.StateLaws.{later_refl, later_trans, Spent, spend_of_later, freeze_later, freeze_iteration_later, thaw_later, thaw_iteration_later}
-use Rattle.vale_text.specs.Later.{Later, EndsRight}
+use Rattle.vale_text.specs.Progress.{Progresses, EndsRight}
 use Rattle.vale_code.specs.Act.{on_looked}
 use Rattle.vale_code.specs.Enter.{Form, Plain, Pure, Iteration, Destructor, form_of, weight, begun, ended, outgoing, with_form, with_func, function, enter, if_called, if_iteration, if_destructor, leave_function}
 use Rattle.vale_code.specs.Frames.{Frame, Running, Dropping, Looping, Alone, Next, On, Over, trap, under, deeper, ticked, after_tick, resume, leave}
@@ -63,7 +63,7 @@ module _ (code : Parts) where
   resumed (Some to) (Some v) (Alone o) = refl
 
   -- fewer ticks allow less
-  pub ticks_fewer : (s t : State) → Later s t → ticks t ≤ ticks s
+  pub ticks_fewer : (s t : State) → Progresses s t → ticks t ≤ ticks s
   ticks_fewer s t l = times t.left s.left (for_tick code) l.fewer
     where
       times : (m n k : ℕ) → m ≤ n → m * k ≤ n * k
@@ -75,8 +75,8 @@ module _ (code : Parts) where
     IsLess (Over end v s) = Unit {0}
 
     abbrev pub IsLater : Next → Type 0
-    IsLater (On c) = Later origin c.state
-    IsLater (Over end v s) = Later origin s
+    IsLater (On c) = Progresses origin c.state
+    IsLater (Over end v s) = Progresses origin s
 
     abbrev pub IsCutRight : Next → Type 0
     IsCutRight (On c) = Unit {0}
@@ -88,10 +88,10 @@ module _ (code : Parts) where
       pub later : IsLater n
       pub right : IsCutRight n
 
-    pub stays : (v : Option Value) (s : State) → Later origin s → Fits (Over Wrong v s)
+    pub stays : (v : Option Value) (s : State) → Progresses origin s → Fits (Over Wrong v s)
     stays v s l = record { less = tt; later = l; right = tt }
 
-    pub traps_there : (kind : TrapKind) (at : Spot) (frames : List Frame) (s : State) → Later origin s → Fits (trap kind at frames s)
+    pub traps_there : (kind : TrapKind) (at : Spot) (frames : List Frame) (s : State) → Progresses origin s → Fits (trap kind at frames s)
     traps_there kind at frames s l = record { less = tt; later = l; right = tt }
 
     -- ---- the words of steps
@@ -100,10 +100,10 @@ module _ (code : Parts) where
     either true m n h g = h
     either false m n h g = g
 
-    pub deep : (more : ℕ) (at : Spot) (frames : List Frame) (s : State) (m : Next) → Later origin s → Fits m → Fits (deeper more at frames s m)
+    pub deep : (more : ℕ) (at : Spot) (frames : List Frame) (s : State) (m : Next) → Progresses origin s → Fits m → Fits (deeper more at frames s m)
     deep more at frames s m l h = either (has_depth more (under frames) s) m (trap CallDepth at frames s) h (traps_there CallDepth at frames s l)
 
-    pub after : (s : State) (go : State → Next) → Later origin s → ((t : State) → Later origin t → ticks t + for_tick code ≡ ticks s → Fits (go t)) → Fits (after_tick s go)
+    pub after : (s : State) (go : State → Next) → Progresses origin s → ((t : State) → Progresses origin t → ticks t + for_tick code ≡ ticks s → Fits (go t)) → Fits (after_tick s go)
     after s go l each = at s.left refl
       where
         at : (n : ℕ) → s.left ≡ n → Fits (ticked (spend_of n s) s go)
@@ -112,19 +112,19 @@ module _ (code : Parts) where
             let spent : Spent s (record s { left = n; spent = s.spent + 1 }) = spend_of_later (suc n) s (record s { left = n; spent = s.spent + 1 }) (sym e) refl in
             each (record s { left = n; spent = s.spent + 1 }) (later_trans origin s (record s { left = n; spent = s.spent + 1 }) l spent.later) (rw e (omega arith))
 
-    pub value : (v : Option Value) (s : State) (go : Value → Next) → Later origin s → ((u : Value) → Fits (go u)) → Fits (with_value v s go)
+    pub value : (v : Option Value) (s : State) (go : Value → Next) → Progresses origin s → ((u : Value) → Fits (go u)) → Fits (with_value v s go)
     value None s go l each = stays None s l
     value (Some v) s go l each = each v
 
-    pub reads : (r : Option Read) (s : State) (go : List Value → Registers → Next) → Later origin s → ((vs : List Value) (regs : Registers) → Fits (go vs regs)) → Fits (with_read r s go)
+    pub reads : (r : Option Read) (s : State) (go : List Value → Registers → Next) → Progresses origin s → ((vs : List Value) (regs : Registers) → Fits (go vs regs)) → Fits (with_read r s go)
     reads None s go l each = stays None s l
     reads (Some r) s go l each = each r.values r.after
 
-    pub registers : (r : Option Registers) (s : State) (go : Registers → Next) → Later origin s → ((regs : Registers) → Fits (go regs)) → Fits (with_registers r s go)
+    pub registers : (r : Option Registers) (s : State) (go : Registers → Next) → Progresses origin s → ((regs : Registers) → Fits (go regs)) → Fits (with_registers r s go)
     registers None s go l each = stays None s l
     registers (Some r) s go l each = each r
 
-    pub owner : (v : Option Value) (s : State) (go : ℕ → Next) → Later origin s → ((n : ℕ) → Fits (go n)) → Fits (with_owner v s go)
+    pub owner : (v : Option Value) (s : State) (go : ℕ → Next) → Progresses origin s → ((n : ℕ) → Fits (go n)) → Fits (with_owner v s go)
     owner (Some (Own n)) s go l each = each n
     owner None s go l each = stays None s l
     owner (Some (Int z)) s go l each = stays None s l
@@ -133,7 +133,7 @@ module _ (code : Parts) where
     owner (Some (Ref n)) s go l each = stays None s l
     owner (Some (Iso n)) s go l each = stays None s l
 
-    pub number : (v : Option Value) (s : State) (go : ℤ → Next) → Later origin s → ((z : ℤ) → Fits (go z)) → Fits (with_number v s go)
+    pub number : (v : Option Value) (s : State) (go : ℤ → Next) → Progresses origin s → ((z : ℤ) → Fits (go z)) → Fits (with_number v s go)
     number (Some (Int z)) s go l each = each z
     number None s go l each = stays None s l
     number (Some (Truth x)) s go l each = stays None s l
@@ -142,7 +142,7 @@ module _ (code : Parts) where
     number (Some (Ref n)) s go l each = stays None s l
     number (Some (Iso n)) s go l each = stays None s l
 
-    pub truth : (v : Option Value) (s : State) (go : Bool → Next) → Later origin s → ((x : Bool) → Fits (go x)) → Fits (with_truth v s go)
+    pub truth : (v : Option Value) (s : State) (go : Bool → Next) → Progresses origin s → ((x : Bool) → Fits (go x)) → Fits (with_truth v s go)
     truth (Some (Truth x)) s go l each = each x
     truth None s go l each = stays None s l
     truth (Some (Int z)) s go l each = stays None s l
@@ -151,16 +151,16 @@ module _ (code : Parts) where
     truth (Some (Ref n)) s go l each = stays None s l
     truth (Some (Iso n)) s go l each = stays None s l
 
-    pub choice : {A : Type 0} (o : Option A) (s : State) (go : A → Next) → Later origin s → ((a : A) → Fits (go a)) → Fits (with_choice o s go)
+    pub choice : {A : Type 0} (o : Option A) (s : State) (go : A → Next) → Progresses origin s → ((a : A) → Fits (go a)) → Fits (with_choice o s go)
     choice None s go l each = stays None s l
     choice (Some a) s go l each = each a
 
-    pub looked : (x : Looked) (s : State) (if_dead : Next) (go : ℕ → Object → Next) → Later origin s → Fits if_dead → ((n : ℕ) (o : Object) → Fits (go n o)) → Fits (on_looked x s if_dead go)
+    pub looked : (x : Looked) (s : State) (if_dead : Next) (go : ℕ → Object → Next) → Progresses origin s → Fits if_dead → ((n : ℕ) (o : Object) → Fits (go n o)) → Fits (on_looked x s if_dead go)
     looked (found n o) s if_dead go l h each = each n o
     looked dead s if_dead go l h each = h
     looked nowhere s if_dead go l h each = stays None s l
 
-    pub with_a_function : (f : ℕ) (s : State) (go : Form → Func → Next) → Later origin s → ((form : Form) (func : Func) → Fits (go form func)) → Fits (function code f s go)
+    pub with_a_function : (f : ℕ) (s : State) (go : Form → Func → Next) → Progresses origin s → ((form : Form) (func : Func) → Fits (go form func)) → Fits (function code f s go)
     with_a_function f s go l each = at (slice_get code.funcs f)
       where
         by_form : (o : Option Form) (func : Func) → Fits (with_form o func s go)
@@ -171,19 +171,19 @@ module _ (code : Parts) where
         at None = stays None s l
         at (Some func) = by_form (form_of func.form) func
 
-    pub called : (form : Form) (s : State) (m : Next) → Later origin s → Fits m → Fits (if_called form s m)
+    pub called : (form : Form) (s : State) (m : Next) → Progresses origin s → Fits m → Fits (if_called form s m)
     called Plain s m l h = h
     called Pure s m l h = h
     called Iteration s m l h = stays None s l
     called Destructor s m l h = stays None s l
 
-    pub iterates : (form : Form) (s : State) (m : Next) → Later origin s → Fits m → Fits (if_iteration form s m)
+    pub iterates : (form : Form) (s : State) (m : Next) → Progresses origin s → Fits m → Fits (if_iteration form s m)
     iterates Plain s m l h = stays None s l
     iterates Pure s m l h = stays None s l
     iterates Iteration s m l h = h
     iterates Destructor s m l h = stays None s l
 
-    pub destroys : (form : Form) (s : State) (m : Next) → Later origin s → Fits m → Fits (if_destructor form s m)
+    pub destroys : (form : Form) (s : State) (m : Next) → Progresses origin s → Fits m → Fits (if_destructor form s m)
     destroys Plain s m l h = stays None s l
     destroys Pure s m l h = stays None s l
     destroys Iteration s m l h = stays None s l
@@ -191,13 +191,13 @@ module _ (code : Parts) where
 
     -- ---- functions are entered and left
 
-    begins : (form : Form) (s : State) → Later s (begun form s)
+    begins : (form : Form) (s : State) → Progresses s (begun form s)
     begins Plain s = later_refl s
     begins Pure s = freeze_later s
     begins Iteration s = freeze_iteration_later s
     begins Destructor s = later_refl s
 
-    ends : (form : Form) (v : Option Value) (s : State) → Later s (ended form v s)
+    ends : (form : Form) (v : Option Value) (s : State) → Progresses s (ended form v s)
     ends Plain v s = later_refl s
     ends Pure v s = thaw_later (end_of_pure v) s
     ends Iteration v s = thaw_iteration_later (end_of_isolate v) s
@@ -205,7 +205,7 @@ module _ (code : Parts) where
 
     -- what a tick allows is enough for one more function over these frames
     pub enters : (f : ℕ) (form : Form) (func : Func) (call : FrameAt) (dest : Option ℕ) (args : List Value) (frames : List Frame) (s : State)
-        → Later origin s → at_below code frames + ticks s < b + (width code + width code) → Fits (enter f form func call dest args frames s)
+        → Progresses origin s → at_below code frames + ticks s < b + (width code + width code) → Fits (enter f form func call dest args frames s)
     enters f form func call dest args frames s l room =
         deep (weight form) call.at frames s _ l (after s _ l (λ t lt less. record {
           less = omega (arith, room, less, ticks_fewer t (begun form t) (begins form t), top_most (Running (record { call = call; function = f; dest = dest; place = 0; registers = registers_for func.registers args })));
@@ -213,12 +213,12 @@ module _ (code : Parts) where
           right = tt;
         }))
 
-    pub leaves : (frames : List Frame) (to : Option ℕ) (v : Option Value) (s : State) → Later origin s → at_below code frames + ticks s < b → Fits (leave frames to v s)
+    pub leaves : (frames : List Frame) (to : Option ℕ) (v : Option Value) (s : State) → Progresses origin s → at_below code frames + ticks s < b → Fits (leave frames to v s)
     leaves [] to v s l room = record { less = tt; later = l; right = tt }
     leaves (f ∷ fs) to v s l room = record { less = omega (arith, room, top_most (resume to v f), resumed to v f); later = l; right = tt }
 
     pub leaves_function : (form : Form) (dest : Option ℕ) (v : Option Value) (frames : List Frame) (s : State)
-        → Later origin s → at_below code frames + ticks s < b → Fits (leave_function form dest v frames s)
+        → Progresses origin s → at_below code frames + ticks s < b → Fits (leave_function form dest v frames s)
     leaves_function form dest v frames s l room =
         leaves frames dest (outgoing form v) (ended form v s) (later_trans origin s (ended form v s) l (ends form v s))
         (omega (arith, room, ticks_fewer s (ended form v s) (ends form v s)))

@@ -86,7 +86,7 @@ makes_purely : prints_seven (makes ∷ []) (i.Call 1 1 (0 ∷ []) (at 8) ∷ i.L
 unfolding makes digits
 makes_purely = refl
 
--- what is left behind is removed
+-- what is left after is removed
 leaves_behind : Func
 leaves_behind = function 1 1 (t.Int ∷ []) (t.Ref (kind 0)) 3 (i.Make 1 (kind 0) (0 ∷ []) ∷ i.Borrow 2 1 ∷ i.Ret 2 ∷ [])
 

@@ -3,7 +3,7 @@ use Rattle.std.proofs.Common.{◌≡◌, ◌≢◌, ℕ, zero, suc, ◌≤◌, L
 use Rattle.vale_state_spec.specs.Outcome.{End, Done, Trap, Cut, Wrong, Outcome}
 use Rattle.vale_state_spec.specs.State.{State, Given, given, begin, born, function_frame}
 use Rattle.vale_state_spec.specs.World.{Value, Own, next_name}
-use Rattle.vale_text.specs.Later.{Begins, Later}
+use Rattle.vale_text.specs.Progress.{Begins, Progresses}
 use Rattle.vale_code.proofs.Beside as side
 use Rattle.vale_code.proofs.Beside.{Beside, beside}
 use Rattle.vale_code.proofs.Ends.{run_ends, run_ends_once}
@@ -47,7 +47,7 @@ module _ (code : Parts) where
   step_before d (Trap info) v s x is h = (h.0, h.1, ap (λ y. then_go y (exec code h.0)) is ∙ h.2)
   step_before d Wrong v s x is h = (h.0, h.1, ap (λ y. then_go y (exec code h.0)) is ∙ h.2)
 
-  -- what holds behind the first step holds of the whole
+  -- what holds after the first step holds of the whole
   as_run : (d : Config) (end : End) (v : Option Value) (s : State) → GoesLonger (after (step code d)) end v s → GoesLonger (from d) end v s
   as_run d Cut v s h = at
     where
@@ -58,7 +58,7 @@ module _ (code : Parts) where
   as_run d (Trap info) v s h = (suc h.0, h.1, h.2)
   as_run d Wrong v s h = (suc h.0, h.1, h.2)
 
-  later_begins : (s0 : State) (g : Ending) → Later s0 g.state → Begins s0.pieces g.state.pieces
+  later_begins : (s0 : State) (g : Ending) → Progresses s0 g.state → Begins s0.pieces g.state.pieces
   later_begins s0 g l = (l.printed, l.pieces)
 
   exec_longer : (n : ℕ) (c : Config) (x : Beside) (e : Ending) → c.state.left ≤ x.left → exec code n c ≡ Some e

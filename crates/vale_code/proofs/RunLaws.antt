@@ -4,7 +4,7 @@ use Rattle.vale_state_spec.specs.Outcome.{End, Cut}
 use Rattle.vale_state_spec.specs.State.{State, Given, given, begin, born, function_frame, living}
 use Rattle.vale_state_spec.specs.World.{Value, Own, IsDead, next_name}
 use Rattle.vale_text.proofs.StateLaws.{later_refl, later_trans, born_later_state}
-use Rattle.vale_text.specs.Later.{Later, EndsRight, StampsRise}
+use Rattle.vale_text.specs.Progress.{Progresses, EndsRight, StampsRise}
 use Rattle.vale_code.proofs.Ends.{step_less, run_ends}
 use Rattle.vale_code.proofs.Fits as fits
 use Rattle.vale_code.proofs.Fits.{ticks, ticks_fewer, Fits}
@@ -22,17 +22,17 @@ use Rattle.vale_code.specs.declared.ty.Ty.TheVariants as t
 
 -- ---- steps
 
-pub steps_later : (code : Parts) (n : ℕ) (c : Config) → Later c.state (state_in (steps code n c))
+pub steps_later : (code : Parts) (n : ℕ) (c : Config) → Progresses c.state (state_in (steps code n c))
 steps_later code zero c = later_refl c.state
 steps_later code (suc n) c = at (step code c) (step_less code (last_state code) c) (λ d. steps_later code n d)
   where
-    at : (x : Next) → Fits code c.state (fuel code c) x → ((d : Config) → Later d.state (state_in (steps code n d))) → Later c.state (state_in (go_on x (steps code n)))
+    at : (x : Next) → Fits code c.state (fuel code c) x → ((d : Config) → Progresses d.state (state_in (steps code n d))) → Progresses c.state (state_in (go_on x (steps code n)))
     at (On d) fit next = later_trans c.state d.state (state_in (steps code n d)) fit.later (next d)
     at (Over end v s) fit next = fit.later
 
 -- an ending that a run comes to from a state
 pub record EndsLater (s : State) (e : Ending) : Type 0 where
-  pub later : Later s e.state
+  pub later : Progresses s e.state
   pub right : EndsRight e.end e.state
 
 pub exec_later : (code : Parts) (n : ℕ) (c : Config) (e : Ending) → exec code n c ≡ Some e → EndsLater c.state e
@@ -56,12 +56,12 @@ module _ (code : Parts) (input : Given) (amount : ℕ) where
   abbrev bound : ℕ
   bound = suc (ticks code origin)
 
-  main_fits : (form : Form) (func : Func) (args : List Value) (s : State) → Later origin s
+  main_fits : (form : Form) (func : Func) (args : List Value) (s : State) → Progresses origin s
       → Fits code origin bound (enter code.main form func (function_frame (text_at code func.name) first_spot) None args [] s)
   main_fits form func args s l = fits.enters code origin bound code.main form func (function_frame (text_at code func.name) first_spot) None args [] s l (omega (arith, ticks_fewer code origin s l))
 
   input_fits : (tys : List Ty) (values : Option (List Value)) (go : List Value → State → Next)
-      → ((args : List Value) (s : State) → Later origin s → Fits code origin bound (go args s)) → Fits code origin bound (with_input tys values origin go)
+      → ((args : List Value) (s : State) → Progresses origin s → Fits code origin bound (go args s)) → Fits code origin bound (with_input tys values origin go)
   input_fits [] None go each = each [] origin (later_refl origin)
   input_fits (t.Own kind ∷ []) (Some vs) go each =
       fits.after code origin bound origin _ (later_refl origin) (λ u l less.
@@ -93,7 +93,7 @@ module _ (code : Parts) (input : Given) (amount : ℕ) where
   pub within : (run_code code input amount).ticks ≤ amount
   within = omega (arith, ends_later.later.ticks)
 
-  all_spent : (end : End) (s : State) → Later origin s → EndsRight end s → end ≡ Cut → s.spent ≡ amount
+  all_spent : (end : End) (s : State) → Progresses origin s → EndsRight end s → end ≡ Cut → s.spent ≡ amount
   all_spent end s l right is = let none : EndsRight Cut s = subst (λ x. EndsRight x s) is right in omega (arith, none, l.ticks)
 
   pub cut : (run_code code input amount).end ≡ Cut → (run_code code input amount).ticks ≡ amount

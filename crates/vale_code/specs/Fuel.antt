@@ -9,7 +9,7 @@ use Rattle.vale_code.specs.Sizes.{instructions}
 abbrev pub width : Parts → ℕ
 width code = suc (instructions code.funcs)
 
--- what the places behind one allow
+-- what the places after one allow
 abbrev pub places_from : Parts → ℕ → ℕ
 places_from code p = (width code - p) + (width code - p)
 

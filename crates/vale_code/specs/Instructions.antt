@@ -72,7 +72,7 @@ text_length v s = on_text v (λ t. gives (Some (Int (pos (length t)))) s)
 
 -- ---- going on in a function
 
--- the function behind its instruction, with these registers
+-- the function after its instruction, with these registers
 abbrev pub behind : Active → Registers → Frame
 behind f regs = Running (record f { place = f.place + 1; registers = regs })
 

@@ -5,7 +5,7 @@ ghost use Rattle.vale_state_spec.specs.Outcome.{Cut, Wrong};
 ghost use Rattle.vale_state_spec.specs.State.{State, Given};
 ghost use Rattle.vale_state_spec.specs.World.{Own, IsDead};
 ghost use Rattle.vale_base.specs.declared.spot.Spot.{Spot};
-ghost use Rattle.vale_text.specs.Later.{Begins, StampsRise, NameLater};
+ghost use Rattle.vale_text.specs.Progress.{Begins, StampsRise, NameProgresses};
 ghost use Rattle.vale_code.specs.Destroy.{destroy};
 ghost use Rattle.vale_code.specs.Frames.{Config, Frame, Over};
 ghost use Rattle.vale_code.specs.Parts.{Parts};
@@ -49,7 +49,7 @@ pub fn stamps_rise()
 /// to an object of another kind.
 pub fn names_never_return()
     ensures { (code : Parts) (n : ℕ) (c : Config) (name : ℕ)
-        → NameLater (slice_get c.state.world name) (slice_get (state_in (steps code n c)).world name) }
+        → NameProgresses (slice_get c.state.world name) (slice_get (state_in (steps code n c)).world name) }
 {}
 
 /// An object is dropped at most once: where it has died no rule drops it, and it stays dead.

@@ -83,8 +83,8 @@ of_quote at text = search (rules, the_lemmas)
 pub of_truth : (at : Spot) (b : Bool) → view_node (d.Truth at b) ≡ t.truth at b
 of_truth at b = search (rules, the_lemmas)
 
-pub of_name : (n : NameAt) (moved : Bool) → view_node (d.Name n moved) ≡ t.name n moved
-of_name n moved = search (rules, the_lemmas)
+pub of_name : (n : NameAt) (is_outer moved : Bool) → view_node (d.Name n is_outer moved) ≡ t.name n is_outer moved
+of_name n is_outer moved = search (rules, the_lemmas)
 
 pub of_call : (n : NameAt) (f : Callee) (es : List Expr) → view_node (d.Call n f es) ≡ t.call n (view_callee f) (exprs_of (map view_expr es))
 of_call n f es = search (rules, the_lemmas)

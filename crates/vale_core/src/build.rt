@@ -126,12 +126,16 @@ impl Expr {
         Expr { seen, node }
     }
 
-    /// A local, and whether it is moved here.
+    /// A local, whether it is outer, and whether it is moved here.
     #[tactic(auto, using(crate::proofs::ViewLaws::of_expr, crate::proofs::ViewLaws::of_name))]
-    pub fn name(seen: Seen, name: NameAt, moved: bool) -> Self
-        ensures { view_expr result ≡ t.expr (view_seen seen) (t.name name moved) }
+    pub fn name(seen: Seen, name: NameAt, is_outer: bool, is_moved: bool) -> Self
+        ensures { view_expr result ≡ t.expr (view_seen seen) (t.name name is_outer is_moved) }
     {
-        let node = Node::Name(name, moved);
+        let node = Node::Name {
+            name,
+            is_outer,
+            is_moved,
+        };
         Expr { seen, node }
     }
 

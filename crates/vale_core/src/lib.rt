@@ -1,4 +1,4 @@
-//! The typed tree of a program, with builders of its nodes: what the phases behind typing read (docs/LANGUAGE.md, "Types").
+//! The typed tree of a program, with builders of its nodes: what the phases after typing read (docs/LANGUAGE.md, "Types").
 #![tactic(auto)]
 
 mod build;

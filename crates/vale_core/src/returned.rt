@@ -78,7 +78,7 @@ fn node_returns(node: &Node) -> bool
         | Node::Number(..)
         | Node::Quote(..)
         | Node::Truth(..)
-        | Node::Name(..)
+        | Node::Name { .. }
         | Node::Call(..)
         | Node::Paren(..)
         | Node::Array(..)

@@ -118,8 +118,13 @@ pub enum Node {
     Number(Spot, i64),
     Quote(Spot, Text),
     Truth(Spot, bool),
-    /// A local, and whether it is moved here.
-    Name(NameAt, bool),
+    /// A local: whether it was declared outside of the innermost `pure`, `iso` or parallel block, and whether it is moved
+    /// here.
+    Name {
+        name: NameAt,
+        is_outer: bool,
+        is_moved: bool,
+    },
     Call(NameAt, Callee, Items<Expr>),
     /// `(e)`.
     Paren(Spot, Boxed<Expr>),

@@ -57,12 +57,12 @@ abbrev From : Spot → List Token → Type 0
 From at [] = Unit {0}
 From at (t ∷ ts) = IsUpTo at t.at × From at ts
 
--- each of the tokens stands behind the spot
+-- each of the tokens stands after the spot
 abbrev Behind : Spot → List Token → Type 0
 Behind at [] = Unit {0}
 Behind at (t ∷ ts) = IsBefore at t.at × Behind at ts
 
--- each of the tokens stands behind those before it
+-- each of the tokens stands after those before it
 abbrev pub InOrder : List Token → Type 0
 InOrder [] = Unit {0}
 InOrder (t ∷ ts) = Behind t.at ts × InOrder ts

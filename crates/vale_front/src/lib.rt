@@ -5,8 +5,8 @@ mod judging;
 mod missing;
 mod reading;
 mod refusal;
-mod whole;
+mod frontend;
 
 pub use reading::read;
 pub use refusal::Refusal;
-pub use whole::front;
+pub use frontend::front;

@@ -44,7 +44,7 @@ unlinked_next next previous item = slice_set next (slice_index previous item) (s
 abbrev pub unlinked_previous : List ℕ → List ℕ → ℕ → List ℕ
 unlinked_previous next previous item = slice_set previous (slice_index next item) (slice_index previous item)
 
--- then the item comes behind a head
+-- then the item comes after a head
 abbrev pub linked_next : List ℕ → ℕ → ℕ → List ℕ
 linked_next next item head = slice_set (slice_set next head item) item (slice_index next head)
 

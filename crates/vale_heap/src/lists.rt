@@ -73,7 +73,7 @@ fn splice(next: &mut Vec<usize>, previous: &mut Vec<usize>, one: usize, other: u
     previous[after_one] = other;
 }
 
-// Moves a node to behind another one. What was before it is before what was after it then.
+// Moves a node to after another one. What was before it is before what was after it then.
 #[inline(always)]
 fn relink(next: &mut [usize], previous: &mut [usize], item: usize, head: usize)
     requires item { item < length next.old }

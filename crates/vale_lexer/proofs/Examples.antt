@@ -44,7 +44,7 @@ comment_at_the_end : cut (codes "a // b") (tokens (on 1 1 (k.Name (codes "a")) �
 unfolding next scan word_of
 comment_at_the_end = walked 4 (codes "a // b")
 
--- a line feed behind a comment, a tab and a carriage return
+-- a line feed after a comment, a tab and a carriage return
 comment_and_lines : cut (codes "//x" ++ 10 ∷ 9 ∷ 98 ∷ 13 ∷ 10 ∷ 99 ∷ []) (tokens (on 2 2 (k.Name (codes "b")) ∷ on 3 1 (k.Name (codes "c")) ∷ []) (spot 3 2))
 unfolding next scan word_of
 comment_and_lines = walked 8 (codes "//x" ++ 10 ∷ 9 ∷ 98 ∷ 13 ∷ 10 ∷ 99 ∷ [])

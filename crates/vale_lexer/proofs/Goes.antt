@@ -33,7 +33,7 @@ behind_line at (b ∷ piece) each =
 pub Goes-start : (text : List ℕ) → Goes text [] start text
 Goes-start text = record { sound = λ ts end left c. c }
 
--- behind one byte that is a blank
+-- after one byte that is a blank
 pub record Blanked (text : List ℕ) (list : List Token) (at : Spot) (rest : List ℕ) (b : ℕ) : Type 0 where
   pub goes : Goes text list (step at b) (drop 1 rest)
   pub within : 1 ≤ length rest
@@ -48,7 +48,7 @@ Goes-blank text list at rest b goes e =
     let (after, whole, g, lg) = subst (λ (x : Piece). Tells rest x) (sym e) (next_tells rest) in
     blanked_by text list at rest b after whole g lg goes
 
--- behind so many bytes of one line
+-- after so many bytes of one line
 pub record Passed (text : List ℕ) (list : List Token) (at : Spot) (rest : List ℕ) (n : ℕ) : Type 0 where
   pub goes : Goes text list (along at n) (drop n rest)
   pub within : n ≤ length rest
@@ -96,7 +96,7 @@ Goes-fault text list at rest code n goes e =
       within = omega (arith, f.count, ap length f.whole, length-append f.piece f.after);
     }
 
--- behind a byte the lines and columns are still few
+-- after a byte the lines and columns are still few
 pub record Few (at : Spot) (n : ℕ) : Type 0 where
   pub lines : at.line + (n - 1) < 2 ^ 32
   pub cols : at.col + (n - 1) < 2 ^ 32

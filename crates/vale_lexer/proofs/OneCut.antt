@@ -140,7 +140,7 @@ gap_goes_on at text piece after e g lg = piece_goes_on at text piece after e (Is
 token_goes_on : (at : Spot) (text piece after : List ℕ) (kind : TokenKind) → text ≡ piece ++ after → Means piece kind → IsLongest piece after → Ends at text → ⊥
 token_goes_on at text piece after kind e m lg = piece_goes_on at text piece after e (Means-piece piece kind m) lg (token_or_large piece kind m)
 
--- a cutting of a text that begins with a gap goes on behind it
+-- a cutting of a text that begins with a gap goes on after it
 gap_only : {at end : Spot} {text left : List ℕ} {ts : List Token} → Cuts at text ts end left → Ends end left → (piece after : List ℕ) → text ≡ piece ++ after → IsGap piece → IsLongest piece after → Cuts (behind at piece) after ts end left
 gap_only (none {at = at} {text = text}) ends piece after e g lg = absurd (gap_goes_on at text piece after e g lg ends)
 gap_only (gap {at = at} {end = end} {text = text} {rest = left} {tokens = ts} piece2 after2 e2 g2 lg2 more) ends piece after e g lg =
@@ -156,7 +156,7 @@ same_token t u kinds spots =
     let token_of : TokenKind → Spot → Token = λ k a. record { kind = k; at = a } in
     ap (λ k. token_of k t.at) kinds ∙ ap (λ a. token_of u.kind a) spots
 
--- a cutting of a text that begins with a token begins with it, and goes on behind it
+-- a cutting of a text that begins with a token begins with it, and goes on after it
 pub record HasToken (t : Token) (ts : List Token) (at end : Spot) (after left : List ℕ) : Type 0 where
   pub more : List Token
   pub first : ts ≡ t ∷ more

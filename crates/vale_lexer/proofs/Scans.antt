@@ -48,7 +48,7 @@ slash_part c d more b n true is e =
     subst (λ (x : ℕ). IsPart (x ∷ d ∷ more) (escaped d more (escape_of d) (scan more)) b n) (sym (eqb-true c 92 is)) (escape_part d more (escape_of d) b n e)
 slash_part c d more b n false is e = absurd (none_some b n e)
 
--- at a part the scan goes on behind it
+-- at a part the scan goes on after it
 pub scan_part : (bytes : List ℕ) (b n : ℕ) → part_of bytes ≡ a_part b n → IsPart bytes (scan bytes) b n
 unfolding scan
 scan_part [] b n e = absurd (none_some b n e)

@@ -90,7 +90,7 @@ part_of [] = None
 part_of (b ∷ []) = if is_plain b then Some (b, 1) else None
 part_of (b ∷ c ∷ more) = if is_plain b then Some (b, 1) else if b == 92 then meant (escape_of c) else None
 
--- the longest front that may stand in a quote, the bytes that it stands for, and what is behind it
+-- the longest front that may stand in a quote, the bytes that it stands for, and what is after it
 pub record Scan : Type 0 where
   pub inner : List ℕ
   pub text : List ℕ
@@ -121,7 +121,7 @@ abbrev pub quote_by : List ℕ → ℕ → List ℕ → Piece
 quote_by text inner [] = Fault 4 0
 quote_by text inner (b ∷ more) = if b == 34 then closed text inner else if b == 92 then Fault 2 (inner + 1) else Fault 4 0
 
--- these bytes are behind a `"`
+-- these bytes are after a `"`
 abbrev pub quote_piece : List ℕ → Piece
 quote_piece bytes = quote_by (scan bytes).text (length bytes - length (scan bytes).rest) (scan bytes).rest
 

@@ -49,7 +49,7 @@ fn along(at: Spot, len: usize) -> Spot
     }
 }
 
-// What is behind so many bytes.
+// What is after so many bytes.
 fn behind(bytes: &[u8], len: usize) -> &[u8]
     requires { len ≤ length bytes.now }
     ensures { result.now ≡ drop len bytes.now }

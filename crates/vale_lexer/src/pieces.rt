@@ -31,7 +31,7 @@ pub enum Piece {
     Comment(usize),
     /// A token of so many bytes.
     Token(TokenKind, usize),
-    /// The fault of this code, so many bytes behind the front.
+    /// The fault of this code, so many bytes after the front.
     Fault(u8, usize),
 }
 
@@ -44,7 +44,7 @@ fn number_piece(digits: &[u8]) -> Piece
     }
 }
 
-// The bytes are those behind the first `"`.
+// The bytes are those after the first `"`.
 fn quote_piece(alloc: Global, bytes: &[u8]) -> Result<Piece, Memory>
     requires { length bytes.now < 2 ^ 32 }
     ensures { IfOk result (λ piece. piece ≡ quote_piece bytes.now) }

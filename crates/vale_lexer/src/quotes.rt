@@ -17,7 +17,7 @@ fn part(bytes: &[u8]) -> Option<(u8, usize)>
     }
 }
 
-/// The longest front that may stand in a quote: the bytes that it stands for, and what is behind it.
+/// The longest front that may stand in a quote: the bytes that it stands for, and what is after it.
 #[derive(Drop)]
 pub struct Inner<'a> {
     pub text: Vec<u8>,

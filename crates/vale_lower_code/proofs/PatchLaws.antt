@@ -7,7 +7,7 @@ use Rattle.vale_code.specs.declared.instr.Instr.TheVariants as i
 use Rattle.vale_lowering.specs.Instructions.{if_code, and_code, loop_code}
 use Rattle.vale_lower_code.specs.Sides.{side_end, side_code}
 
--- a test, what is held, and a block behind it; then the jump of the side is held too
+-- a test, what is held, and a block after it; then the jump of the side is held too
 pub set_side : (base test : List Instr) (a : ℕ → List Instr) (c1 c2 c3 : List Instr) (x y : Instr) (n1 h end : ℕ)
     → c1 ≡ base ++ test → n1 ≡ length c1 → c2 ≡ c1 ++ x ∷ [] → c3 ≡ c2 ++ a (length c2) → y ≡ i.Jump end
     → slice_set (c3 ++ y ∷ []) n1 (i.Unless h (length c3 + 1)) ≡ base ++ side_code (length base) h test a end

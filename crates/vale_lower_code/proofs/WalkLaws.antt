@@ -40,11 +40,11 @@ module _ (a : Around) (place h : ℕ) (s : Scope) where
   pub value_by_parts : (e : Expr) → value_code a (view_expr e) place h s ≡ only_if (is_copy (view_ty (out-Expr e).seen.value)) h (node_code a (is_copy (view_ty (out-Expr e).seen.value)) (view_node (out-Expr e).node) place h s)
   value_by_parts e = ap (λ z. value_code a z place h s) (of_out_expr e)
 
-  pub name_by_move : (gives moved : Bool) (n : NameAt) → node_code a gives (t.name n moved) place h s ≡ only_if (gives && not moved) h (load (place_of n.name.0 s) h)
-  name_by_move true true n = refl
-  name_by_move false true n = refl
-  name_by_move true false n = refl
-  name_by_move false false n = refl
+  pub name_by_move : (gives is_outer moved : Bool) (n : NameAt) → node_code a gives (t.name n is_outer moved) place h s ≡ only_if (gives && not moved) h (load (place_of n.name.0 s) h)
+  name_by_move true is_outer true n = refl
+  name_by_move false is_outer true n = refl
+  name_by_move true is_outer false n = refl
+  name_by_move false is_outer false n = refl
 
   pub links_first : (l : t.Link) (ls : t.Links) → links_code a (t.more_links l ls) place h s ≡ then_at place (one_link_code a l place h s) (λ place. links_code a ls place h s)
   links_first (t.link x at op e) ls = refl
@@ -314,7 +314,7 @@ unused_by a place h s (t.expr x (t.steps e ss)) = refl
 unused_by a place h s (t.expr x (t.number at n)) = refl
 unused_by a place h s (t.expr x (t.quote at text)) = refl
 unused_by a place h s (t.expr x (t.truth at b)) = refl
-unused_by a place h s (t.expr x (t.name n moved)) = refl
+unused_by a place h s (t.expr x (t.name n is_outer moved)) = refl
 unused_by a place h s (t.expr x (t.call n f es)) = refl
 unused_by a place h s (t.expr x (t.paren at e)) = refl
 unused_by a place h s (t.expr x (t.array at y es)) = refl

@@ -6,7 +6,7 @@ use Rattle.vale_lowering.specs.Instructions.{stuck}
 use Rattle.vale_lowering.specs.Scopes.{Scope, Around, entry}
 use Rattle.vale_lowering.specs.Lowered.{value_code, stmt_code, store_code}
 
--- whether the block goes on behind it
+-- whether the block goes on after it
 abbrev pub is_lowered : Stmt → Bool
 is_lowered (destructure at ns xs e) = false
 is_lowered _ = true
@@ -16,7 +16,7 @@ next_code around (declare n x e) place h s = value_code around e place h s
 next_code around (destructure at ns xs e) place h s = stuck h
 next_code around x place h s = stmt_code around x place h s
 
--- the next free register behind it, and what is in scope there
+-- the next free register after it, and what is in scope there
 abbrev pub next_register : Stmt → ℕ → ℕ
 next_register (declare n x e) h = h + 1
 next_register _ h = h

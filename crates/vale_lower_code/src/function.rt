@@ -18,7 +18,7 @@ use vale_base::{Memory, Text};
 use vale_code::{Func, Instr, Sequence, Ty};
 use vale_core::{Block, Function};
 use vale_lower_expr::{
-    Around, Emission, Frame, Functions, Scope, Texts, above, gives_value, registers_in, text_of,
+    Around, CodeBuffer, Frame, Functions, Scope, Texts, above, gives_value, registers_in, text_of,
 };
 use vale_syntax::{Param, TypeExpr};
 
@@ -75,21 +75,21 @@ fn emit_body(
     frame: &Frame,
     block: &Block,
     around: &Around,
-) -> Result<Emission, Memory>
+) -> Result<CodeBuffer, Memory>
     ensures { IfOk result (λ e. (ns : List ℕ) → length ns ≡ frame.now.next → framed frame.now.locals.items [] ≡ parameters 0 ns [] → e.code.items ≡ body_code (view_around around.now) ns (view_block block.now)) }
 {
-    let mut emission = Emission::new(alloc);
+    let mut buffer = CodeBuffer::new(alloc);
     let to = frame.next;
     let next = above(to)?;
     let outside = Scope::Outside;
     let scope = Scope::Frame(&frame.locals, &outside);
-    emit_block(alloc, block, false, to, next, &scope, around, &mut emission)?;
+    emit_block(alloc, block, false, to, next, &scope, around, &mut buffer)?;
     if around.gives {
-        emission.put(Instr::Ret { from: to })?;
-        return Ok(emission);
+        buffer.put(Instr::Ret { from: to })?;
+        return Ok(buffer);
     }
-    emission.put(Instr::RetVoid)?;
-    Ok(emission)
+    buffer.put(Instr::RetVoid)?;
+    Ok(buffer)
 }
 
 // How many registers the function has.
@@ -123,8 +123,8 @@ pub fn lower_function<'p>(
     };
     let params = head.params.as_slice();
     let frame = param_frame(alloc, params)?;
-    let emission = emit_body(alloc, &frame, &function.body, &around)?;
-    let registers = register_count(frame.next, &emission.code)?;
+    let buffer = emit_body(alloc, &frame, &function.body, &around)?;
+    let registers = register_count(frame.next, &buffer.code)?;
     let form = if head.is_pure { 1 } else { 0 };
     Ok(Func {
         name: texts.number(text_of(names, head.name.name)),
@@ -132,6 +132,6 @@ pub fn lower_function<'p>(
         params: param_types(alloc, params)?,
         result: result_type(&head.result),
         registers,
-        body: Sequence::from_vec(emission.code),
+        body: Sequence::from_vec(buffer.code),
     })
 }

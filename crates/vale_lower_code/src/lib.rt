@@ -3,6 +3,6 @@
 
 mod function;
 mod walk;
-mod whole;
+mod code;
 
-pub use whole::lower_code;
+pub use code::lower_code;

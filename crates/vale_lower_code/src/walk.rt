@@ -14,7 +14,7 @@ use vale_base::Memory;
 use vale_code::Instr;
 use vale_core::{Block, ElseIf, Expr, Form, Link, Node, Stmt};
 use vale_lower_expr::{
-    Around, Emission, Frame, Local, Scope, above, agree, is_set, put_callee, put_local, put_number,
+    Around, CodeBuffer, Frame, Local, Scope, above, agree, is_set, put_callee, put_local, put_number,
     put_operator, put_quote, put_set, put_set_only, put_truth, put_unary,
 };
 use vale_syntax::BinaryOp;
@@ -27,12 +27,12 @@ fn emit_expr(
     h: u32,
     scope: &Scope,
     around: &Around,
-    emission: &mut Emission,
+    buffer: &mut CodeBuffer,
 ) -> Result<(), Memory>
-    ensures { OnOk result (emission.new.code.items ≡ emission.old.code.items ++ expr_code (view_around around.now) (view_expr expr.now) (length emission.old.code.items) h (entries scope.now)) }
+    ensures { OnOk result (buffer.new.code.items ≡ buffer.old.code.items ++ expr_code (view_around around.now) (view_expr expr.now) (length buffer.old.code.items) h (entries scope.now)) }
 {
     let gives = expr.seen.value.is_copy();
-    emit_node(alloc, &expr.node, gives, h, scope, around, emission)
+    emit_node(alloc, &expr.node, gives, h, scope, around, buffer)
 }
 
 // An expression whose value is used.
@@ -44,14 +44,14 @@ fn emit_value(
     h: u32,
     scope: &Scope,
     around: &Around,
-    emission: &mut Emission,
+    buffer: &mut CodeBuffer,
 ) -> Result<(), Memory>
-    ensures { OnOk result (emission.new.code.items ≡ emission.old.code.items ++ value_code (view_around around.now) (view_expr expr.now) (length emission.old.code.items) h (entries scope.now)) }
+    ensures { OnOk result (buffer.new.code.items ≡ buffer.old.code.items ++ value_code (view_around around.now) (view_expr expr.now) (length buffer.old.code.items) h (entries scope.now)) }
 {
     if !expr.seen.value.is_copy() {
-        return emission.put_stuck(h);
+        return buffer.put_stuck(h);
     }
-    emit_node(alloc, &expr.node, true, h, scope, around, emission)
+    emit_node(alloc, &expr.node, true, h, scope, around, buffer)
 }
 
 // An expression whose value isn't used.
@@ -63,14 +63,14 @@ fn emit_unused(
     h: u32,
     scope: &Scope,
     around: &Around,
-    emission: &mut Emission,
+    buffer: &mut CodeBuffer,
 ) -> Result<(), Memory>
-    ensures { OnOk result (emission.new.code.items ≡ emission.old.code.items ++ unused_code (view_around around.now) (view_expr expr.now) (length emission.old.code.items) h (entries scope.now)) }
+    ensures { OnOk result (buffer.new.code.items ≡ buffer.old.code.items ++ unused_code (view_around around.now) (view_expr expr.now) (length buffer.old.code.items) h (entries scope.now)) }
 {
     if !is_set(expr) {
-        return emit_expr(alloc, expr, h, scope, around, emission);
+        return emit_expr(alloc, expr, h, scope, around, buffer);
     }
-    emit_set_only(alloc, &expr.node, h, scope, around, emission)
+    emit_set_only(alloc, &expr.node, h, scope, around, buffer)
 }
 
 // A `set` whose value isn't used.
@@ -82,14 +82,14 @@ fn emit_set_only(
     h: u32,
     scope: &Scope,
     around: &Around,
-    emission: &mut Emission,
+    buffer: &mut CodeBuffer,
 ) -> Result<(), Memory>
-    ensures { OnOk result (emission.new.code.items ≡ emission.old.code.items ++ set_only_code (view_around around.now) (view_node node.now) (length emission.old.code.items) h (entries scope.now)) }
+    ensures { OnOk result (buffer.new.code.items ≡ buffer.old.code.items ++ set_only_code (view_around around.now) (view_node node.now) (length buffer.old.code.items) h (entries scope.now)) }
 {
     match node {
         Node::Set(_, place, value) => {
-            emit_value(alloc, value.get(), h, scope, around, emission)?;
-            put_set_only(emission, place.get(), h, scope)
+            emit_value(alloc, value.get(), h, scope, around, buffer)?;
+            put_set_only(buffer, place.get(), h, scope)
         }
         Node::Chain(..)
         | Node::Unary(..)
@@ -97,12 +97,12 @@ fn emit_set_only(
         | Node::Number(..)
         | Node::Quote(..)
         | Node::Truth(..)
-        | Node::Name(..)
+        | Node::Name { .. }
         | Node::Call(..)
         | Node::Paren(..)
         | Node::Array(..)
         | Node::Iso(..)
-        | Node::Form(..) => emission.put_stuck(h),
+        | Node::Form(..) => buffer.put_stuck(h),
     }
 }
 
@@ -115,48 +115,48 @@ fn emit_node(
     h: u32,
     scope: &Scope,
     around: &Around,
-    emission: &mut Emission,
+    buffer: &mut CodeBuffer,
 ) -> Result<(), Memory>
-    ensures { OnOk result (emission.new.code.items ≡ emission.old.code.items ++ node_code (view_around around.now) gives (view_node node.now) (length emission.old.code.items) h (entries scope.now)) }
+    ensures { OnOk result (buffer.new.code.items ≡ buffer.old.code.items ++ node_code (view_around around.now) gives (view_node node.now) (length buffer.old.code.items) h (entries scope.now)) }
 {
     match node {
-        Node::Number(_, number) => put_number(emission, gives, *number, h),
-        Node::Quote(_, text) => put_quote(emission, around.texts, gives, text, h),
-        Node::Truth(_, truth) => put_truth(emission, gives, *truth, h),
-        Node::Name(name, moved) => put_local(emission, scope, gives, *moved, name.name, h),
+        Node::Number(_, number) => put_number(buffer, gives, *number, h),
+        Node::Quote(_, text) => put_quote(buffer, around.texts, gives, text, h),
+        Node::Truth(_, truth) => put_truth(buffer, gives, *truth, h),
+        Node::Name { name, is_moved, .. } => put_local(buffer, scope, gives, *is_moved, name.name, h),
         Node::Paren(_, inner) => {
             if !agree(gives, inner.get().seen.value.is_copy()) {
-                return emission.put_stuck(h);
+                return buffer.put_stuck(h);
             }
-            emit_expr(alloc, inner.get(), h, scope, around, emission)
+            emit_expr(alloc, inner.get(), h, scope, around, buffer)
         }
         Node::Chain(first, links) => {
             if !gives {
-                return emission.put_stuck(h);
+                return buffer.put_stuck(h);
             }
-            emit_value(alloc, first.get(), h, scope, around, emission)?;
-            emit_links(alloc, links, h, scope, around, emission)
+            emit_value(alloc, first.get(), h, scope, around, buffer)?;
+            emit_links(alloc, links, h, scope, around, buffer)
         }
         Node::Unary(at, op, operand) => {
             if !gives {
-                return emission.put_stuck(h);
+                return buffer.put_stuck(h);
             }
-            emit_value(alloc, operand.get(), h, scope, around, emission)?;
-            put_unary(emission, *op, *at, h)
+            emit_value(alloc, operand.get(), h, scope, around, buffer)?;
+            put_unary(buffer, *op, *at, h)
         }
         Node::Set(_, place, value) => {
             if !gives {
-                return emission.put_stuck(h);
+                return buffer.put_stuck(h);
             }
-            emit_value(alloc, value.get(), h, scope, around, emission)?;
-            put_set(emission, place.get(), h, scope)
+            emit_value(alloc, value.get(), h, scope, around, buffer)?;
+            put_set(buffer, place.get(), h, scope)
         }
         Node::Call(name, callee, args) => {
             let args = args.as_slice();
-            emit_args(alloc, args, h, scope, around, emission)?;
+            emit_args(alloc, args, h, scope, around, buffer)?;
             put_callee(
                 alloc,
-                emission,
+                buffer,
                 around,
                 gives,
                 *name,
@@ -165,12 +165,12 @@ fn emit_node(
                 h,
             )
         }
-        Node::Form(form) => emit_form(alloc, form.get(), gives, h, scope, around, emission),
-        Node::Steps(..) | Node::Array(..) | Node::Iso(..) => emission.put_stuck(h),
+        Node::Form(form) => emit_form(alloc, form.get(), gives, h, scope, around, buffer),
+        Node::Steps(..) | Node::Array(..) | Node::Iso(..) => buffer.put_stuck(h),
     }
 }
 
-// The values go to registers from one on; each waits for those behind it.
+// The values go to registers from one on; each waits for those after it.
 #[cycle(emit)]
 #[tactic(auto, using(crate::proofs::WalkLaws::lists))]
 fn emit_args(
@@ -179,20 +179,20 @@ fn emit_args(
     h: u32,
     scope: &Scope,
     around: &Around,
-    emission: &mut Emission,
+    buffer: &mut CodeBuffer,
 ) -> Result<(), Memory>
-    ensures { OnOk result (emission.new.code.items ≡ emission.old.code.items ++ args_code (view_around around.now) (exprs_of (map view_expr args.now)) (length emission.old.code.items) h (entries scope.now)) }
+    ensures { OnOk result (buffer.new.code.items ≡ buffer.old.code.items ++ args_code (view_around around.now) (exprs_of (map view_expr args.now)) (length buffer.old.code.items) h (entries scope.now)) }
 {
     let mut next = h;
     for (at, arg) in args.iter().enumerate() {
         let inner = Scope::Waiting(h, at, &*scope);
-        emit_value(alloc, arg, next, &inner, around, emission)?;
+        emit_value(alloc, arg, next, &inner, around, buffer)?;
         next = above(next)?;
     }
     Ok(())
 }
 
-// What stands in the register, with the operator and the operand behind it.
+// What stands in the register, with the operator and the operand after it.
 #[cycle(emit)]
 #[tactic(auto, using(crate::proofs::WalkLaws::links))]
 fn emit_link(
@@ -201,25 +201,25 @@ fn emit_link(
     h: u32,
     scope: &Scope,
     around: &Around,
-    emission: &mut Emission,
+    buffer: &mut CodeBuffer,
 ) -> Result<(), Memory>
-    ensures { OnOk result (emission.new.code.items ≡ emission.old.code.items ++ one_link_code (view_around around.now) (view_link link.now) (length emission.old.code.items) h (entries scope.now)) }
+    ensures { OnOk result (buffer.new.code.items ≡ buffer.old.code.items ++ one_link_code (view_around around.now) (view_link link.now) (length buffer.old.code.items) h (entries scope.now)) }
 {
     match link.op {
         BinaryOp::Or => {
-            let jump = emission.begin_or(h)?;
-            emit_value(alloc, &link.operand, h, scope, around, emission)?;
-            emission.end_or(jump)
+            let jump = buffer.begin_or(h)?;
+            emit_value(alloc, &link.operand, h, scope, around, buffer)?;
+            buffer.end_or(jump)
         }
         BinaryOp::And => {
-            let test = emission.hold()?;
-            emit_value(alloc, &link.operand, h, scope, around, emission)?;
-            emission.end_and(test, h)
+            let test = buffer.hold()?;
+            emit_value(alloc, &link.operand, h, scope, around, buffer)?;
+            buffer.end_and(test, h)
         }
         _ => {
             let next = above(h)?;
-            emit_value(alloc, &link.operand, next, scope, around, emission)?;
-            put_operator(emission, link.op, &link.seen.value, link.at, h)
+            emit_value(alloc, &link.operand, next, scope, around, buffer)?;
+            put_operator(buffer, link.op, &link.seen.value, link.at, h)
         }
     }
 }
@@ -232,13 +232,13 @@ fn emit_links(
     h: u32,
     scope: &Scope,
     around: &Around,
-    emission: &mut Emission,
+    buffer: &mut CodeBuffer,
 ) -> Result<(), Memory>
-    ensures { OnOk result (emission.new.code.items ≡ emission.old.code.items ++ links_code (view_around around.now) (links_of (map view_link links.now)) (length emission.old.code.items) h (entries scope.now)) }
+    ensures { OnOk result (buffer.new.code.items ≡ buffer.old.code.items ++ links_code (view_around around.now) (links_of (map view_link links.now)) (length buffer.old.code.items) h (entries scope.now)) }
 {
     let slice = links.as_slice();
     for link in slice {
-        emit_link(alloc, link, h, scope, around, emission)?;
+        emit_link(alloc, link, h, scope, around, buffer)?;
     }
     Ok(())
 }
@@ -252,25 +252,25 @@ fn emit_form(
     h: u32,
     scope: &Scope,
     around: &Around,
-    emission: &mut Emission,
+    buffer: &mut CodeBuffer,
 ) -> Result<(), Memory>
-    ensures { OnOk result (emission.new.code.items ≡ emission.old.code.items ++ form_code (view_around around.now) gives (view_form form.now) (length emission.old.code.items) h (entries scope.now)) }
+    ensures { OnOk result (buffer.new.code.items ≡ buffer.old.code.items ++ form_code (view_around around.now) gives (view_form form.now) (length buffer.old.code.items) h (entries scope.now)) }
 {
     match form {
         Form::If(_, condition, block, else_ifs, otherwise) => {
             let next = above(h)?;
             let mut ends = Vec::new(alloc);
-            emit_value(alloc, condition, h, scope, around, emission)?;
-            let test = emission.hold()?;
-            emit_block(alloc, block, gives, h, next, scope, around, emission)?;
-            emission.end_side(test, h, &mut ends)?;
+            emit_value(alloc, condition, h, scope, around, buffer)?;
+            let test = buffer.hold()?;
+            emit_block(alloc, block, gives, h, next, scope, around, buffer)?;
+            buffer.end_side(test, h, &mut ends)?;
             emit_else_ifs(
-                alloc, else_ifs, gives, h, scope, around, emission, &mut ends,
+                alloc, else_ifs, gives, h, scope, around, buffer, &mut ends,
             )?;
-            emit_else(alloc, otherwise, gives, h, scope, around, emission)?;
-            emission.end_sides(&ends)
+            emit_else(alloc, otherwise, gives, h, scope, around, buffer)?;
+            buffer.end_sides(&ends)
         }
-        Form::Pure(..) | Form::ParallelRange(..) | Form::ParallelEach(..) => emission.put_stuck(h),
+        Form::Pure(..) | Form::ParallelRange(..) | Form::ParallelEach(..) => buffer.put_stuck(h),
     }
 }
 
@@ -283,15 +283,15 @@ fn emit_else_if(
     h: u32,
     scope: &Scope,
     around: &Around,
-    emission: &mut Emission,
+    buffer: &mut CodeBuffer,
     ends: &mut Vec<u32>,
 ) -> Result<(), Memory>
-    ensures code { OnOk result (emission.new.code.items ≡ emission.old.code.items ++ else_if_code (view_around around.now) gives (view_else_if else_if.now) 0 (length emission.old.code.items) h (entries scope.now)) }
-    ensures ends { OnOk result (ends.new.items ≡ ends.old.items ++ else_if_end (view_around around.now) gives (view_else_if else_if.now) (length emission.old.code.items) h (entries scope.now) ∷ []) }
+    ensures code { OnOk result (buffer.new.code.items ≡ buffer.old.code.items ++ else_if_code (view_around around.now) gives (view_else_if else_if.now) 0 (length buffer.old.code.items) h (entries scope.now)) }
+    ensures ends { OnOk result (ends.new.items ≡ ends.old.items ++ else_if_end (view_around around.now) gives (view_else_if else_if.now) (length buffer.old.code.items) h (entries scope.now) ∷ []) }
 {
     let next = above(h)?;
-    emit_value(alloc, &else_if.condition, h, scope, around, emission)?;
-    let test = emission.hold()?;
+    emit_value(alloc, &else_if.condition, h, scope, around, buffer)?;
+    let test = buffer.hold()?;
     emit_block(
         alloc,
         &else_if.block,
@@ -300,9 +300,9 @@ fn emit_else_if(
         next,
         scope,
         around,
-        emission,
+        buffer,
     )?;
-    emission.end_side(test, h, ends)
+    buffer.end_side(test, h, ends)
 }
 
 #[cycle(emit)]
@@ -314,15 +314,15 @@ fn emit_else_ifs(
     h: u32,
     scope: &Scope,
     around: &Around,
-    emission: &mut Emission,
+    buffer: &mut CodeBuffer,
     ends: &mut Vec<u32>,
 ) -> Result<(), Memory>
-    ensures code { OnOk result (emission.new.code.items ≡ emission.old.code.items ++ sides_code (view_around around.now) gives (map view_else_if else_ifs.now) 0 (length emission.old.code.items) h (entries scope.now)) }
-    ensures ends { OnOk result (ends.new.items ≡ ends.old.items ++ sides_ends (view_around around.now) gives (map view_else_if else_ifs.now) (length emission.old.code.items) h (entries scope.now)) }
+    ensures code { OnOk result (buffer.new.code.items ≡ buffer.old.code.items ++ sides_code (view_around around.now) gives (map view_else_if else_ifs.now) 0 (length buffer.old.code.items) h (entries scope.now)) }
+    ensures ends { OnOk result (ends.new.items ≡ ends.old.items ++ sides_ends (view_around around.now) gives (map view_else_if else_ifs.now) (length buffer.old.code.items) h (entries scope.now)) }
 {
     let slice = else_ifs.as_slice();
     for else_if in slice {
-        emit_else_if(alloc, else_if, gives, h, scope, around, emission, ends)?;
+        emit_else_if(alloc, else_if, gives, h, scope, around, buffer, ends)?;
     }
     Ok(())
 }
@@ -336,18 +336,18 @@ fn emit_else(
     h: u32,
     scope: &Scope,
     around: &Around,
-    emission: &mut Emission,
+    buffer: &mut CodeBuffer,
 ) -> Result<(), Memory>
-    ensures { OnOk result (emission.new.code.items ≡ emission.old.code.items ++ elses_code (view_around around.now) gives (else_end (option_map view_block otherwise.now)) (length emission.old.code.items) h (entries scope.now)) }
+    ensures { OnOk result (buffer.new.code.items ≡ buffer.old.code.items ++ elses_code (view_around around.now) gives (else_end (option_map view_block otherwise.now)) (length buffer.old.code.items) h (entries scope.now)) }
 {
     match otherwise {
         Some(block) => {
             let next = above(h)?;
-            emit_block(alloc, block, gives, h, next, scope, around, emission)
+            emit_block(alloc, block, gives, h, next, scope, around, buffer)
         }
         None => {
             if gives {
-                return emission.put_stuck(h);
+                return buffer.put_stuck(h);
             }
             Ok(())
         }
@@ -365,14 +365,14 @@ pub fn emit_block(
     h: u32,
     scope: &Scope,
     around: &Around,
-    emission: &mut Emission,
+    buffer: &mut CodeBuffer,
 ) -> Result<(), Memory>
-    ensures { OnOk result (emission.new.code.items ≡ emission.old.code.items ++ block_code (view_around around.now) gives (view_block block.now) (length emission.old.code.items) to h (entries scope.now)) }
+    ensures { OnOk result (buffer.new.code.items ≡ buffer.old.code.items ++ block_code (view_around around.now) gives (view_block block.now) (length buffer.old.code.items) to h (entries scope.now)) }
 {
     let mut frame = Frame::new(alloc, h);
     let stmts = block.stmts.as_slice();
     for stmt in stmts {
-        let goes_on = emit_next(alloc, stmt, &mut frame, scope, around, emission)?;
+        let goes_on = emit_next(alloc, stmt, &mut frame, scope, around, buffer)?;
         if !goes_on {
             return Ok(());
         }
@@ -386,7 +386,7 @@ pub fn emit_block(
         frame.next,
         &inner,
         around,
-        emission,
+        buffer,
     )
 }
 
@@ -400,31 +400,31 @@ fn emit_last(
     h: u32,
     scope: &Scope,
     around: &Around,
-    emission: &mut Emission,
+    buffer: &mut CodeBuffer,
 ) -> Result<(), Memory>
-    ensures { OnOk result (emission.new.code.items ≡ emission.old.code.items ++ stmts_code (view_around around.now) gives (last_end (option_map view_expr last.now)) (length emission.old.code.items) to h (entries scope.now)) }
+    ensures { OnOk result (buffer.new.code.items ≡ buffer.old.code.items ++ stmts_code (view_around around.now) gives (last_end (option_map view_expr last.now)) (length buffer.old.code.items) to h (entries scope.now)) }
 {
     match last {
         Some(value) => {
             if gives {
-                emit_value(alloc, value.get(), h, scope, around, emission)?;
-                return emission.put(Instr::Copy { to, from: h });
+                emit_value(alloc, value.get(), h, scope, around, buffer)?;
+                return buffer.put(Instr::Copy { to, from: h });
             }
             if value.get().seen.value.is_copy() {
-                return emission.put_stuck(h);
+                return buffer.put_stuck(h);
             }
-            emit_expr(alloc, value.get(), h, scope, around, emission)
+            emit_expr(alloc, value.get(), h, scope, around, buffer)
         }
         None => {
             if gives {
-                return emission.put_stuck(h);
+                return buffer.put_stuck(h);
             }
             Ok(())
         }
     }
 }
 
-// The next statement of a block. Whether the block goes on behind it.
+// The next statement of a block. Whether the block goes on after it.
 #[cycle(emit)]
 #[tactic(auto, using(crate::proofs::WalkLaws::nexts))]
 fn emit_next(
@@ -433,28 +433,28 @@ fn emit_next(
     frame: &mut Frame,
     scope: &Scope,
     around: &Around,
-    emission: &mut Emission,
+    buffer: &mut CodeBuffer,
 ) -> Result<bool, Memory>
     ensures goes_on { IfOk result (λ goes_on. goes_on ≡ is_lowered (view_stmt stmt.now)) }
-    ensures code { OnOk result (emission.new.code.items ≡ emission.old.code.items ++ next_code (view_around around.now) (view_stmt stmt.now) (length emission.old.code.items) frame.old.next (framed frame.old.locals.items (entries scope.now))) }
+    ensures code { OnOk result (buffer.new.code.items ≡ buffer.old.code.items ++ next_code (view_around around.now) (view_stmt stmt.now) (length buffer.old.code.items) frame.old.next (framed frame.old.locals.items (entries scope.now))) }
     ensures next { OnOk result (frame.new.next ≡ next_register (view_stmt stmt.now) frame.old.next) }
     ensures scope { OnOk result (framed frame.new.locals.items (entries scope.now) ≡ next_scope (view_stmt stmt.now) frame.old.next (framed frame.old.locals.items (entries scope.now))) }
 {
     match stmt {
         Stmt::Declare(name, _, value) => {
             let inner = Scope::Frame(&frame.locals, &*scope);
-            emit_value(alloc, value, frame.next, &inner, around, emission)?;
+            emit_value(alloc, value, frame.next, &inner, around, buffer)?;
             frame.declare(name.name)?;
             Ok(true)
         }
         Stmt::Destructure(..) => {
-            emission.put_stuck(frame.next)?;
+            buffer.put_stuck(frame.next)?;
             Ok(false)
         }
         Stmt::Return(..) | Stmt::While(..) | Stmt::Foreach(..) | Stmt::Form(_) | Stmt::Express(_) =>
             {
                 let inner = Scope::Frame(&frame.locals, &*scope);
-                emit_stmt(alloc, stmt, frame.next, &inner, around, emission)?;
+                emit_stmt(alloc, stmt, frame.next, &inner, around, buffer)?;
                 Ok(true)
             }
     }
@@ -468,50 +468,50 @@ fn emit_stmt(
     h: u32,
     scope: &Scope,
     around: &Around,
-    emission: &mut Emission,
+    buffer: &mut CodeBuffer,
 ) -> Result<(), Memory>
-    ensures { OnOk result (emission.new.code.items ≡ emission.old.code.items ++ stmt_code (view_around around.now) (view_stmt stmt.now) (length emission.old.code.items) h (entries scope.now)) }
+    ensures { OnOk result (buffer.new.code.items ≡ buffer.old.code.items ++ stmt_code (view_around around.now) (view_stmt stmt.now) (length buffer.old.code.items) h (entries scope.now)) }
 {
     match stmt {
-        Stmt::Declare(..) | Stmt::Destructure(..) => emission.put_stuck(h),
+        Stmt::Declare(..) | Stmt::Destructure(..) => buffer.put_stuck(h),
         Stmt::Return(_, None) => {
             if around.gives {
-                return emission.put_stuck(h);
+                return buffer.put_stuck(h);
             }
-            emission.put(Instr::RetVoid)
+            buffer.put(Instr::RetVoid)
         }
         Stmt::Return(_, Some(value)) => {
             if !around.gives {
-                return emission.put_stuck(h);
+                return buffer.put_stuck(h);
             }
-            emit_value(alloc, value.get(), h, scope, around, emission)?;
-            emission.put(Instr::Ret { from: h })
+            emit_value(alloc, value.get(), h, scope, around, buffer)?;
+            buffer.put(Instr::Ret { from: h })
         }
         Stmt::While(_, condition, block) => {
             let next = above(h)?;
-            let start = emission.hold()?;
-            emission.put(Instr::Tick)?;
-            emit_block(alloc, block, false, h, next, scope, around, emission)?;
-            let test = emission.place()?;
-            emit_value(alloc, condition, h, scope, around, emission)?;
-            emission.end_loop(start, test, h)
+            let start = buffer.hold()?;
+            buffer.put(Instr::Tick)?;
+            emit_block(alloc, block, false, h, next, scope, around, buffer)?;
+            let test = buffer.place()?;
+            emit_value(alloc, condition, h, scope, around, buffer)?;
+            buffer.end_loop(start, test, h)
         }
         Stmt::Foreach(at, name, from, to, block) => {
             let bound = above(h)?;
             let turn = above(bound)?;
             let next = above(turn)?;
-            emit_value(alloc, from, h, scope, around, emission)?;
-            emit_value(alloc, to, bound, scope, around, emission)?;
-            let start = emission.begin_count(h, turn, *at)?;
+            emit_value(alloc, from, h, scope, around, buffer)?;
+            emit_value(alloc, to, bound, scope, around, buffer)?;
+            let start = buffer.begin_count(h, turn, *at)?;
             let local = [Local {
                 name: name.name,
                 register: turn,
             }];
             let inner = Scope::Frame(&local, &*scope);
-            emit_block(alloc, block, false, h, next, &inner, around, emission)?;
-            emission.end_count(start, h, bound, turn, *at)
+            emit_block(alloc, block, false, h, next, &inner, around, buffer)?;
+            buffer.end_count(start, h, bound, turn, *at)
         }
-        Stmt::Form(form) => emit_form(alloc, form, false, h, scope, around, emission),
-        Stmt::Express(value) => emit_unused(alloc, value, h, scope, around, emission),
+        Stmt::Form(form) => emit_form(alloc, form, false, h, scope, around, buffer),
+        Stmt::Express(value) => emit_unused(alloc, value, h, scope, around, buffer),
     }
 }

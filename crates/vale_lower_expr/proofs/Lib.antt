@@ -1,4 +1,4 @@
-pub mod EmissionLaws
+pub mod CodeBufferLaws
 pub mod NodeLaws
 pub mod NumberLaws
 pub mod QuoteLaws

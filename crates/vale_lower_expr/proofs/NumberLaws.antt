@@ -29,7 +29,7 @@ text_step o text u at us =
     ap (λ (b : Bool). or_count (or_else o (if b then Some at else None)) ((at + 1) + number_of_text text us)) (eq_sym u text (bytes_eq u text) (bytes_eq text u) refl refl)
     ∙ text_step_by o (bytes_eq text u) at (number_of_text text us)
 
--- a function is added behind those that were there, before those that are left
+-- a function is added after those that were there, before those that are left
 pub add_callable : (o : Option Callable) (b : Bool) (c : Callable) (rest : Option Callable) → or_else (or_else o (if b then Some c else None)) rest ≡ or_else o (if b then Some c else rest)
 add_callable None true c rest = refl
 add_callable None false c rest = refl

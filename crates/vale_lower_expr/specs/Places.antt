@@ -4,7 +4,7 @@ use Rattle.vale_rules_spec.specs.Typed.{Expr, expr, name, set}
 use Rattle.vale_lowering.specs.Scopes.{Scope, place_of}
 
 abbrev pub place_named : Expr → Scope → Option ℕ
-place_named (expr x (name n moved)) s = place_of n.name.0 s
+place_named (expr x (name n is_outer moved)) s = place_of n.name.0 s
 place_named (expr x _) s = None
 
 abbrev pub is_set : Expr → Bool

@@ -1,7 +1,7 @@
 // The locals of a block while it is lowered.
 ghost use Rattle.std.specs.Prelude.{◌≡◌, ◌+◌, [], ◌∷◌, ◌++◌, OnOk};
 
-use crate::emission::above;
+use crate::code_buffer::above;
 use crate::scope::Local;
 use std::alloc::Global;
 use vale_base::{Memory, Name};

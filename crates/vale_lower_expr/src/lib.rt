@@ -3,7 +3,7 @@
 #![tactic(auto)]
 
 mod around;
-mod emission;
+mod code_buffer;
 mod frame;
 mod functions;
 mod names;
@@ -15,7 +15,7 @@ mod shapes;
 mod texts;
 
 pub use around::Around;
-pub use emission::{Emission, above};
+pub use code_buffer::{CodeBuffer, above};
 pub use frame::Frame;
 pub use functions::{Functions, gives_value};
 pub use names::{all_texts, number_of_main, text_of};

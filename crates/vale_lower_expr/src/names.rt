@@ -7,7 +7,7 @@ ghost use Rattle.vale_model.specs.Parts.{name_of};
 ghost use Rattle.vale_lowering.specs.Scopes.{number_of_function};
 ghost use Rattle.vale_lowering.specs.Texts.{function_quotes};
 
-use crate::emission::above;
+use crate::code_buffer::above;
 use crate::quotes::add_block;
 use std::alloc::Global;
 use vale_base::{Memory, Name, Text};

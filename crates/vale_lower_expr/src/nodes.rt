@@ -12,7 +12,7 @@ ghost use Rattle.vale_lower_expr.specs.Held.{texts_of};
 ghost use Rattle.vale_lower_expr.specs.Surroundings.{view_around};
 
 use crate::around::Around;
-use crate::emission::{Emission, above};
+use crate::code_buffer::{CodeBuffer, above};
 use crate::scope::{Scope, place_of};
 use crate::shapes::{operator, put_built_in, put_exchange, put_load, put_store, registers_from};
 use crate::texts::Texts;
@@ -33,36 +33,36 @@ fn is_lawful(text: &Text) -> bool
 
 /// A quote, where a value is wanted.
 pub fn put_quote(
-    emission: &mut Emission,
+    buffer: &mut CodeBuffer,
     texts: &Texts,
     gives: bool,
     text: &Text,
     h: u32,
 ) -> Result<(), Memory>
-    ensures { OnOk result (emission.new.code.items ≡ emission.old.code.items ++ only_if (gives && is_lawful_text text.now) h (i.Text h (number_of_text text.now (texts_of texts.now)) ∷ [])) }
+    ensures { OnOk result (buffer.new.code.items ≡ buffer.old.code.items ++ only_if (gives && is_lawful_text text.now) h (i.Text h (number_of_text text.now (texts_of texts.now)) ∷ [])) }
 {
     if !gives || !is_lawful(text) {
-        return emission.put_stuck(h);
+        return buffer.put_stuck(h);
     }
     let text = texts.number(text.as_slice());
-    emission.put(Instr::Text { to: h, text })
+    buffer.put(Instr::Text { to: h, text })
 }
 
 /// What a local holds, where a value is wanted and it isn't moved.
 pub fn put_local(
-    emission: &mut Emission,
+    buffer: &mut CodeBuffer,
     scope: &Scope,
     gives: bool,
     moved: bool,
     name: Name,
     h: u32,
 ) -> Result<(), Memory>
-    ensures { OnOk result (emission.new.code.items ≡ emission.old.code.items ++ only_if (gives && not moved) h (load (place_of name.0 (entries scope.now)) h)) }
+    ensures { OnOk result (buffer.new.code.items ≡ buffer.old.code.items ++ only_if (gives && not moved) h (load (place_of name.0 (entries scope.now)) h)) }
 {
     if !gives || moved {
-        return emission.put_stuck(h);
+        return buffer.put_stuck(h);
     }
-    put_load(emission, place_of(name, scope), h)
+    put_load(buffer, place_of(name, scope), h)
 }
 
 /// The register of the local that is set.
@@ -71,7 +71,7 @@ fn place_named(place: &Expr, scope: &Scope) -> Option<u32>
     ensures { result ≡ place_named (view_expr place.now) (entries scope.now) }
 {
     match &place.node {
-        Node::Name(name, _) => place_of(name.name, scope),
+        Node::Name { name, .. } => place_of(name.name, scope),
         Node::Set(..)
         | Node::Chain(..)
         | Node::Unary(..)
@@ -100,7 +100,7 @@ pub fn is_set(expr: &Expr) -> bool
         | Node::Number(..)
         | Node::Quote(..)
         | Node::Truth(..)
-        | Node::Name(..)
+        | Node::Name { .. }
         | Node::Call(..)
         | Node::Paren(..)
         | Node::Array(..)
@@ -111,57 +111,57 @@ pub fn is_set(expr: &Expr) -> bool
 
 /// The set of a local, whose new value stands in the register.
 #[tactic(auto, using(crate::proofs::NodeLaws::set_by_place))]
-pub fn put_set(emission: &mut Emission, place: &Expr, h: u32, scope: &Scope) -> Result<(), Memory>
-    ensures { OnOk result (emission.new.code.items ≡ emission.old.code.items ++ set_code (view_expr place.now) h (entries scope.now)) }
+pub fn put_set(buffer: &mut CodeBuffer, place: &Expr, h: u32, scope: &Scope) -> Result<(), Memory>
+    ensures { OnOk result (buffer.new.code.items ≡ buffer.old.code.items ++ set_code (view_expr place.now) h (entries scope.now)) }
 {
-    put_exchange(emission, place_named(place, scope), h)
+    put_exchange(buffer, place_named(place, scope), h)
 }
 
 /// The same, where what the local held isn't used.
 #[tactic(auto, using(crate::proofs::NodeLaws::store_by_place))]
 pub fn put_set_only(
-    emission: &mut Emission,
+    buffer: &mut CodeBuffer,
     place: &Expr,
     h: u32,
     scope: &Scope,
 ) -> Result<(), Memory>
-    ensures { OnOk result (emission.new.code.items ≡ emission.old.code.items ++ store_code (view_expr place.now) h (entries scope.now)) }
+    ensures { OnOk result (buffer.new.code.items ≡ buffer.old.code.items ++ store_code (view_expr place.now) h (entries scope.now)) }
 {
-    put_store(emission, place_named(place, scope), h)
+    put_store(buffer, place_named(place, scope), h)
 }
 
 /// The operator between a register and the next.
 pub fn put_operator(
-    emission: &mut Emission,
+    buffer: &mut CodeBuffer,
     op: BinaryOp,
     ty: &Ty,
     at: Spot,
     h: u32,
 ) -> Result<(), Memory>
-    ensures { OnOk result (emission.new.code.items ≡ emission.old.code.items ++ operator op (view_ty ty.now) at h ∷ []) }
+    ensures { OnOk result (buffer.new.code.items ≡ buffer.old.code.items ++ operator op (view_ty ty.now) at h ∷ []) }
 {
     let next = above(h)?;
-    emission.put(operator(op, ty, at, h, next))
+    buffer.put(operator(op, ty, at, h, next))
 }
 
 // A call of the first function of a name.
 #[tactic(auto, using(crate::proofs::NodeLaws::call_by_number))]
 fn put_call(
     alloc: Global,
-    emission: &mut Emission,
+    buffer: &mut CodeBuffer,
     around: &Around,
     gives: bool,
     name: NameAt,
     values: usize,
     h: u32,
 ) -> Result<(), Memory>
-    ensures { OnOk result (emission.new.code.items ≡ emission.old.code.items ++ call_code (view_around around.now) gives name values h) }
+    ensures { OnOk result (buffer.new.code.items ≡ buffer.old.code.items ++ call_code (view_around around.now) gives name values h) }
 {
     match around.functions.called(name.name, gives) {
-        None => emission.put_stuck(h),
+        None => buffer.put_stuck(h),
         Some(func) => {
             let args = registers_from(alloc, h, values)?;
-            emission.put(Instr::Call {
+            buffer.put(Instr::Call {
                 to: h,
                 func,
                 args,
@@ -174,7 +174,7 @@ fn put_call(
 /// A call of so many values in the registers from one on.
 pub fn put_callee(
     alloc: Global,
-    emission: &mut Emission,
+    buffer: &mut CodeBuffer,
     around: &Around,
     gives: bool,
     name: NameAt,
@@ -182,11 +182,11 @@ pub fn put_callee(
     values: usize,
     h: u32,
 ) -> Result<(), Memory>
-    ensures { OnOk result (emission.new.code.items ≡ emission.old.code.items ++ callee_code (view_around around.now) gives name (view_callee callee) values h) }
+    ensures { OnOk result (buffer.new.code.items ≡ buffer.old.code.items ++ callee_code (view_around around.now) gives name (view_callee callee) values h) }
 {
     match callee {
-        Callee::BuiltIn(f) => put_built_in(emission, f, values, gives, name.at, h),
-        Callee::Constructor => emission.put_stuck(h),
-        Callee::Function(_) => put_call(alloc, emission, around, gives, name, values, h),
+        Callee::BuiltIn(f) => put_built_in(buffer, f, values, gives, name.at, h),
+        Callee::Constructor => buffer.put_stuck(h),
+        Callee::Function(_) => put_call(alloc, buffer, around, gives, name, values, h),
     }
 }

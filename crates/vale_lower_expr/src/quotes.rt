@@ -37,7 +37,7 @@ fn add_node(alloc: Global, node: &Node, texts: &mut Sequence<Text>) -> Result<()
         Node::Steps(..)
         | Node::Number(..)
         | Node::Truth(..)
-        | Node::Name(..)
+        | Node::Name { .. }
         | Node::Array(..)
         | Node::Iso(..) => Ok(()),
     }

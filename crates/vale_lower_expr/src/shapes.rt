@@ -8,7 +8,7 @@ ghost use Rattle.vale_lowering.specs.Scopes.{agree};
 ghost use Rattle.vale_lower_expr.specs.Found.{is_text};
 ghost use Rattle.vale_code.specs.declared.instr.Instr.TheVariants as i;
 
-use crate::emission::{Emission, above};
+use crate::code_buffer::{CodeBuffer, above};
 use std::alloc::Global;
 use vale_base::{Memory, Spot};
 use vale_code::{Instr, Sequence};
@@ -23,60 +23,60 @@ pub fn agree(one: bool, other: bool) -> bool
 }
 
 /// A number, where one is wanted.
-pub fn put_number(emission: &mut Emission, gives: bool, number: i64, h: u32) -> Result<(), Memory>
-    ensures { OnOk result (emission.new.code.items ≡ emission.old.code.items ++ only_if (gives && is_int number) h (i.Int h number ∷ [])) }
+pub fn put_number(buffer: &mut CodeBuffer, gives: bool, number: i64, h: u32) -> Result<(), Memory>
+    ensures { OnOk result (buffer.new.code.items ≡ buffer.old.code.items ++ only_if (gives && is_int number) h (i.Int h number ∷ [])) }
 {
     if !gives {
-        return emission.put_stuck(h);
+        return buffer.put_stuck(h);
     }
-    emission.put(Instr::Int { to: h, number })
+    buffer.put(Instr::Int { to: h, number })
 }
 
 /// A truth, where one is wanted.
-pub fn put_truth(emission: &mut Emission, gives: bool, truth: bool, h: u32) -> Result<(), Memory>
-    ensures { OnOk result (emission.new.code.items ≡ emission.old.code.items ++ only_if gives h (i.Truth h (truth_number truth) ∷ [])) }
+pub fn put_truth(buffer: &mut CodeBuffer, gives: bool, truth: bool, h: u32) -> Result<(), Memory>
+    ensures { OnOk result (buffer.new.code.items ≡ buffer.old.code.items ++ only_if gives h (i.Truth h (truth_number truth) ∷ [])) }
 {
     if !gives {
-        return emission.put_stuck(h);
+        return buffer.put_stuck(h);
     }
     let choice = if truth { 1 } else { 0 };
-    emission.put(Instr::Truth { to: h, choice })
+    buffer.put(Instr::Truth { to: h, choice })
 }
 
 /// What a local holds.
-pub fn put_load(emission: &mut Emission, from: Option<u32>, h: u32) -> Result<(), Memory>
-    ensures { OnOk result (emission.new.code.items ≡ emission.old.code.items ++ load from h) }
+pub fn put_load(buffer: &mut CodeBuffer, from: Option<u32>, h: u32) -> Result<(), Memory>
+    ensures { OnOk result (buffer.new.code.items ≡ buffer.old.code.items ++ load from h) }
 {
     match from {
-        None => emission.put_stuck(h),
-        Some(from) => emission.put(Instr::Copy { to: h, from }),
+        None => buffer.put_stuck(h),
+        Some(from) => buffer.put(Instr::Copy { to: h, from }),
     }
 }
 
 /// The local gets what stands in the register.
-pub fn put_store(emission: &mut Emission, to: Option<u32>, h: u32) -> Result<(), Memory>
-    ensures { OnOk result (emission.new.code.items ≡ emission.old.code.items ++ store to h) }
+pub fn put_store(buffer: &mut CodeBuffer, to: Option<u32>, h: u32) -> Result<(), Memory>
+    ensures { OnOk result (buffer.new.code.items ≡ buffer.old.code.items ++ store to h) }
 {
     match to {
-        None => emission.put_stuck(h),
-        Some(to) => emission.put(Instr::Copy { to, from: h }),
+        None => buffer.put_stuck(h),
+        Some(to) => buffer.put(Instr::Copy { to, from: h }),
     }
 }
 
 /// The local gets what stands in the register, and the register what the local held.
-pub fn put_exchange(emission: &mut Emission, local: Option<u32>, h: u32) -> Result<(), Memory>
-    ensures { OnOk result (emission.new.code.items ≡ emission.old.code.items ++ exchange local h) }
+pub fn put_exchange(buffer: &mut CodeBuffer, local: Option<u32>, h: u32) -> Result<(), Memory>
+    ensures { OnOk result (buffer.new.code.items ≡ buffer.old.code.items ++ exchange local h) }
 {
     match local {
-        None => emission.put_stuck(h),
+        None => buffer.put_stuck(h),
         Some(local) => {
             let next = above(h)?;
-            emission.put(Instr::Copy {
+            buffer.put(Instr::Copy {
                 to: next,
                 from: local,
             })?;
-            emission.put(Instr::Copy { to: local, from: h })?;
-            emission.put(Instr::Copy { to: h, from: next })
+            buffer.put(Instr::Copy { to: local, from: h })?;
+            buffer.put(Instr::Copy { to: h, from: next })
         }
     }
 }
@@ -158,25 +158,25 @@ fn compare(choice: u8, h: u32, next: u32) -> Instr
 }
 
 /// An operator on what stands in the register.
-pub fn put_unary(emission: &mut Emission, op: UnaryOp, at: Spot, h: u32) -> Result<(), Memory>
-    ensures { OnOk result (emission.new.code.items ≡ emission.old.code.items ++ unary_code op at h) }
+pub fn put_unary(buffer: &mut CodeBuffer, op: UnaryOp, at: Spot, h: u32) -> Result<(), Memory>
+    ensures { OnOk result (buffer.new.code.items ≡ buffer.old.code.items ++ unary_code op at h) }
 {
     match op {
         UnaryOp::Minus => {
             let next = above(h)?;
-            emission.put(Instr::Int {
+            buffer.put(Instr::Int {
                 to: next,
                 number: 0,
             })?;
-            emission.put(Instr::Sub {
+            buffer.put(Instr::Sub {
                 to: h,
                 left: next,
                 right: h,
                 at,
             })
         }
-        UnaryOp::Not => emission.put(Instr::Not { to: h, from: h }),
-        UnaryOp::Borrow | UnaryOp::Merge => emission.put_stuck(h),
+        UnaryOp::Not => buffer.put(Instr::Not { to: h, from: h }),
+        UnaryOp::Borrow | UnaryOp::Merge => buffer.put_stuck(h),
     }
 }
 
@@ -252,16 +252,16 @@ fn built_in(
 
 /// The same, at the end of what was emitted.
 pub fn put_built_in(
-    emission: &mut Emission,
+    buffer: &mut CodeBuffer,
     f: BuiltIn,
     values: usize,
     gives: bool,
     at: Spot,
     h: u32,
 ) -> Result<(), Memory>
-    ensures { OnOk result (emission.new.code.items ≡ emission.old.code.items ++ built_in_code f values gives at h) }
+    ensures { OnOk result (buffer.new.code.items ≡ buffer.old.code.items ++ built_in_code f values gives at h) }
 {
     let next = above(h)?;
     let after = above(next)?;
-    emission.put(built_in(f, values, gives, at, h, next, after))
+    buffer.put(built_in(f, values, gives, at, h, next, after))
 }

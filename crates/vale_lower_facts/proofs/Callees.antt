@@ -28,7 +28,7 @@ use Rattle.vale_lowering.specs.Lowered.{count, call_code, room_of}
 use Rattle.vale_lowering.specs.Scopes.{code_type, agree, may_be_called, number_of_function, result_type}
 use Rattle.vale_lower_facts.specs.Slots.{waits, holds, Stand, with_slot, given, type_at}
 use Rattle.vale_lower_facts.specs.Marks.{mark, marked, with_args}
-use Rattle.vale_lower_facts.specs.Suits.{IsBuiltIn, IsCalled}
+use Rattle.vale_lower_facts.specs.WellTyped.{IsBuiltIn, IsCalled}
 use Rattle.vale_lower_facts.proofs.Stands.{Site, Covers, covers_less, covers_write, covers_kept, is_plain, plain_free, plain_less, plain_given, Below, below_slot}
 use Rattle.vale_lower_facts.proofs.Runs.{row_at, Does, Runs, single}
 use Rattle.vale_lower_facts.proofs.Rows.{Fine, all_kept, Stored, all_passed, print_runs, len_runs, text_of_runs, slice_runs, byte_runs, is_num_runs, num_runs}

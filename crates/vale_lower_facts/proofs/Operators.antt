@@ -23,7 +23,7 @@ use Rattle.vale_lowering.specs.Scopes.{Around, code_type}
 use Rattle.vale_lower_facts.specs.Slots.{holds, Stand, scope_at, with_slot, given, behind, type_at}
 use Rattle.vale_rules_spec.specs.Returns.{expr_returns}
 use Rattle.vale_lower_facts.specs.Marks.{Marks, mark, only_marks, marked, link_due, link_marks, value_due, value_marks}
-use Rattle.vale_lower_facts.specs.Suits.{unary_suits}
+use Rattle.vale_lower_facts.specs.WellTyped.{unary_is_well_typed}
 use Rattle.vale_lower_facts.proofs.Stands.{Site, Below, below_slot, type_here, type_there, Says, says_same, says_then, says_slot, says_with, says_behind}
 use Rattle.vale_lower_facts.proofs.Runs.{Runs, nothing, runs_less, both}
 use Rattle.vale_lower_facts.proofs.Ways.{if_runs, and_runs}
@@ -237,7 +237,7 @@ module _ (k : Site) where
 
   -- ---- one operand
 
-  pub unary_runs : {p h : ℕ} {due : Bool} {s : Stand} (o : UnaryOp) (ty x : Ty) (at : Spot) → unary_is_covered o ≡ true → unary_suits o ty x → Below k h s
+  pub unary_runs : {p h : ℕ} {due : Bool} {s : Stand} (o : UnaryOp) (ty x : Ty) (at : Spot) → unary_is_covered o ≡ true → unary_is_well_typed o ty x → Below k h s
       → Runs k p (unary_code o at h) (marked due (with_slot (holds h ty) s) (unary_code o at h)) due (with_slot (holds h ty) s) false (with_slot (holds h x) s)
   unary_runs {p} {h} {due} {s} unary.Minus ty x at c su b =
       subst (λ x. Runs k p (unary_code unary.Minus at h) (marked due (with_slot (holds h ty) s) (unary_code unary.Minus at h)) due (with_slot (holds h ty) s) false (with_slot (holds h x) s)) (sym su.1)

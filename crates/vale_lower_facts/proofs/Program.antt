@@ -39,7 +39,7 @@ use Rattle.vale_lowering.proofs.Lookups.{found_function, found_text, in_front}
 use Rattle.vale_lower_facts.specs.Slots.{Stand, behind, type_at, or_last}
 use Rattle.vale_rules_spec.specs.Returns.{block_returns}
 use Rattle.vale_lower_facts.specs.Marks.{Marks, mark, block_due, block_marks, param_slots, entry_stand, value_type, last_of, function_marks, function_facts, facts_of_parts, lowered_facts}
-use Rattle.vale_lower_facts.specs.Suits.{function_suits, all_suit, PartsSuit, Suits}
+use Rattle.vale_lower_facts.specs.WellTyped.{function_is_well_typed, all_are_well_typed, PartsSuit, WellTyped}
 use Rattle.vale_lower_facts.proofs.Stands.{Site, Covers, covers_plain}
 use Rattle.vale_lower_facts.proofs.Runs.{Arrives, Ready, Goes, step, Fits, front, back, AllPlain, all_plain, plain_both, Runs}
 use Rattle.vale_lower_facts.proofs.Ways.{value_leaves, nothing_leaves}
@@ -71,9 +71,9 @@ quotes_among (g ∷ fs) (suc i) f h =
     let all = among_back (function_quotes g) (flat_map function_quotes fs) (among_same (function_quotes g ++ flat_map function_quotes fs)) in
     record { each = λ j text e. let d = more.each j text e in all.each d.0 text d.1 }
 
-suits_at : (functions fs : List Function) (i : ℕ) (f : Function) → all_suit functions fs → slice_get fs i ≡ Some f → function_suits functions f
+suits_at : (functions fs : List Function) (i : ℕ) (f : Function) → all_are_well_typed functions fs → slice_get fs i ≡ Some f → function_is_well_typed functions f
 suits_at functions [] i f s h = absurd (cc)
-suits_at functions (g ∷ fs) zero f s h = let same : g ≡ f = cc in subst (λ q. function_suits functions q) same s.0
+suits_at functions (g ∷ fs) zero f s h = let same : g ≡ f = cc in subst (λ q. function_is_well_typed functions q) same s.0
 suits_at functions (g ∷ fs) (suc i) f s h = suits_at functions fs i f s.1 h
 
 -- ---- functions
@@ -214,7 +214,7 @@ module _ (p : Parts) (covered : list_all function_is_covered (functions_in p) �
     c : CoveredParts f
     c = parts_at n f at
 
-    su : function_suits fs f
+    su : function_is_well_typed fs f
     su = suits_at fs fs n f suits.functions at
 
     context : Context k
@@ -417,7 +417,7 @@ module _ (p : Parts) (suits : PartsSuit p) where
 
 -- ---- programs
 
-pub takes_no_input : (program : Typed) → Suits program → takes_input (lowered program) no_input ≡ true
+pub takes_no_input : (program : Typed) → WellTyped program → takes_input (lowered program) no_input ≡ true
 takes_no_input program su = main_takes_nothing (parts_of program) su
 
 functions_covered : (items : List Item) → list_all item_is_covered items ≡ true → list_all function_is_covered (flat_map functions_of items) ≡ true
@@ -427,5 +427,5 @@ functions_covered (struct_item n fs ∷ items) e = absurd (cc)
 functions_covered (interface_item n hs ∷ items) e = absurd (cc)
 functions_covered (impl_item at i s fs ∷ items) e = absurd (cc)
 
-pub lowered_is_certified : (program : Typed) → is_covered program ≡ true → Suits program → Certified (lowered program) (lowered_facts program)
+pub lowered_is_certified : (program : Typed) → is_covered program ≡ true → WellTyped program → Certified (lowered program) (lowered_facts program)
 lowered_is_certified (typed names items) cov su = parts_certified (parts_of (typed names items)) (functions_covered items cov) su

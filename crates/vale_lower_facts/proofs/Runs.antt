@@ -1,5 +1,5 @@
--- How the walk of a function goes through parts of its code: where the walk goes through what stands behind a part, from whatever
--- covers the place behind it, it goes through the part too, from whatever covers the place before it.
+-- How the walk of a function goes through parts of its code: where the walk goes through what stands after a part, from whatever
+-- covers the place after it, it goes through the part too, from whatever covers the place before it.
 use Rattle.std.proofs.Common.{◌≡◌, ℕ, ◌+◌, ◌<◌, ◌≤◌, List, [], ◌∷◌, ◌++◌, length, Option, Some, None, Bool, true, false, ◌&&◌, if◌then◌else◌, refl, sym, ap, ◌∙◌, subst, arith, length-append, append_assoc}
 use Rattle.std.specs.List.{list_all}
 use Rattle.std.proofs.lemmas.Bool.{and_from, lt-ltb}
@@ -53,7 +53,7 @@ module _ (k : Site) where
 
   -- ---- one instruction
 
-  -- its rules are kept, and the walk goes on behind it
+  -- its rules are kept, and the walk goes on after it
   pub record Goes (p : ℕ) (instr : Instr) (known : Known) (rest : List Instr) : Type 0 where
     pub types : (row_at instr known).kept.types ≡ true
     pub present : (row_at instr known).kept.present ≡ true

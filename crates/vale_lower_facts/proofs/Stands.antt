@@ -161,14 +161,14 @@ module _ (k : Site) where
   or_less a false true r None ty f e = or_more a true r None ty e
   or_less a false false r None ty f e = e
 
-  -- behind a part that has returned, more is said
+  -- after a part that has returned, more is said
   pub says_behind : (s : Stand) (returns : Bool) → Says (behind returns s) s
   says_behind s returns = record { each = λ r ty e. or_more s.over returns r (slot_at s.slots r) ty e }
 
   pub says_returns : (s : Stand) (a b : Bool) → (b ≡ true → a ≡ true) → Says (behind a s) (behind b s)
   says_returns s a b f = record { each = λ r ty e. or_less s.over b a r (slot_at s.slots r) ty f e }
 
-  -- behind two parts
+  -- after two parts
   pub says_both : (s : Stand) (a b : Bool) → Says (behind b (behind a s)) (behind (a || b) s)
   says_both s a b = record { each = λ r ty e. subst (λ x. or_last k.last x r (slot_at s.slots r) ≡ Some ty) (sym (swap a b s.over)) e }
     where

@@ -28,7 +28,7 @@ use Rattle.vale_lowering.proofs.Lookups.{found_text}
 use Rattle.vale_lower_facts.specs.Slots.{local, waits, holds, Stand, scope_at, with_slot, given, behind, type_at}
 use Rattle.vale_rules_spec.specs.Returns.{block_returns, stmts_return, stmt_returns, expr_returns, node_returns, form_returns, elses_return}
 use Rattle.vale_lower_facts.specs.Marks.{Marks, mark, marked, only_marks, with_args, counted, count_marks, link_due, links_due, form_due, expr_due, node_due, value_due, unused_due, args_due, stmt_due, stmts_due, block_due, expr_marks, value_marks, node_marks, args_marks, links_marks, form_marks, elses_marks, block_marks, stmts_marks, stmt_marks, unused_marks}
-use Rattle.vale_lower_facts.specs.Suits.{unary_suits, IsLocal, set_suits, expr_suits, node_suits, exprs_suit, links_suit, form_suits, elses_suit, block_suits, stmts_suit, stmt_suits}
+use Rattle.vale_lower_facts.specs.WellTyped.{unary_is_well_typed, IsLocal, set_is_well_typed, expr_is_well_typed, node_is_well_typed, exprs_are_well_typed, links_are_well_typed, form_is_well_typed, elses_are_well_typed, block_is_well_typed, stmts_are_well_typed, stmt_is_well_typed}
 use Rattle.vale_lower_facts.proofs.Stands.{Site, Below, below_behind, type_here, Says, says_same, says_then, says_slot, says_again, says_with, says_behind, says_returns, says_both, says_given, says_ungiven, Within, within_same, within_behind, within_slot, says_within}
 use Rattle.vale_lower_facts.proofs.Runs.{Runs, nothing, runs_less, both}
 use Rattle.vale_lower_facts.proofs.Ways.{if_runs, loop_runs, ret_runs, void_runs}
@@ -37,7 +37,7 @@ use Rattle.vale_lower_facts.proofs.Names.{copies_too, covered_copy, Among, among
 use Rattle.vale_lower_facts.proofs.Operators.{operands_copy, gives_copy, chosen, chosen_too, runs_due, as_given, two, below_two, says_two, first_of, second_of, link_runs, unary_runs}
 use Rattle.vale_lower_facts.proofs.Callees.{agree_with_itself, built_in_runs, call_runs, args_copy, built_in_copies}
 
-unary_copy : (o : UnaryOp) (ty x : Ty) → unary_is_covered o ≡ true → unary_suits o ty x → (y.is_copy ty ≡ true) × (y.is_copy x ≡ true)
+unary_copy : (o : UnaryOp) (ty x : Ty) → unary_is_covered o ≡ true → unary_is_well_typed o ty x → (y.is_copy ty ≡ true) × (y.is_copy x ≡ true)
 unary_copy unary_op.Minus ty x cov su = (ap y.is_copy su.0, ap y.is_copy su.1)
 unary_copy unary_op.Not ty x cov su = (ap y.is_copy su.0, ap y.is_copy su.1)
 unary_copy unary_op.Borrow ty x cov su = absurd (cc)
@@ -48,11 +48,12 @@ unary_copy unary_op.Merge ty x cov su = absurd (cc)
 record LocalAt (p : Expr) : Type 0 where
   seen : y.Seen
   at : NameAt
+  is_outer : Bool
   moved : Bool
-  is : p ≡ expr seen (name at moved)
+  is : p ≡ expr seen (name at is_outer moved)
 
 local_at : (p : Expr) → is_local p ≡ true → LocalAt p
-local_at (expr x (name n moved)) e = record { seen = x; at = n; moved = moved; is = refl }
+local_at (expr x (name n is_outer moved)) e = record { seen = x; at = n; is_outer = is_outer; moved = moved; is = refl }
 local_at (expr x (set at p q)) e = absurd (cc)
 local_at (expr x (chain q ls)) e = absurd (cc)
 local_at (expr x (unary at op q)) e = absurd (cc)
@@ -92,7 +93,7 @@ module _ (k : Site) (c : Context k) where
       has_two : type_at k.last (two k h ty ty s) r ≡ Some (code_type ty)
       has_two = (says_two k ty ty b).each r (code_type ty) has
 
-  set_code_runs : {p h : ℕ} {due : Bool} {s : Stand} {env : Env} (q : Expr) (ty x : Ty) → is_local q ≡ true → set_suits fs env q ty x → y.is_copy ty ≡ true → Stands k env h s
+  set_code_runs : {p h : ℕ} {due : Bool} {s : Stand} {env : Env} (q : Expr) (ty x : Ty) → is_local q ≡ true → set_is_well_typed fs env q ty x → y.is_copy ty ≡ true → Stands k env h s
       → Runs k p (set_code q h (scope_at s)) (marked due (with_slot (holds h ty) s) (set_code q h (scope_at s))) due (with_slot (holds h ty) s) false (with_slot (holds h ty) s)
   set_code_runs {p} {h} {due} {s} {env} q ty x is su copy st = by (local_at q is) su
     where
@@ -106,10 +107,10 @@ module _ (k : Site) (c : Context k) where
           let same : pl.register ≡ r = (let z = pl.found in cc) in
           exchange_runs r ty copy st.below (subst (λ r. type_at k.last s r ≡ Some (code_type ty)) same (pl.typed ∙ ap (λ z. Some (code_type z)) l.typed))
 
-      by : LocalAt q → set_suits fs env q ty x → Runs k p (set_code q h (scope_at s)) (marked due (with_slot (holds h ty) s) (set_code q h (scope_at s))) due (with_slot (holds h ty) s) false (with_slot (holds h ty) s)
-      by l su = subst (λ q. Runs k p (set_code q h (scope_at s)) (marked due (with_slot (holds h ty) s) (set_code q h (scope_at s))) due (with_slot (holds h ty) s) false (with_slot (holds h ty) s)) (sym l.is) (found l.at (subst (λ q. set_suits fs env q ty x) l.is su).0 (place_of l.at.name.0 (scope_at s)) refl)
+      by : LocalAt q → set_is_well_typed fs env q ty x → Runs k p (set_code q h (scope_at s)) (marked due (with_slot (holds h ty) s) (set_code q h (scope_at s))) due (with_slot (holds h ty) s) false (with_slot (holds h ty) s)
+      by l su = subst (λ q. Runs k p (set_code q h (scope_at s)) (marked due (with_slot (holds h ty) s) (set_code q h (scope_at s))) due (with_slot (holds h ty) s) false (with_slot (holds h ty) s)) (sym l.is) (found l.at (subst (λ q. set_is_well_typed fs env q ty x) l.is su).0 (place_of l.at.name.0 (scope_at s)) refl)
 
-  store_code_runs : {p h : ℕ} {due : Bool} {s : Stand} {env : Env} (q : Expr) (ty x : Ty) → is_local q ≡ true → set_suits fs env q ty x → y.is_copy ty ≡ true → Stands k env h s
+  store_code_runs : {p h : ℕ} {due : Bool} {s : Stand} {env : Env} (q : Expr) (ty x : Ty) → is_local q ≡ true → set_is_well_typed fs env q ty x → y.is_copy ty ≡ true → Stands k env h s
       → Runs k p (store_code q h (scope_at s)) (marked due (with_slot (holds h ty) s) (store_code q h (scope_at s))) due (with_slot (holds h ty) s) false s
   store_code_runs {p} {h} {due} {s} {env} q ty x is su copy st = by (local_at q is) su
     where
@@ -120,8 +121,8 @@ module _ (k : Site) (c : Context k) where
           let same : pl.register ≡ r = (let z = pl.found in cc) in
           store_runs k r h (code_type ty) (copies_too ty copy) (type_here k (holds h ty) s h refl) (says_slot k (holds h ty) st.below) (subst (λ r. type_at k.last s r ≡ Some (code_type ty)) same (pl.typed ∙ ap (λ z. Some (code_type z)) l.typed))
 
-      by : LocalAt q → set_suits fs env q ty x → Runs k p (store_code q h (scope_at s)) (marked due (with_slot (holds h ty) s) (store_code q h (scope_at s))) due (with_slot (holds h ty) s) false s
-      by l su = subst (λ q. Runs k p (store_code q h (scope_at s)) (marked due (with_slot (holds h ty) s) (store_code q h (scope_at s))) due (with_slot (holds h ty) s) false s) (sym l.is) (found l.at (subst (λ q. set_suits fs env q ty x) l.is su).0 (place_of l.at.name.0 (scope_at s)) refl)
+      by : LocalAt q → set_is_well_typed fs env q ty x → Runs k p (store_code q h (scope_at s)) (marked due (with_slot (holds h ty) s) (store_code q h (scope_at s))) due (with_slot (holds h ty) s) false s
+      by l su = subst (λ q. Runs k p (store_code q h (scope_at s)) (marked due (with_slot (holds h ty) s) (store_code q h (scope_at s))) due (with_slot (holds h ty) s) false s) (sym l.is) (found l.at (subst (λ q. set_is_well_typed fs env q ty x) l.is su).0 (place_of l.at.name.0 (scope_at s)) refl)
 
   -- a local is read
   load_runs : {p h : ℕ} {due : Bool} {s : Stand} {env : Env} (n : NameAt) (x : Ty) → IsLocal env n x → Stands k env h s
@@ -209,22 +210,22 @@ module _ (k : Site) (c : Context k) where
       let w = and_parts (expr_is_covered e) (exprs_are_covered es) cov in
       and_from _ _ (expr_type_covered e w.0) (types_covered es w.1)
 
-  first_copy : (env : Env) (ty x : Ty) (ls : Links) → links_suit fs env ty x ls → type_is_covered ty ≡ true → y.is_copy ty ≡ true
+  first_copy : (env : Env) (ty x : Ty) (ls : Links) → links_are_well_typed fs env ty x ls → type_is_covered ty ≡ true → y.is_copy ty ≡ true
   first_copy env ty x no_links su cov = covered_copy ty cov su.1
   first_copy env ty x (more_links (link sn at op e) ls) su cov = (operands_copy op ty (type e) su.0).first_copy
 
-  last_copy : (env : Env) (ty x : Ty) (ls : Links) → links_suit fs env ty x ls → y.is_copy ty ≡ true → y.is_copy x ≡ true
+  last_copy : (env : Env) (ty x : Ty) (ls : Links) → links_are_well_typed fs env ty x ls → y.is_copy ty ≡ true → y.is_copy x ≡ true
   last_copy env ty x no_links su copy = ap y.is_copy su.0 ∙ copy
   last_copy env ty x (more_links (link sn at op e) ls) su copy = last_copy env sn.value x ls su.3 (ap y.is_copy su.1 ∙ gives_copy op ty copy)
 
-  block_same : (env : Env) (x : Ty) (b : Block) → block_suits fs env x b → block_type b ≡ x
+  block_same : (env : Env) (x : Ty) (b : Block) → block_is_well_typed fs env x b → block_type b ≡ x
   block_same env x (block at end z ss) su = su.0
 
-  set_copy : {env : Env} {h : ℕ} {s : Stand} (q : Expr) (ty x : Ty) → is_local q ≡ true → set_suits fs env q ty x → Stands k env h s → (y.is_copy ty ≡ true) × (x ≡ ty)
+  set_copy : {env : Env} {h : ℕ} {s : Stand} (q : Expr) (ty x : Ty) → is_local q ≡ true → set_is_well_typed fs env q ty x → Stands k env h s → (y.is_copy ty ≡ true) × (x ≡ ty)
   set_copy {env} {h} {s} q ty x is su st = by (local_at q is)
     where
       by : LocalAt q → (y.is_copy ty ≡ true) × (x ≡ ty)
-      by l = let w = subst (λ q. set_suits fs env q ty x) l.is su in (ap y.is_copy (sym w.0.typed) ∙ (typed_as w.0 st).copy, w.1)
+      by l = let w = subst (λ q. set_is_well_typed fs env q ty x) l.is su in (ap y.is_copy (sym w.0.typed) ∙ (typed_as w.0 st).copy, w.1)
 
   -- a block's last expression
   last_runs : (g : Bool) (x : Ty) (e : Expr) (p to h : ℕ) (s o : Stand) (due : Bool) → y.is_copy x ≡ g → type e ≡ x → Within k s o → Below k h s
@@ -243,7 +244,7 @@ module _ (k : Site) (c : Context k) where
       (runs_less k whole
       (says_then k (says_ungiven k (y.is_copy (type e)) h (type e) (below_behind k (expr_returns e) b)) (says_within k (within_behind k (expr_returns e) w)))))
 
-  -- a statement and those behind it
+  -- a statement and those after it
   step_then : {ca cb : List Instr} {ma mb : Marks} {p : ℕ} {s : Stand} (o : Stand) {due d1 d2 : Bool} (g : Bool) (to : ℕ) (x : Ty) (r1 r2 : Bool) → Runs k p ca ma due s d1 (behind r1 s)
       → Runs k (p + length ca) cb mb d1 (behind r1 s) d2 (given g to x (behind r2 (behind r1 o))) → Runs k p (ca ++ cb) (ma ++ mb) due s d2 (given g to x (behind (r1 || r2) o))
   step_then o g to x r1 r2 one more = runs_less k (both k one more) (says_given k g to x (says_both k o r1 r2))
@@ -333,21 +334,21 @@ module _ (k : Site) (c : Context k) where
   among_three a1 b1 c1 q = let f = among_front (a1 ++ b1) c1 q in (among_front a1 b1 f, among_back a1 b1 f, among_back (a1 ++ b1) c1 q)
 
   mutual
-    pub expr_runs : (env : Env) (e : Expr) (p h : ℕ) (s : Stand) (due : Bool) → expr_suits fs env e → expr_is_covered e ≡ true → Among (expr_quotes e) a.texts → Stands k env h s
+    pub expr_runs : (env : Env) (e : Expr) (p h : ℕ) (s : Stand) (due : Bool) → expr_is_well_typed fs env e → expr_is_covered e ≡ true → Among (expr_quotes e) a.texts → Stands k env h s
         → Runs k p (expr_code a e p h (scope_at s)) (expr_marks a e h s due) due s (expr_due e) (given (y.is_copy (type e)) h (type e) (behind (expr_returns e) s))
     expr_runs env (expr x node) p h s due su cov q st =
         let w = and_parts (type_is_covered x.value) (node_is_covered node) cov in node_runs env x.value node p h s due su w.0 w.1 q st
 
-    pub value_runs : (env : Env) (e : Expr) (p h : ℕ) (s : Stand) (due : Bool) → y.is_copy (type e) ≡ true → expr_suits fs env e → expr_is_covered e ≡ true → Among (expr_quotes e) a.texts → Stands k env h s → ValueRuns e p h s due
+    pub value_runs : (env : Env) (e : Expr) (p h : ℕ) (s : Stand) (due : Bool) → y.is_copy (type e) ≡ true → expr_is_well_typed fs env e → expr_is_covered e ≡ true → Among (expr_quotes e) a.texts → Stands k env h s → ValueRuns e p h s due
     value_runs env (expr x node) p h s due copy su cov q st =
         let w = and_parts (type_is_covered x.value) (node_is_covered node) cov in as_value x node p h s due copy (node_runs env x.value node p h s due su w.0 w.1 q st)
 
-    node_runs : (env : Env) (x : Ty) (node : Node) (p h : ℕ) (s : Stand) (due : Bool) → node_suits fs env x node → type_is_covered x ≡ true → node_is_covered node ≡ true → Among (node_quotes node) a.texts → Stands k env h s → NodeRuns x node p h s due
+    node_runs : (env : Env) (x : Ty) (node : Node) (p h : ℕ) (s : Stand) (due : Bool) → node_is_well_typed fs env x node → type_is_covered x ≡ true → node_is_covered node ≡ true → Among (node_quotes node) a.texts → Stands k env h s → NodeRuns x node p h s due
     node_runs env x (number at n) p h s due su cx cov q st = subst (λ x. NodeRuns x (number at n) p h s due) (sym su.0) (chosen k (is_int n) h su.1 (int_runs k h n))
     node_runs env x (quote at text) p h s due su cx cov q st = subst (λ x. NodeRuns x (quote at text) p h s due) (sym su.0) (chosen k (is_lawful_text text) h su.1 (quote_runs text su.1 q))
     node_runs env x (truth at b) p h s due su cx cov q st = subst (λ x. NodeRuns x (truth at b) p h s due) (sym su) (truth_runs k h (truth_number b) (below_truth b))
-    node_runs env x (name n true) p h s due su cx cov q st = absurd (cc)
-    node_runs env x (name n false) p h s due su cx cov q st = load_runs n x su st
+    node_runs env x (name n is_outer true) p h s due su cx cov q st = absurd (cc)
+    node_runs env x (name n is_outer false) p h s due su cx cov q st = load_runs n x su st
     node_runs env x (paren at e) p h s due su cx cov q st =
         let same = agree_with_itself (y.is_copy (type e)) in
         subst (λ x. NodeRuns x (paren at e) p h s due) (sym su.0)
@@ -391,7 +392,7 @@ module _ (k : Site) (c : Context k) where
     node_runs env x (array at z es) p h s due su cx cov q st = absurd (cc)
     node_runs env x (iso at b) p h s due su cx cov q st = absurd (cc)
 
-    args_runs : (env : Env) (es : Exprs) (p h : ℕ) (s : Stand) (due : Bool) → exprs_suit fs env es → exprs_are_covered es ≡ true → list_all y.is_copy (types es) ≡ true → Among (exprs_quotes es) a.texts → Stands k env h s
+    args_runs : (env : Env) (es : Exprs) (p h : ℕ) (s : Stand) (due : Bool) → exprs_are_well_typed fs env es → exprs_are_covered es ≡ true → list_all y.is_copy (types es) ≡ true → Among (exprs_quotes es) a.texts → Stands k env h s
         → Runs k p (args_code a es p h (scope_at s)) (args_marks a es h s due) due s (args_due es due) (with_args es h s)
     args_runs env no_exprs p h s due su cov copy q st = nothing k p due s
     args_runs env (more_exprs e es) p h s due su cov copy q st =
@@ -402,7 +403,7 @@ module _ (k : Site) (c : Context k) where
         (says_with k (holds h (type e)) (waits h (type e)) refl refl (says_behind k s (expr_returns e))))
         (args_runs env es (p + length (value_code a e p h (scope_at s))) (h + 1) (with_slot (waits h (type e)) s) (value_due e) su.1 w.1 o.1 (among_back (expr_quotes e) (exprs_quotes es) q) (stands_waits k (type e) st))
 
-    links_runs : (env : Env) (ty x : Ty) (ls : Links) (p h : ℕ) (s : Stand) (due : Bool) → links_suit fs env ty x ls → links_are_covered ls ≡ true → y.is_copy ty ≡ true → Among (links_quotes ls) a.texts → Stands k env h s
+    links_runs : (env : Env) (ty x : Ty) (ls : Links) (p h : ℕ) (s : Stand) (due : Bool) → links_are_well_typed fs env ty x ls → links_are_covered ls ≡ true → y.is_copy ty ≡ true → Among (links_quotes ls) a.texts → Stands k env h s
         → Runs k p (links_code a ls p h (scope_at s)) (links_marks a ty ls h s due) due (with_slot (holds h ty) s) (links_due ls due) (with_slot (holds h x) s)
     links_runs env ty x no_links p h s due su cov copy q st =
         subst (λ x. Runs k p [] [] due (with_slot (holds h ty) s) due (with_slot (holds h x) s)) (sym su.0) (nothing k p due (with_slot (holds h ty) s))
@@ -414,7 +415,7 @@ module _ (k : Site) (c : Context k) where
         (link_runs k a env e (λ p h s due st. value_runs env e p h s due second su.2 w.0 qe st) p h s due st op ty sn.value at su.0 su.1)
         (links_runs env sn.value x ls (p + length (link_code op sn.value at (λ place h. value_code a e place h (scope_at s)) p h)) h s (link_due op) su.3 w.1 (ap y.is_copy su.1 ∙ gives_copy op ty copy) (among_back (expr_quotes e) (links_quotes ls) q) st)
 
-    form_runs : (env : Env) (x : Ty) (f : Form) (p h : ℕ) (s : Stand) (due : Bool) → form_suits fs env x f → form_is_covered f ≡ true → Among (form_quotes f) a.texts → Stands k env h s
+    form_runs : (env : Env) (x : Ty) (f : Form) (p h : ℕ) (s : Stand) (due : Bool) → form_is_well_typed fs env x f → form_is_covered f ≡ true → Among (form_quotes f) a.texts → Stands k env h s
         → Runs k p (form_code a (y.is_copy x) f p h (scope_at s)) (form_marks a (y.is_copy x) f h s due) due s (form_due f) (given (y.is_copy x) h x (behind (form_returns f) s))
     form_runs env x (branch at e b es) p h s due su cov q st =
         let w = and_parts (expr_is_covered e && block_is_covered b) (elses_are_covered es) cov in
@@ -430,7 +431,7 @@ module _ (k : Site) (c : Context k) where
     form_runs env x (parallel_range at n e f b) p h s due su cov q st = absurd (cc)
     form_runs env x (parallel_each at n e b) p h s due su cov q st = absurd (cc)
 
-    elses_runs : (env : Env) (x : Ty) (es : Elses) (p h : ℕ) (s : Stand) (due : Bool) → elses_suit fs env x es → elses_are_covered es ≡ true → Among (elses_quotes es) a.texts → Stands k env h s
+    elses_runs : (env : Env) (x : Ty) (es : Elses) (p h : ℕ) (s : Stand) (due : Bool) → elses_are_well_typed fs env x es → elses_are_covered es ≡ true → Among (elses_quotes es) a.texts → Stands k env h s
         → Runs k p (elses_code a (y.is_copy x) es p h (scope_at s)) (elses_marks a (y.is_copy x) es h s due) due s (elses_due (y.is_copy x) es due) (given (y.is_copy x) h x (behind (elses_return es) s))
     elses_runs env x no_else p h s due su cov q st =
         subst (λ x. Runs k p (elses_code a (y.is_copy x) no_else p h (scope_at s)) (elses_marks a (y.is_copy x) no_else h s due) due s due (given (y.is_copy x) h x s)) (sym su) (nothing k p due s)
@@ -446,10 +447,10 @@ module _ (k : Site) (c : Context k) where
         (block_runs env x b p1 h (h + 1) s false su.2 v.1 qs.1 (stands_up k (omega arith) st))
         (elses_runs env x es p2 h s true su.3 w.1 qs.2 st)
 
-    pub block_runs : (env : Env) (x : Ty) (b : Block) (p to h : ℕ) (s : Stand) (due : Bool) → block_suits fs env x b → block_is_covered b ≡ true → Among (block_quotes b) a.texts → Stands k env h s → BlockRuns (y.is_copy x) x b p to h s due
+    pub block_runs : (env : Env) (x : Ty) (b : Block) (p to h : ℕ) (s : Stand) (due : Bool) → block_is_well_typed fs env x b → block_is_covered b ≡ true → Among (block_quotes b) a.texts → Stands k env h s → BlockRuns (y.is_copy x) x b p to h s due
     block_runs env x (block at end z ss) p to h s due su cov q st = stmts_runs env x ss p to h s s due su.1 cov q (within_same k st.below) st
 
-    stmts_runs : (env : Env) (x : Ty) (ss : Stmts) (p to h : ℕ) (s o : Stand) (due : Bool) → stmts_suit fs env x ss → stmts_are_covered ss ≡ true → Among (stmts_quotes ss) a.texts → Within k s o → Stands k env h s
+    stmts_runs : (env : Env) (x : Ty) (ss : Stmts) (p to h : ℕ) (s o : Stand) (due : Bool) → stmts_are_well_typed fs env x ss → stmts_are_covered ss ≡ true → Among (stmts_quotes ss) a.texts → Within k s o → Stands k env h s
         → Runs k p (stmts_code a (y.is_copy x) ss p to h (scope_at s)) (stmts_marks a (y.is_copy x) ss h s due) due s (stmts_due a.gives (y.is_copy x) ss due) (given (y.is_copy x) to x (behind (stmts_return ss) o))
     stmts_runs env x no_stmts p to h s o due su cov q w st =
         subst (λ x. Runs k p (stmts_code a (y.is_copy x) no_stmts p to h (scope_at s)) (stmts_marks a (y.is_copy x) no_stmts h s due) due s (stmts_due a.gives (y.is_copy x) no_stmts due) (given (y.is_copy x) to x o)) (sym su)
@@ -490,7 +491,7 @@ module _ (k : Site) (c : Context k) where
         step_then o (y.is_copy x) to x (expr_returns e) (stmts_return ss) (stmt_runs env (express e) p h s due refl su.0 v.0 (among_front (stmt_quotes (express e)) (stmts_quotes ss) q) st)
         (stmts_runs env x ss (p + length (stmt_code a (express e) p h (scope_at s))) to h (behind (expr_returns e) s) (behind (expr_returns e) o) (unused_due e) su.1 v.1 (among_back (stmt_quotes (express e)) (stmts_quotes ss) q) (within_behind k (expr_returns e) w) (stands_behind k (expr_returns e) st))
 
-    stmt_runs : (env : Env) (x : Stmt) (p h : ℕ) (s : Stand) (due : Bool) → simple x ≡ true → stmt_suits fs env x → stmt_is_covered x ≡ true → Among (stmt_quotes x) a.texts → Stands k env h s
+    stmt_runs : (env : Env) (x : Stmt) (p h : ℕ) (s : Stand) (due : Bool) → simple x ≡ true → stmt_is_well_typed fs env x → stmt_is_covered x ≡ true → Among (stmt_quotes x) a.texts → Stands k env h s
         → Runs k p (stmt_code a x p h (scope_at s)) (stmt_marks a x h s due) due s (stmt_due a.gives x) (behind (stmt_returns x) s)
     stmt_runs env (declare n x e) p h s due si su cov q st = absurd (cc)
     stmt_runs env (destructure at ns xs e) p h s due si su cov q st = absurd (cc)
@@ -520,7 +521,7 @@ module _ (k : Site) (c : Context k) where
     stmt_runs env (form_stmt f) p h s due si su cov q st = form_runs env y.void f p h s due su cov q st
     stmt_runs env (express e) p h s due si su cov q st = unused_runs env e p h s due su cov q st
 
-    unused_runs : (env : Env) (e : Expr) (p h : ℕ) (s : Stand) (due : Bool) → expr_suits fs env e → expr_is_covered e ≡ true → Among (expr_quotes e) a.texts → Stands k env h s
+    unused_runs : (env : Env) (e : Expr) (p h : ℕ) (s : Stand) (due : Bool) → expr_is_well_typed fs env e → expr_is_covered e ≡ true → Among (expr_quotes e) a.texts → Stands k env h s
         → Runs k p (unused_code a e p h (scope_at s)) (unused_marks a e h s due) due s (unused_due e) (behind (expr_returns e) s)
     unused_runs env (expr x (set at l e)) p h s due su cov q st =
         let o = and_parts (type_is_covered x.value) (is_local l && expr_is_covered e) cov in
@@ -530,7 +531,7 @@ module _ (k : Site) (c : Context k) where
     unused_runs env (expr x (number at n)) p h s due su cov q st = let w = and_parts (type_is_covered x.value) true cov in unuse (node_returns (number at n)) x.value st.below (node_runs env x.value (number at n) p h s due su w.0 refl q st)
     unused_runs env (expr x (quote at text)) p h s due su cov q st = let w = and_parts (type_is_covered x.value) true cov in unuse (node_returns (quote at text)) x.value st.below (node_runs env x.value (quote at text) p h s due su w.0 refl q st)
     unused_runs env (expr x (truth at b)) p h s due su cov q st = let w = and_parts (type_is_covered x.value) true cov in unuse (node_returns (truth at b)) x.value st.below (node_runs env x.value (truth at b) p h s due su w.0 refl q st)
-    unused_runs env (expr x (name n moved)) p h s due su cov q st = let w = and_parts (type_is_covered x.value) (node_is_covered (name n moved)) cov in unuse (node_returns (name n moved)) x.value st.below (node_runs env x.value (name n moved) p h s due su w.0 w.1 q st)
+    unused_runs env (expr x (name n is_outer moved)) p h s due su cov q st = let w = and_parts (type_is_covered x.value) (node_is_covered (name n is_outer moved)) cov in unuse (node_returns (name n is_outer moved)) x.value st.below (node_runs env x.value (name n is_outer moved) p h s due su w.0 w.1 q st)
     unused_runs env (expr x (paren at e)) p h s due su cov q st = let w = and_parts (type_is_covered x.value) (node_is_covered (paren at e)) cov in unuse (node_returns (paren at e)) x.value st.below (node_runs env x.value (paren at e) p h s due su w.0 w.1 q st)
     unused_runs env (expr x (chain e ls)) p h s due su cov q st = let w = and_parts (type_is_covered x.value) (node_is_covered (chain e ls)) cov in unuse (node_returns (chain e ls)) x.value st.below (node_runs env x.value (chain e ls) p h s due su w.0 w.1 q st)
     unused_runs env (expr x (unary at op e)) p h s due su cov q st = let w = and_parts (type_is_covered x.value) (node_is_covered (unary at op e)) cov in unuse (node_returns (unary at op e)) x.value st.below (node_runs env x.value (unary at op e) p h s due su w.0 w.1 q st)

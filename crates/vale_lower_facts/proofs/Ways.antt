@@ -223,7 +223,7 @@ module _ (k : Site) where
     depths = eq-eqb known.depth 0 c.depth;
   }
 
-  -- behind a return no run goes on
+  -- after a return no run goes on
   module _ {p : ℕ} {due : Bool} {s : Stand} {rest : List Instr} where
     pub ret_ready : (h : ℕ) → label_at k.labels p ≡ label_mark k p (mark due s) → h < k.func.registers → type_at k.last s h ≡ Some k.func.result → Ready k (p + 1) true (behind true s) rest → Ready k p due s (i.Ret h ∷ rest)
     ret_ready h e lt is r = step k p due s (i.Ret h) rest e by

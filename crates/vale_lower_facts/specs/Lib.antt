@@ -1,3 +1,3 @@
 pub mod Marks
 pub mod Slots
-pub mod Suits
+pub mod WellTyped

@@ -1,6 +1,6 @@
--- The labels of lowered code: at the targets of its jumps, and behind each instruction that doesn't go on.
+-- The labels of lowered code: at the targets of its jumps, and after each instruction that doesn't go on.
 --
--- A part of the code doesn't label the place behind it, where another part may end too. It says whether that place is due a label,
+-- A part of the code doesn't label the place after it, where another part may end too. It says whether that place is due a label,
 -- and the instruction that stands there is marked with what is known where its own part begins, which is never more. So one walk
 -- gives all labels in order: whether one is due is handed on to the next instruction.
 use Rattle.std.specs.Prelude.{ℕ, ◌+◌, Bool, true, false, ◌&&◌, List, [], ◌∷◌, ◌++◌, length, map, Option, Some, None, if◌then◌else◌}
@@ -45,7 +45,7 @@ abbrev pub only_marks : Bool → Bool → Stand → Marks → Marks
 only_marks true due s ms = ms
 only_marks false due s ms = mark due s ∷ []
 
--- ---- whether the place behind a part is due a label
+-- ---- whether the place after a part is due a label
 
 abbrev pub link_due : BinaryOp → Bool
 link_due op.Or = true
@@ -106,7 +106,7 @@ block_due returns gives (block at end x ss) due = stmts_due returns gives ss due
 
 -- ---- the marks of the shapes of code
 
--- of a test and two sides, by what is known at the test's jump and at the jump behind the first side, and whether labels are due there
+-- of a test and two sides, by what is known at the test's jump and at the jump after the first side, and whether labels are due there
 abbrev pub if_marks : Marks → Bool → Stand → Marks → Bool → Stand → Marks → Marks
 if_marks test due tested one due_behind behind_one two = test ++ (mark due tested ∷ (one ++ (mark due_behind behind_one ∷ two)))
 
@@ -114,7 +114,7 @@ if_marks test due tested one due_behind behind_one two = test ++ (mark due teste
 abbrev pub loop_marks : Bool → Stand → Marks → Marks → Bool → Stand → Marks
 loop_marks due s body test due_behind tested = mark due s ∷ Some s ∷ (body ++ (test ++ (mark due_behind tested ∷ None ∷ [])))
 
--- of a loop over numbers, by what is known behind the bounds, behind the body and behind the test
+-- of a loop over numbers, by what is known after the bounds, after the body and after the test
 abbrev pub count_marks : Bool → Stand → Marks → Bool → Stand → Stand → Marks
 count_marks due s body due_behind behind_body tested =
     mark due s ∷ loop_marks false s (None ∷ (body ++ (mark due_behind behind_body ∷ None ∷ []))) (Some s ∷ []) false tested
@@ -148,7 +148,7 @@ abbrev mutual
   node_marks around gives (number at n) h s due = mark due s ∷ []
   node_marks around gives (quote at text) h s due = mark due s ∷ []
   node_marks around gives (truth at b) h s due = mark due s ∷ []
-  node_marks around gives (name n moved) h s due = mark due s ∷ []
+  node_marks around gives (name n is_outer moved) h s due = mark due s ∷ []
   node_marks around gives (paren at e) h s due = only_marks (agree gives (is_copy (type e))) due s (expr_marks around e h s due)
   node_marks around gives (chain e ls) h s due =
       only_marks gives due s (value_marks around e h s due ++ links_marks around (type e) ls h s (value_due e))

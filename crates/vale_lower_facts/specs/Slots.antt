@@ -51,7 +51,7 @@ abbrev pub given : Bool → ℕ → Ty → Stand → Stand
 given true h ty s = with_slot (holds h ty) s
 given false h ty s = s
 
--- behind a part that has returned on every way, or hasn't
+-- after a part that has returned on every way, or hasn't
 abbrev pub behind : Bool → Stand → Stand
 behind returns s = record { slots = s.slots; over = returns || s.over }
 

@@ -4,4 +4,4 @@
 
 mod laws;
 
-pub use laws::{lowered_code_is_certified, suitable_code_does_what_is_meant};
+pub use laws::{lowered_code_is_certified, well_typed_code_does_what_is_meant};

@@ -59,7 +59,7 @@ module _ (a : Around) where
     same_node gives (t.number at n) h s due = refl
     same_node gives (t.quote at text) h s due = refl
     same_node gives (t.truth at b) h s due = refl
-    same_node gives (t.name n moved) h s due = refl
+    same_node gives (t.name n is_outer moved) h s due = refl
     same_node gives (t.paren at e) h s due = ap (λ z. only_marks (agree gives (is_copy (type e))) due s z) (same_expr e h s due)
     same_node gives (t.chain e ls) h s due = ap (λ z. only_marks gives due s z) (both (same_value e h s due) (same_links (type e) ls h s (value_due e)))
     same_node gives (t.unary at o e) h s due = ap (λ z. only_marks gives due s z) (both (same_value e h s due) refl)
@@ -132,7 +132,7 @@ module _ (a : Around) where
     same_unused (t.expr x (t.number at n)) h s due = refl
     same_unused (t.expr x (t.quote at text)) h s due = refl
     same_unused (t.expr x (t.truth at b)) h s due = refl
-    same_unused (t.expr x (t.name n moved)) h s due = refl
+    same_unused (t.expr x (t.name n is_outer moved)) h s due = refl
     same_unused (t.expr x (t.call n f es)) h s due = same_node (is_copy x.value) (t.call n f es) h s due
     same_unused (t.expr x (t.paren at e)) h s due = same_node (is_copy x.value) (t.paren at e) h s due
     same_unused (t.expr x (t.array at y es)) h s due = refl

@@ -51,7 +51,7 @@ module _ (due : Bool) (s : Stand) where
   set_by_place (t.expr x (t.number at n)) h z = refl
   set_by_place (t.expr x (t.quote at text)) h z = refl
   set_by_place (t.expr x (t.truth at b)) h z = refl
-  set_by_place (t.expr x (t.name n moved)) h z = marked_exchange (place_of n.name.0 z) h
+  set_by_place (t.expr x (t.name n is_outer moved)) h z = marked_exchange (place_of n.name.0 z) h
   set_by_place (t.expr x (t.call n f es)) h z = refl
   set_by_place (t.expr x (t.paren at e)) h z = refl
   set_by_place (t.expr x (t.array at y es)) h z = refl
@@ -66,7 +66,7 @@ module _ (due : Bool) (s : Stand) where
   of_store (t.expr x (t.number at n)) h z = refl
   of_store (t.expr x (t.quote at text)) h z = refl
   of_store (t.expr x (t.truth at b)) h z = refl
-  of_store (t.expr x (t.name n moved)) h z = marked_store (place_of n.name.0 z) h
+  of_store (t.expr x (t.name n is_outer moved)) h z = marked_store (place_of n.name.0 z) h
   of_store (t.expr x (t.call n f es)) h z = refl
   of_store (t.expr x (t.paren at e)) h z = refl
   of_store (t.expr x (t.array at y es)) h z = refl

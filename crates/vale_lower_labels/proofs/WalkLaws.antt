@@ -80,7 +80,7 @@ unused_by a h s due (t.expr x (t.steps e ss)) = refl
 unused_by a h s due (t.expr x (t.number at n)) = refl
 unused_by a h s due (t.expr x (t.quote at text)) = refl
 unused_by a h s due (t.expr x (t.truth at b)) = refl
-unused_by a h s due (t.expr x (t.name n moved)) = refl
+unused_by a h s due (t.expr x (t.name n is_outer moved)) = refl
 unused_by a h s due (t.expr x (t.call n f es)) = refl
 unused_by a h s due (t.expr x (t.paren at e)) = refl
 unused_by a h s due (t.expr x (t.array at y es)) = refl
@@ -101,7 +101,7 @@ unused_due_by_test (t.expr x (t.steps e ss)) = refl
 unused_due_by_test (t.expr x (t.number at n)) = refl
 unused_due_by_test (t.expr x (t.quote at text)) = refl
 unused_due_by_test (t.expr x (t.truth at b)) = refl
-unused_due_by_test (t.expr x (t.name n moved)) = refl
+unused_due_by_test (t.expr x (t.name n is_outer moved)) = refl
 unused_due_by_test (t.expr x (t.call n f es)) = refl
 unused_due_by_test (t.expr x (t.paren at e)) = refl
 unused_due_by_test (t.expr x (t.array at y es)) = refl
@@ -139,7 +139,7 @@ return_by_parts a e h s due due2 p p2 p3 gives e2 ed e3 =
     ∙ ap (λ (d : Bool). with_marks (only_marks d due s (value ++ last)) p) (sym gives)
 
 module _ (a : Around) (b : t.Block) (n turn : ℕ) (s : Stand) (due : Bool) where
-  -- of a loop over numbers behind its bounds, by what is known in its block
+  -- of a loop over numbers after its bounds, by what is known in its block
   pub turns_by_parts : (next : ℕ) (z : Stand) (due1 due2 : Bool) (p p1 p2 p3 : Progress) → next ≡ turn + 1 → z ≡ with_slot (local n turn int) s
       → p1 ≡ with_marks (mark due s ∷ None ∷ Some s ∷ None ∷ []) p → due1 ≡ false
       → p2 ≡ with_marks (block_marks a false b next z due1) p1 → due2 ≡ block_due a.gives false b due1

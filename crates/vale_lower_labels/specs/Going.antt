@@ -15,7 +15,7 @@ link_op (link y at op e) = op
 abbrev pub one_link_marks : Around → Ty → Link → ℕ → Stand → Bool → Marks
 one_link_marks around x (link y at op e) h s due = link_marks op x (type e) (value_due e) (λ h s due. value_marks around e h s due) h s due
 
--- whether the block goes on behind it
+-- whether the block goes on after it
 abbrev pub goes_on : Stmt → Bool
 goes_on (destructure at ns xs e) = false
 goes_on _ = true
@@ -43,7 +43,7 @@ abbrev pub store_marks : Around → Node → ℕ → Stand → Bool → Marks
 store_marks around (set at p e) h s due = value_marks around e h s due ++ (mark (value_due e) (with_slot (holds h (type e)) s) ∷ [])
 store_marks around _ h s due = mark due s ∷ []
 
--- of a loop over numbers behind its bounds, where `turn` has the number of a turn; the label behind the test is never due
+-- of a loop over numbers after its bounds, where `turn` has the number of a turn; the label after the test is never due
 abbrev pub turns_marks : Around → Block → ℕ → ℕ → Stand → Bool → Marks
 turns_marks around b n turn s due =
     count_marks due s (block_marks around false b (turn + 1) (with_slot (local n turn int) s) false) (block_due around.gives false b false) (behind (block_returns b) s) s

@@ -15,6 +15,6 @@ pub record Progress : Type 0 where
 unfoldable pub progress : Labels → Progress
 progress l = record { last = record { register = l.last; ty = l.result_type }; registers = l.registers; labels = l.labels.items; place = l.place }
 
--- behind instructions with these marks
+-- after instructions with these marks
 unfoldable pub with_marks : Marks → Progress → Progress
 with_marks ms p = record { last = p.last; registers = p.registers; labels = p.labels ++ labels_from p.last p.registers p.place ms; place = p.place + length ms }

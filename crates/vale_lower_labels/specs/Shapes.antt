@@ -8,7 +8,7 @@ is_found None = false
 is_found (Some r) = true
 
 abbrev pub sets_local : Expr → Scope → Bool
-sets_local (expr x (name n moved)) s = is_found (place_of n.name.0 s)
+sets_local (expr x (name n is_outer moved)) s = is_found (place_of n.name.0 s)
 sets_local (expr x _) s = false
 
 abbrev pub is_set : Expr → Bool

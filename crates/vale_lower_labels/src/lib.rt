@@ -8,6 +8,6 @@ mod labels;
 mod slots;
 mod steps;
 mod walk;
-mod whole;
+mod facts;
 
-pub use whole::lower_facts;
+pub use facts::lower_facts;

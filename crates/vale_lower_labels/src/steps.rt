@@ -28,7 +28,7 @@ fn sets_local(place: &Expr, slots: &Slots) -> bool
     ensures { result ≡ sets_local (view_expr place.now) (s.scope_of (slots_of slots.now)) }
 {
     match &place.node {
-        Node::Name(name, _) => is_local(name.name, slots),
+        Node::Name { name, .. } => is_local(name.name, slots),
         Node::Set(..)
         | Node::Chain(..)
         | Node::Unary(..)
@@ -73,7 +73,7 @@ pub fn is_set(expr: &Expr) -> bool
         | Node::Number(..)
         | Node::Quote(..)
         | Node::Truth(..)
-        | Node::Name(..)
+        | Node::Name { .. }
         | Node::Call(..)
         | Node::Paren(..)
         | Node::Array(..)
@@ -82,7 +82,7 @@ pub fn is_set(expr: &Expr) -> bool
     }
 }
 
-/// A return of what the register has, a value of this type; the place behind it is due a label.
+/// A return of what the register has, a value of this type; the place after it is due a label.
 pub fn put_return(
     alloc: Global,
     h: u32,
@@ -162,7 +162,7 @@ fn put_given(
     }
 }
 
-/// The jump behind a block, whose value, where one is wanted, is in the register; the place behind it is due a label.
+/// The jump after a block, whose value, where one is wanted, is in the register; the place after it is due a label.
 #[tactic(auto, using(crate::proofs::StepLaws::ends))]
 pub fn end_side(
     alloc: Global,
@@ -198,7 +198,7 @@ pub fn begin_loop(
     labels.put(alloc, slots, over)
 }
 
-/// The two jumps behind a loop's test, of this type.
+/// The two jumps after a loop's test, of this type.
 #[tactic(auto, using(crate::proofs::StepLaws::turns))]
 pub fn end_loop(
     alloc: Global,
@@ -235,7 +235,7 @@ pub fn begin_count(
     labels.put_plain()
 }
 
-/// The end of a loop over numbers, behind its block.
+/// The end of a loop over numbers, after its block.
 #[tactic(auto, using(crate::proofs::StepLaws::turns))]
 pub fn end_count(
     alloc: Global,

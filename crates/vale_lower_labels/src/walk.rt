@@ -117,7 +117,7 @@ fn walk_store(
         | Node::Number(..)
         | Node::Quote(..)
         | Node::Truth(..)
-        | Node::Name(..)
+        | Node::Name { .. }
         | Node::Call(..)
         | Node::Paren(..)
         | Node::Array(..)
@@ -200,14 +200,14 @@ fn walk_node(
         Node::Number(..)
         | Node::Quote(..)
         | Node::Truth(..)
-        | Node::Name(..)
+        | Node::Name { .. }
         | Node::Steps(..)
         | Node::Array(..)
         | Node::Iso(..) => labels.put(alloc, slots, over),
     }
 }
 
-// The values go to registers from one on; each waits for those behind it.
+// The values go to registers from one on; each waits for those after it.
 #[cycle(walk)]
 #[tactic(auto, using(crate::proofs::WalkLaws::lists))]
 fn walk_args(
@@ -231,7 +231,7 @@ fn walk_args(
     Ok(())
 }
 
-// What stands in the register, a value of this type, with the operator and the operand behind it.
+// What stands in the register, a value of this type, with the operator and the operand after it.
 #[cycle(walk)]
 #[tactic(auto, using(crate::proofs::WalkLaws::links))]
 fn walk_link(
@@ -483,7 +483,7 @@ fn walk_last(
     }
 }
 
-// The next statement of a block. Whether the block goes on behind it.
+// The next statement of a block. Whether the block goes on after it.
 #[cycle(walk)]
 #[tactic(auto, using(crate::proofs::WalkLaws::nexts))]
 fn walk_next(
@@ -595,7 +595,7 @@ fn walk_return(
     put_return(alloc, h, &value.seen.value, slots, over, labels)
 }
 
-// A loop over numbers behind its bounds, where each turn has its number in a register.
+// A loop over numbers after its bounds, where each turn has its number in a register.
 #[cycle(walk)]
 #[tactic(auto, using(crate::proofs::WalkLaws::turns))]
 fn walk_turns(

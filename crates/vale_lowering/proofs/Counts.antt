@@ -55,7 +55,7 @@ no_difference x = omega (arith, ints)
 -- ---- the loop
 
 module _ (code : Parts) (k : Where) (n p h : ℕ) (s : Scope) (base : Base) (at : Spot) (body : ℕ → List Instr) (run : ℤ → Run (Option Value)) (fa : Falls h s) (has : HasAt code k.function p (count_code p h at body)) where
-  -- the register behind the counter and the bound
+  -- the register after the counter and the bound
   abbrev top : ℕ
   top = h + 1 + 1
 
@@ -75,7 +75,7 @@ module _ (code : Parts) (k : Where) (n p h : ℕ) (s : Scope) (base : Base) (at 
   abbrev turn : ℕ → List Instr
   turn q = i.Copy top h ∷ (body (q + 1) ++ count_on)
 
-  -- the places of a turn, of the test, and behind the loop
+  -- the places of a turn, of the test, and after the loop
   abbrev begins : ℕ
   begins = p + 1 + 2
 
@@ -91,7 +91,7 @@ module _ (code : Parts) (k : Where) (n p h : ℕ) (s : Scope) (base : Base) (at 
       (q : ℕ) (x : ℤ) (base : Base) (l : Locals) (regs : Registers) (w : State) → is_int x ≡ true → Agrees (top + 1) s l (with_at top (Some (Int x)) base) regs → w.left ≤ n → HasAt code k.function q (body q) →
       Reaches code k n (q + length (body q)) (Keeps {A = Option Value} top s base) (conf k q regs w) (run x (calls_in k) l w)
 
-  -- a value in the register behind both
+  -- a value in the register after both
   put_top : (v : Held) (base : Base) (l : Locals) (regs : Registers) → Agrees top s l base regs → Agrees top s l base (put regs top v)
   put_top v base l regs ag =
       agrees_down s l base (with_at top v base) top (top + 1) (put regs top v) (omega arith) (one_above base top v)
@@ -111,7 +111,7 @@ module _ (code : Parts) (k : Where) (n p h : ℕ) (s : Scope) (base : Base) (at 
       (λ r lt. pick_swap r h (h + 1) (Some z) (Some y) (pick r h (Some x) (base r)) ne ∙ ap (pick r (h + 1) (Some y)) (pick_twice r h (Some z) (Some x) (base r)))
       (agrees_dest s l (counted x y) (counted x y) h top top (Some z) regs (fresh_above s h h fa (omega arith)) (omega arith) (λ r lt. refl) ag)
 
-  -- behind the body: the next number, and on to the test
+  -- after the body: the next number, and on to the test
   module _ (x y : ℤ) (next : is_int (x +ℤ pos 1) ≡ true) (l : Locals) (regs : Registers) (w : State) (ag : Agrees top s l (counted (Int x) (Int y)) regs) where
     abbrev q : ℕ
     q = begins + 1 + length (body (begins + 1))

@@ -36,7 +36,7 @@ module _ (again : Again) (at : Spot) (calls : Calls) where
   pub leave_plain : {A : Type 0} (v : Held) (s : Scope) (l : Locals) (w : State) → Named s l → leave {A = A} again at v calls l w ≡ returned v w
   leave_plain v s l w h = ap (λ r. then_do r (λ u l w. returned v w)) (drops s l [] w h)
 
--- ---- what holds behind a part
+-- ---- what holds after a part
 
 pub in_fits : (gives : Bool) (h : ℕ) (s : Scope) (base : Base) (v : Held) (l : Locals) (regs : Registers) → In gives h s base v l regs → Fits gives v
 in_fits true h s base None l regs a = absurd a

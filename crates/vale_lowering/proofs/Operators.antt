@@ -81,7 +81,7 @@ module _ (code : Parts) (k : Where) (n : ℕ) where
     operates op.Or x e = wrongs code k n p (p + 1) (In true h s base) regs w (i.Truth h 2) (ended Wrong w) w None e refl
     operates op.And x e = wrongs code k n p (p + 1) (In true h s base) regs w (i.Truth h 2) (ended Wrong w) w None e refl
 
-  -- ---- an operator behind its first operand
+  -- ---- an operator after its first operand
 
   abbrev pub OperandRuns : Scope → (ℕ → ℕ → List Instr) → Run (Option Value) → Type 0
   OperandRuns s co operand =

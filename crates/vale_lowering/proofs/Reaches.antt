@@ -99,7 +99,7 @@ StepFits b w (gives v u) = Fits b v × (u.left ≤ w.left)
 StepFits b w (traps kind) = Unit {0}
 StepFits b w fails = Unit {0}
 
--- ---- what holds behind a part
+-- ---- what holds after a part
 
 -- a value that is used stands in register h
 abbrev pub Val : ℕ → Scope → Base → Post Value

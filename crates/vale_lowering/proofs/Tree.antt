@@ -52,7 +52,7 @@ module _ (parts : Parts) (k : Where) (is : IsIn (program_code parts) k) (n : ℕ
   abbrev a : Around
   a = around parts k.gives
 
-  -- how parts run from a place on, up to the place behind their code
+  -- how parts run from a place on, up to the place after their code
   abbrev Runs : {A : Type 0} → List Instr → Post A → ℕ → Registers → State → Result A → Type 0
   Runs cs post p regs w r = HasAt code k.function p cs → Reaches code k n (p + length cs) post (conf k p regs w) r
 
@@ -87,7 +87,7 @@ module _ (parts : Parts) (k : Where) (is : IsIn (program_code parts) k) (n : ℕ
   -- ---- the set of a local
 
   set_runs : (q : Expr) (v : Value) (p h : ℕ) (s : Scope) (base : Base) (l : Locals) (regs : Registers) (w : State) → Falls h s → Val h s base v l regs → w.left ≤ n → Runs (set_code q h s) (In true h s base) p regs w (while_waits v (set_run again v q) (calls_in k) l w)
-  set_runs (expr x (name m moved)) v p h s base l regs w fa ag few has =
+  set_runs (expr x (name m is_outer moved)) v p h s base l regs w fa ag few has =
       exchanges code k n p h s base l (with_held m.name.0 (Some v) l) regs w v (place_of m.name.0 s) (held_by m.name.0 l)
       (λ u. then_do (then_do (then_do (the_value u (calls_in k) (record { name = None; value = Some v } ∷ l) w) (λ u l w. goes u (with_held m.name.0 (Some v) l) w)) (λ u. give (Some u) (calls_in k))) (λ r l w. goes r (outer l) w))
       fa ag few (meets m.name.0 h s l fa ag.1.names) (changes m.name.0 h v s l ag.0 fa ag.1.names) (λ u. refl) has
@@ -175,7 +175,7 @@ module _ (parts : Parts) (k : Where) (is : IsIn (program_code parts) k) (n : ℕ
   -- ---- the set of a local, whose old value isn't used
 
   store_runs : (q : Expr) (drop_at : Spot) (v : Value) (p h : ℕ) (s : Scope) (base : Base) (l : Locals) (regs : Registers) (w : State) → Falls h s → Val h s base v l regs → w.left ≤ n → Runs (store_code q h s) (Keeps {A = Option Value} h s base) p regs w (then_do (while_waits v (set_run again v q) (calls_in k) l w) (λ u. drop again drop_at u (calls_in k)))
-  store_runs (expr x (name m moved)) drop_at v p h s base l regs w fa ag few has =
+  store_runs (expr x (name m is_outer moved)) drop_at v p h s base l regs w fa ag few has =
       stores code k n p h s base l (with_held m.name.0 (Some v) l) regs w v (place_of m.name.0 s) (held_by m.name.0 l)
       (λ u. then_do (then_do (then_do (then_do (the_value u (calls_in k) (record { name = None; value = Some v } ∷ l) w) (λ u l w. goes u (with_held m.name.0 (Some v) l) w)) (λ u. give (Some u) (calls_in k))) (λ r l w. goes r (outer l) w)) (λ u. drop again drop_at u (calls_in k)))
       fa ag few (meets m.name.0 h s l fa ag.1.names) (changes m.name.0 h v s l ag.0 fa ag.1.names) (λ u pu. drop_plain again drop_at (calls_in k) (Some u) (with_held m.name.0 (Some v) l) w pu) has
@@ -225,9 +225,9 @@ module _ (parts : Parts) (k : Where) (is : IsIn (program_code parts) k) (n : ℕ
     node_runs (truth at false) x gives p h s base l regs w fa ag few has =
         given gives (i.Truth h 0 ∷ []) p h s base regs w (goes (Some (Truth false)) l w)
         (λ has. literal code k n p h h s base base l regs w (i.Truth h 0) (Truth false) fa (λ r lt. refl) (omega arith) ag few tt has.0 refl) has
-    node_runs (name m true) x gives p h s base l regs w fa ag few has = is_stuck code k n p (p + 1) h (In gives h s base) regs w (node_run again x (name m true) (calls_in k) l w) has
-    node_runs (name m false) x gives p h s base l regs w fa ag few has =
-        given gives (load (place_of m.name.0 s) h) p h s base regs w (node_run again x (name m false) (calls_in k) l w)
+    node_runs (name m is_outer true) x gives p h s base l regs w fa ag few has = is_stuck code k n p (p + 1) h (In gives h s base) regs w (node_run again x (name m is_outer true) (calls_in k) l w) has
+    node_runs (name m is_outer false) x gives p h s base l regs w fa ag few has =
+        given gives (load (place_of m.name.0 s) h) p h s base regs w (node_run again x (name m is_outer false) (calls_in k) l w)
         (λ has. loads code k n p h s base l regs w (place_of m.name.0 s) (held_by m.name.0 l) fa ag few (meets m.name.0 h s l fa ag.names) has) has
     node_runs (paren at e) x gives p h s base l regs w fa ag few has =
         only_if_runs code k n (agree gives (is_copy (type e))) h p (expr_code a e p h s) (In gives h s base) regs w (expr_run again e (calls_in k) l w) has
@@ -392,7 +392,7 @@ module _ (parts : Parts) (k : Where) (is : IsIn (program_code parts) k) (n : ℕ
     unused_runs (expr x (number at z)) drop_at p h s base l regs w fa ag few has = unused (is_copy x.value) drop_at (node_code a (is_copy x.value) (number at z) p h s) p h s base regs w (node_run again x.value (number at z) (calls_in k) l w) (node_runs (number at z) x.value (is_copy x.value) p h s base l regs w fa ag few) has
     unused_runs (expr x (quote at t)) drop_at p h s base l regs w fa ag few has = unused (is_copy x.value) drop_at (node_code a (is_copy x.value) (quote at t) p h s) p h s base regs w (node_run again x.value (quote at t) (calls_in k) l w) (node_runs (quote at t) x.value (is_copy x.value) p h s base l regs w fa ag few) has
     unused_runs (expr x (truth at b)) drop_at p h s base l regs w fa ag few has = unused (is_copy x.value) drop_at (node_code a (is_copy x.value) (truth at b) p h s) p h s base regs w (node_run again x.value (truth at b) (calls_in k) l w) (node_runs (truth at b) x.value (is_copy x.value) p h s base l regs w fa ag few) has
-    unused_runs (expr x (name m moved)) drop_at p h s base l regs w fa ag few has = unused (is_copy x.value) drop_at (node_code a (is_copy x.value) (name m moved) p h s) p h s base regs w (node_run again x.value (name m moved) (calls_in k) l w) (node_runs (name m moved) x.value (is_copy x.value) p h s base l regs w fa ag few) has
+    unused_runs (expr x (name m is_outer moved)) drop_at p h s base l regs w fa ag few has = unused (is_copy x.value) drop_at (node_code a (is_copy x.value) (name m is_outer moved) p h s) p h s base regs w (node_run again x.value (name m is_outer moved) (calls_in k) l w) (node_runs (name m is_outer moved) x.value (is_copy x.value) p h s base l regs w fa ag few) has
     unused_runs (expr x (call m f es)) drop_at p h s base l regs w fa ag few has = unused (is_copy x.value) drop_at (node_code a (is_copy x.value) (call m f es) p h s) p h s base regs w (node_run again x.value (call m f es) (calls_in k) l w) (node_runs (call m f es) x.value (is_copy x.value) p h s base l regs w fa ag few) has
     unused_runs (expr x (paren at e)) drop_at p h s base l regs w fa ag few has = unused (is_copy x.value) drop_at (node_code a (is_copy x.value) (paren at e) p h s) p h s base regs w (node_run again x.value (paren at e) (calls_in k) l w) (node_runs (paren at e) x.value (is_copy x.value) p h s base l regs w fa ag few) has
     unused_runs (expr x (array at t es)) drop_at p h s base l regs w fa ag few has = unused (is_copy x.value) drop_at (node_code a (is_copy x.value) (array at t es) p h s) p h s base regs w (node_run again x.value (array at t es) (calls_in k) l w) (node_runs (array at t es) x.value (is_copy x.value) p h s base l regs w fa ag few) has

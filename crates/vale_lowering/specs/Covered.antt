@@ -36,7 +36,7 @@ callee_is_covered (function is_pure) = not is_pure
 
 -- exactly a local
 abbrev pub is_local : Expr → Bool
-is_local (expr x (name n moved)) = true
+is_local (expr x (name n is_outer moved)) = true
 is_local _ = false
 
 abbrev mutual
@@ -51,7 +51,7 @@ abbrev mutual
   node_is_covered (number at n) = true
   node_is_covered (quote at text) = true
   node_is_covered (truth at b) = true
-  node_is_covered (name n moved) = not moved
+  node_is_covered (name n is_outer moved) = not moved
   node_is_covered (call n f es) = callee_is_covered f && exprs_are_covered es
   node_is_covered (paren at e) = expr_is_covered e
   node_is_covered (array at x es) = false

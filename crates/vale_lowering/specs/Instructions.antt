@@ -65,7 +65,7 @@ loop_code place h test body =
 
 -- A counter in h and the bound in h + 1: a turn for each number from the counter to the one before the bound. The difference of the
 -- counter to itself has no rule where it is no number; the test has none where the bound is no number then. Each turn gets a copy of
--- the counter in the register behind both, so that what the body does with it leaves the counter as it is.
+-- the counter in the register after both, so that what the body does with it leaves the counter as it is.
 abbrev pub count_code : ℕ → ℕ → Spot → (ℕ → List Instr) → List Instr
 count_code place h at body =
     let r = h + 1 + 1 in

@@ -37,12 +37,12 @@ callee_code around gives n (function is_pure) values h = call_code around gives 
 
 -- the set of a local, whose new value stands in h
 abbrev pub set_code : Expr → ℕ → Scope → List Instr
-set_code (expr x (name n moved)) h s = exchange (place_of n.name.0 s) h
+set_code (expr x (name n is_outer moved)) h s = exchange (place_of n.name.0 s) h
 set_code (expr x _) h s = stuck h
 
 -- the same, where what the local held isn't used
 abbrev pub store_code : Expr → ℕ → Scope → List Instr
-store_code (expr x (name n moved)) h s = store (place_of n.name.0 s) h
+store_code (expr x (name n is_outer moved)) h s = store (place_of n.name.0 s) h
 store_code (expr x _) h s = stuck h
 
 abbrev mutual
@@ -58,8 +58,8 @@ abbrev mutual
   node_code around gives (number at n) place h s = only_if (gives && is_int n) h (i.Int h n ∷ [])
   node_code around gives (quote at text) place h s = only_if (gives && is_lawful_text text) h (i.Text h (number_of_text text around.texts) ∷ [])
   node_code around gives (truth at b) place h s = only_if gives h (i.Truth h (truth_number b) ∷ [])
-  node_code around gives (name n true) place h s = stuck h
-  node_code around gives (name n false) place h s = only_if gives h (load (place_of n.name.0 s) h)
+  node_code around gives (name n is_outer true) place h s = stuck h
+  node_code around gives (name n is_outer false) place h s = only_if gives h (load (place_of n.name.0 s) h)
   node_code around gives (paren at e) place h s = only_if (agree gives (is_copy (type e))) h (expr_code around e place h s)
   node_code around gives (chain e ls) place h s =
       only_if gives h (then_at place (value_code around e place h s) (λ place. links_code around ls place h s))
@@ -71,13 +71,13 @@ abbrev mutual
   node_code around gives (array at x es) place h s = stuck h
   node_code around gives (iso at b) place h s = stuck h
 
-  -- the values go to h and the registers behind it; each waits for those behind it
+  -- the values go to h and the registers after it; each waits for those after it
   pub args_code : Around → Exprs → ℕ → ℕ → Scope → List Instr
   args_code around no_exprs place h s = []
   args_code around (more_exprs e es) place h s =
       then_at place (value_code around e place h s) (λ place. args_code around es place (h + 1) (waiting h ∷ s))
 
-  -- what stands in h, with the operators behind it
+  -- what stands in h, with the operators after it
   pub links_code : Around → Links → ℕ → ℕ → Scope → List Instr
   links_code around no_links place h s = []
   links_code around (more_links (link x at op e) ls) place h s =
@@ -117,7 +117,7 @@ abbrev mutual
   stmt_code around (return_value at e) place h s = only_if around.gives h (value_code around e place h s ++ (i.Ret h ∷ []))
   stmt_code around (while at c b) place h s =
       loop_code place h (λ place. value_code around c place h s) (λ place. block_code around false b place h (h + 1) s)
-  -- the counter in h, the bound in h + 1, and the local behind both
+  -- the counter in h, the bound in h + 1, and the local after both
   stmt_code around (foreach at n a e b) place h s =
       then_at place (value_code around a place h s) (λ place.
       then_at place (value_code around e place (h + 1) s) (λ place.
@@ -167,7 +167,7 @@ abbrev pub registers_in : List Instr → ℕ
 registers_in [] = 0
 registers_in (x ∷ xs) = max (room_for x) (registers_in xs)
 
--- A function that gives a value has returned before its end: the register behind its parameters is never written.
+-- A function that gives a value has returned before its end: the register after its parameters is never written.
 abbrev pub end_code : Bool → ℕ → List Instr
 end_code true to = i.Ret to ∷ []
 end_code false to = i.RetVoid ∷ []

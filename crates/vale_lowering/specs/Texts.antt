@@ -24,7 +24,7 @@ abbrev mutual
   node_quotes (steps e ss) = []
   node_quotes (number at n) = []
   node_quotes (truth at b) = []
-  node_quotes (name n moved) = []
+  node_quotes (name n is_outer moved) = []
   node_quotes (array at x es) = []
   node_quotes (iso at b) = []
 

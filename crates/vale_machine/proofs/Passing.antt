@@ -69,7 +69,7 @@ front_end : (vs : List Value) (regs : Registers) → front vs (Some (record { va
 front_end [] regs = refl
 front_end (v ∷ vs) regs = ap (and_then (Some v)) (front_end vs regs)
 
--- values were put behind the cells so far, and others follow
+-- values were put after the cells so far, and others follow
 pub record IsPassing (got rest : Option Read) (old new : List Cell) : Type 0 where
   pub more : List Cell
   pub values : List Value
@@ -95,7 +95,7 @@ next_given cells (u ∷ us) (b ∷ bs) (suc i) d lt le =
     next_given cells us bs i d (omega arith) (omega arith)
     ∙ ap (λ n. and_then (given_value (get_or us i d) (read (values_in cells) (get_or bs i 0))) (give_all (drop n (u ∷ us)) (drop n (b ∷ bs)) (values_in cells))) (sym s)
 
--- the registers of the innermost frame, while values are put behind them
+-- the registers of the innermost frame, while values are put after them
 pub window : (old more new : List Cell) (base end : ℕ) → new ≡ old ++ more → end ≡ length old → base ≤ end → slice_range new base end ≡ drop base old
 window old more new base end e same le =
     ap (λ l. slice_range l base end) e ∙ ap (slice_range (old ++ more) base) same ∙ at old base (omega arith)

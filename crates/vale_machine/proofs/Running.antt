@@ -9,7 +9,7 @@ use Rattle.vale_code.specs.Fuel.{fuel}
 use Rattle.vale_code.specs.Parts.{Parts}
 use Rattle.vale_code.specs.Run.{Ending, EndsIn, exec, last_state, outcome_of, run_code, start, step, then_go}
 use Rattle.vale_code.proofs.Ends.{run_ends_once, step_less}
-use Rattle.vale_text.specs.Later.{EndsRight}
+use Rattle.vale_text.specs.Progress.{EndsRight}
 use Rattle.vale_machine.specs.Finishes.{FinishesSo}
 use Rattle.vale_machine.specs.UnderWay.{Ends}
 use Rattle.vale_machine.specs.View.{state_of}

@@ -15,7 +15,7 @@ use Rattle.vale_machine.specs.declared.machine.Machine.{Machine}
 use Rattle.vale_machine.specs.declared.machine.Step.{Step}
 use Rattle.vale_machine.specs.declared.machine.Step.TheVariants as step
 
--- values were put behind the cells, and the registers that they were read from stay as they are
+-- values were put after the cells, and the registers that they were read from stay as they are
 pub record IsPassed (got : Option Read) (registers : Registers) (old new : List Cell) : Type 0 where
   pub more : List Cell
   pub values : List Value
@@ -41,7 +41,7 @@ pub record IsCallable (code : Parts) (function to base count : ℕ) : Type 0 whe
   pub params : length func.params ≤ func.registers
   pub room : HasRegister (result_to func.result to) base count
 
--- the frame is the innermost one now, and the one before goes on behind its instruction
+-- the frame is the innermost one now, and the one before goes on after its instruction
 pub record Enters (frame : Frame) (old new : Machine) : Type 0 where
   pub top : new.top ≡ frame
   pub below : new.below.items ≡ old.below.items ++ record old.top { place = old.top.place + 1 } ∷ []

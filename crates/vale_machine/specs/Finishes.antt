@@ -2,7 +2,7 @@
 use Rattle.std.specs.Prelude.{◌≡◌, ℕ, List}
 use Rattle.vale_state_spec.specs.Outcome.{Outcome, Done, Trap, Cut}
 use Rattle.vale_base.specs.declared.piece.Piece.{Piece}
-use Rattle.vale_machine.specs.declared.whole.Finished.{Finished}
+use Rattle.vale_machine.specs.declared.runs.Finished.{Finished}
 use Rattle.vale_machine.specs.declared.turn.End.{End}
 use Rattle.vale_machine.specs.declared.turn.End.TheVariants as end
 

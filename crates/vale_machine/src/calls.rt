@@ -40,7 +40,7 @@ fn given(alloc: Global, registers: &[Cell], from: u32, ty: &Ty) -> Reply
     }
 }
 
-// Puts the values of registers, for parameters of these types, behind all cells. The registers are those from the base on
+// Puts the values of registers, for parameters of these types, after all cells. The registers are those from the base on
 // to the end.
 fn pass(alloc: Global, cells: &mut Vec<Cell>, base: usize, params: &[Ty], args: &[u32]) -> Passing
     requires { base ≤ length cells.old.items }
@@ -64,7 +64,7 @@ fn pass(alloc: Global, cells: &mut Vec<Cell>, base: usize, params: &[Ty], args: 
     Passing::All
 }
 
-// Empty cells behind all cells, until there are so many.
+// Empty cells after all cells, until there are so many.
 pub fn fill(cells: &mut Vec<Cell>, count: usize) -> Result<(), Memory>
     ensures { OnOk result (cells.new.items ≡ cells.old.items ++ replicate (count - length cells.old.items) Cell.Empty) }
 {
@@ -143,7 +143,7 @@ impl Machine {
         }
     }
 
-    // The caller goes on behind its instruction later; this frame is the innermost.
+    // The caller goes on after its instruction later; this frame is the innermost.
     fn enter(&mut self, frame: Frame) -> Step
         requires { self.old.top.place + 1 < 2 ^ 64 }
         ensures { IsEntered result frame self.old self.new }

@@ -14,9 +14,9 @@ mod texts;
 mod trap;
 mod turn;
 mod values;
-mod whole;
+mod runs;
 
 pub use machine::Machine;
 pub use start::Input;
 pub use turn::{End, Turn};
-pub use whole::{Finished, run, run_certified};
+pub use runs::{Finished, run, run_certified};

@@ -74,7 +74,7 @@ impl Machine {
         &self.cells[self.top.base..]
     }
 
-    // A value goes to a register, and the next instruction is the one behind.
+    // A value goes to a register, and the next instruction is the one after.
     pub(crate) fn receive(&mut self, to: u32, cell: Cell)
         requires room { self.old.top.base + to < length self.old.cells.items }
         requires place { self.old.top.place + 1 < 2 ^ 64 }
@@ -87,7 +87,7 @@ impl Machine {
         self.top.place += 1;
     }
 
-    // The next instruction is the one behind.
+    // The next instruction is the one after.
     pub(crate) fn pass(&mut self)
         requires { self.old.top.place + 1 < 2 ^ 64 }
         ensures step { (code : Parts) (taken : List Piece)

@@ -11,8 +11,8 @@ use Rattle.vale_base.specs.declared.trap.TrapKind.{TrapKind}
 use Rattle.vale_base.specs.declared.trap.TrapKind.TheVariants.{CallDepth}
 use Rattle.vale_model.specs.Runs.{Locals, Result, goes, returned, ended, Run, then_do, ◌>>=◌, give, nothing, wrong, trap, answered, step, change, ticked, tick, deep, under, the_value, valued, choose, held_by, with_held, read, move, exchange, outer, while_waits}
 use Rattle.vale_model.specs.Loops.{number_in, turns, state_in}
-use Rattle.vale_text.specs.Later.{Later, Begins}
-use Rattle.vale_model.specs.Later.{GoesOn, AlwaysGoesOn}
+use Rattle.vale_text.specs.Progress.{Progresses, Begins}
+use Rattle.vale_model.specs.Progress.{GoesOn, AlwaysGoesOn}
 use Rattle.vale_model.proofs.RunLaws.{bind_goes, give_goes, nothing_goes, wrong_goes, trap_goes, tick_goes, deep_goes, under_goes, fewer_goes, read_goes, move_goes, exchange_goes, while_waits_goes}
 
 -- ---- states that differ in what no rule looks at, and in the ticks left
@@ -120,7 +120,7 @@ tick_longer n m m' h = record {
   longer = λ calls l s x le lt. by calls l s x lt s.left x.left le refl (((tick_goes n m' h.goes_on).from calls l (beside s x) lt).0);
 }
   where
-    by : (calls : Calls) (l : Locals) (s : State) (x : Beside) → x.left < suc n → (a b : ℕ) → a ≤ b → b ≡ x.left → Later (beside s x) (state_in (then_do (ticked (spend_of b (beside s x)) calls l (beside s x)) (λ v. m' calls))) →
+    by : (calls : Calls) (l : Locals) (s : State) (x : Beside) → x.left < suc n → (a b : ℕ) → a ≤ b → b ≡ x.left → Progresses (beside s x) (state_in (then_do (ticked (spend_of b (beside s x)) calls l (beside s x)) (λ v. m' calls))) →
         Longer (then_do (ticked (spend_of a s) calls l s) (λ v. m calls)) (then_do (ticked (spend_of b (beside s x)) calls l (beside s x)) (λ v. m' calls))
     by calls l s x lt zero b le e later = (later.printed, later.pieces)
     by calls l s x lt (suc a) zero le e later = absurd (omega (arith, le))

@@ -12,8 +12,8 @@ use Rattle.vale_model.specs.Runs.{Locals, Result, goes, returned, ended, Run, un
 use Rattle.vale_model.specs.Destruction.{Again, drop_values}
 use Rattle.vale_model.specs.Loops.{state_in}
 use Rattle.vale_model.specs.Meaning.{bound, back_to, body_run, with_bound, function_run, turn_run, level, main_run, main_takes, with_input, run_of, outcome_of, meaning, no_tick_left}
-use Rattle.vale_text.specs.Later.{Begins}
-use Rattle.vale_model.specs.Later.{AlwaysGoesOn}
+use Rattle.vale_text.specs.Progress.{Begins}
+use Rattle.vale_model.specs.Progress.{AlwaysGoesOn}
 use Rattle.vale_model.proofs.MeaningLaws.{level_follows, with_bound_goes}
 use Rattle.vale_model.proofs.LongerLaws.{beside, Longer, EndLonger, AlwaysLonger, bind_longer, nothing_longer, wrong_longer, tick_longer, under_longer, valued_longer, choose_longer}
 use Rattle.vale_model.proofs.LongerTree.{Alongside, with_parts, leave_longer, drop_values_longer, called_longer, made_longer, expr_longer, block_longer}

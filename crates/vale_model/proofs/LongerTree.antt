@@ -109,7 +109,7 @@ pub record Alongside (a a' : Again) (n : ℕ) : Type 0 where
   pub calls_on : (f : Function) (vs : List Value) (frame : FrameAt) → AlwaysLonger n (a.call f vs frame) (a'.call f vs frame)
   pub fields_on : (vs : List Value) (frame : FrameAt) → AlwaysLonger n (a.fields vs frame) (a'.fields vs frame)
 
--- a value, behind the drop of the innermost local
+-- a value, after the drop of the innermost local
 abbrev dropped : {A : Type 0} → Again → Spot → A → Run A
 dropped c end r = λ calls l s. then_do (drop c end (innermost l) calls (outer l) s) (λ u l s. goes r l s)
 
@@ -347,8 +347,8 @@ module _ (p : Parts) (a a' : Again) (n : ℕ) (follows : Alongside a a' n) where
     node_longer x (number at k) = give_longer (suc n) (Some (Int k))
     node_longer x (quote at text) = give_longer (suc n) (Some (Text text))
     node_longer x (truth at b) = give_longer (suc n) (Some (Truth b))
-    node_longer x (name k true) = bind_longer (suc n) _ _ _ _ (move_longer (suc n) k.name.0) (λ v. give_longer (suc n) (Some v))
-    node_longer x (name k false) = bind_longer (suc n) _ _ _ _ (read_longer (suc n) k.name.0) (λ v. give_longer (suc n) (Some v))
+    node_longer x (name k is_outer true) = bind_longer (suc n) _ _ _ _ (move_longer (suc n) k.name.0) (λ v. give_longer (suc n) (Some v))
+    node_longer x (name k is_outer false) = bind_longer (suc n) _ _ _ _ (read_longer (suc n) k.name.0) (λ v. give_longer (suc n) (Some v))
     node_longer x (paren at e) = expr_longer e
     node_longer x (chain e ls) = bind_longer (suc n) _ _ _ _ (valued_longer (suc n) (expr_longer e)) (λ v. links_longer v ls)
     node_longer x (unary at op e) = bind_longer (suc n) _ _ _ _ (valued_longer (suc n) (expr_longer e)) (λ v. unary_longer at op v)
@@ -378,7 +378,7 @@ module _ (p : Parts) (a a' : Again) (n : ℕ) (follows : Alongside a a' n) where
     steps_longer v (more_steps x (more_steps z zs)) = bind_longer (suc n) _ _ _ _ (valued_longer (suc n) (step_longer_on v x)) (λ w. steps_longer w (more_steps z zs))
 
     set_longer : (new : Value) (r : Expr) → AlwaysLonger (suc n) (set_run again new r) (set_run again' new r)
-    set_longer new (expr x (name k moved)) = bind_longer (suc n) _ _ _ _ (exchange_longer (suc n) k.name.0 new) (λ old. give_longer (suc n) (Some old))
+    set_longer new (expr x (name k is_outer moved)) = bind_longer (suc n) _ _ _ _ (exchange_longer (suc n) k.name.0 new) (λ old. give_longer (suc n) (Some old))
     set_longer new (expr x (steps e ss)) = bind_longer (suc n) _ _ _ _ (valued_longer (suc n) (expr_longer e)) (λ v. set_steps_longer new v ss)
     set_longer new (expr x (set at q e)) = wrong_longer (suc n)
     set_longer new (expr x (chain e ls)) = wrong_longer (suc n)

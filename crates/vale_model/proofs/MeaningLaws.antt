@@ -15,8 +15,8 @@ use Rattle.vale_model.specs.Destruction.{Again, drop_values, destroyed, destroy}
 use Rattle.vale_model.specs.Expressions.{block_run, expr_run, made}
 use Rattle.vale_model.specs.Loops.{state_in}
 use Rattle.vale_model.specs.Meaning.{bound, back_to, body_run, with_bound, function_run, turn_run, level, main_run, main_takes, with_input, run_of, outcome_of, meaning}
-use Rattle.vale_text.specs.Later.{StampsRise, NameLater}
-use Rattle.vale_model.specs.Later.{GoesOn, AlwaysGoesOn}
+use Rattle.vale_text.specs.Progress.{StampsRise, NameProgresses}
+use Rattle.vale_model.specs.Progress.{GoesOn, AlwaysGoesOn}
 use Rattle.vale_model.proofs.RunLaws.{bind_goes, nothing_goes, wrong_goes, tick_goes, under_goes, valued_goes, choose_goes}
 use Rattle.vale_model.proofs.TreeLaws.{Follows, leave_goes, drop_values_goes, called_goes, made_goes, expr_goes, block_goes}
 
@@ -109,7 +109,7 @@ module _ (program : Typed) (input : Given) (ticks : ℕ) where
   pub stamps_rise : StampsRise 0 (meaning program input ticks).pieces (meaning program input ticks).ticks
   stamps_rise = rise ticks (run_of (parts_of program) input ticks) (run_goes (parts_of program) input ticks)
 
-pub names_stay : (p : Parts) (ticks : ℕ) (b : Block) (calls : Calls) (l : Locals) (s : State) → s.left ≤ ticks → (name : ℕ) → NameLater (slice_get s.world name) (slice_get (state_in (block_run (level p ticks) b calls l s)).world name)
+pub names_stay : (p : Parts) (ticks : ℕ) (b : Block) (calls : Calls) (l : Locals) (s : State) → s.left ≤ ticks → (name : ℕ) → NameProgresses (slice_get s.world name) (slice_get (state_in (block_run (level p ticks) b calls l s)).world name)
 names_stay p ticks b calls l s few name = ((block_goes (level p ticks) ticks (level_follows p ticks) b).from calls l s (omega (arith, few))).0.names name
 
 pub dead_stay : (again : Again) (at : Spot) (name : ℕ) (calls : Calls) (l : Locals) (s : State) → IsDead s.world name → destroy again at name calls l s ≡ ended Wrong s

@@ -10,8 +10,8 @@ use Rattle.vale_base.specs.declared.trap.TrapKind.{TrapKind}
 use Rattle.vale_base.specs.declared.trap.TrapKind.TheVariants.{CallDepth, LoopTooWide}
 use Rattle.vale_model.specs.Runs.{Locals, Result, goes, returned, ended, Run, then_do, ◌>>=◌, give, nothing, wrong, trap, answered, step, change, ticked, tick, deep, under, the_value, valued, choose, held_by, with_held, read, move, exchange, outer, while_waits}
 use Rattle.vale_model.specs.Loops.{number_in, turns, in_region, iteration, collected, in_order, state_in, each_alone, loop, indices, numbered, emptied, taken_apart, loop_value}
-use Rattle.vale_text.specs.Later.{Later, StepGoesOn}
-use Rattle.vale_model.specs.Later.{GoesOn, AlwaysGoesOn}
+use Rattle.vale_text.specs.Progress.{Progresses, StepGoesOn}
+use Rattle.vale_model.specs.Progress.{GoesOn, AlwaysGoesOn}
 use Rattle.vale_text.proofs.StateLaws.{later_refl, later_trans, spend_of_later, none_left, dies_later, freeze_iteration_later, thaw_iteration_later, loop_counted_later, counting_as_later, make_goes}
 use Rattle.vale_rules_spec.specs.Types.{Ty, array}
 use Rattle.vale_rules_spec.specs.Types as y
@@ -49,7 +49,7 @@ answered_goes at fails calls l s h = (later_refl s, tt)
 pub step_goes : (n : ℕ) (at : Spot) (f : State → Answer) → ((s : State) → StepGoesOn s (f s)) → AlwaysGoesOn n (step at f)
 step_goes n at f h = record { from = λ calls l s lt. answered_goes at (f s) calls l s (h s) }
 
-pub change_goes : (n : ℕ) (f : State → State) → ((s : State) → Later s (f s)) → AlwaysGoesOn n (change f)
+pub change_goes : (n : ℕ) (f : State → State) → ((s : State) → Progresses s (f s)) → AlwaysGoesOn n (change f)
 change_goes n f h = record { from = λ calls l s lt. (h s, tt) }
 
 -- what runs after a tick has one tick fewer left

@@ -22,8 +22,8 @@ use Rattle.vale_model.specs.Runs.{Locals, goes, returned, Run, ◌>>=◌, give, 
 use Rattle.vale_model.specs.Destruction.{Again, destructor_in, destroyed_by, destroyed, destroy, drop, drop_values, drop_locals, leave, with_local, with_locals}
 use Rattle.vale_model.specs.Loops.{number_in, loop, numbered, taken_apart}
 use Rattle.vale_model.specs.Expressions.{plus, operated, link_run, unary_run, called_by, called, dispatched_to, dispatched_on, dispatched, built_in_run, made, callee_run, on_place, frozen_run, expr_spot, numbers_of, expr_run, node_run, exprs_run, links_run, step_run, steps_run, set_run, set_steps, set_step, form_run, iteration_body, elses_run, block_run, stmts_run, stmt_run}
-use Rattle.vale_text.specs.Later.{StepGoesOn}
-use Rattle.vale_model.specs.Later.{AlwaysGoesOn}
+use Rattle.vale_text.specs.Progress.{StepGoesOn}
+use Rattle.vale_model.specs.Progress.{AlwaysGoesOn}
 use Rattle.vale_text.proofs.StateLaws.{later_refl, dies_later, freeze_later, thaw_later, join_isolate_later, print_goes, make_goes, load_goes, swap_goes, element_goes, swap_element_goes, len_goes, push_goes, pop_goes, merge_goes, ints_goes, join_goes, slice_goes, byte_goes, text_of_goes, is_number_goes, number_goes, opposite_goes, compare_goes}
 use Rattle.vale_model.proofs.RunLaws.{then_goes, bind_goes, give_goes, nothing_goes, wrong_goes, trap_goes, step_goes, change_goes, tick_goes, deep_goes, valued_goes, choose_goes, read_goes, move_goes, exchange_goes, while_waits_goes, number_in_goes, turns_goes, loop_goes, numbered_goes, taken_apart_goes, loop_value_goes}
 
@@ -246,8 +246,8 @@ module _ (again : Again) (n : ℕ) (follows : Follows again n) where
     node_goes x (number at k) = give_goes (suc n) (Some (Int k))
     node_goes x (quote at text) = give_goes (suc n) (Some (Text text))
     node_goes x (truth at b) = give_goes (suc n) (Some (Truth b))
-    node_goes x (name k true) = bind_goes (suc n) (move k.name.0) _ (move_goes (suc n) k.name.0) (λ v. give_goes (suc n) (Some v))
-    node_goes x (name k false) = bind_goes (suc n) (read k.name.0) _ (read_goes (suc n) k.name.0) (λ v. give_goes (suc n) (Some v))
+    node_goes x (name k is_outer true) = bind_goes (suc n) (move k.name.0) _ (move_goes (suc n) k.name.0) (λ v. give_goes (suc n) (Some v))
+    node_goes x (name k is_outer false) = bind_goes (suc n) (read k.name.0) _ (read_goes (suc n) k.name.0) (λ v. give_goes (suc n) (Some v))
     node_goes x (paren at e) = expr_goes e
     node_goes x (chain e ls) = bind_goes (suc n) (valued (expr_run again e)) _ (valued_goes (suc n) (expr_run again e) (expr_goes e)) (λ v. links_goes v ls)
     node_goes x (unary at op e) = bind_goes (suc n) (valued (expr_run again e)) _ (valued_goes (suc n) (expr_run again e) (expr_goes e)) (λ v. unary_goes at op v)
@@ -281,7 +281,7 @@ module _ (again : Again) (n : ℕ) (follows : Follows again n) where
         bind_goes (suc n) (valued (step_run again v x)) _ (valued_goes (suc n) (step_run again v x) (step_goes_on v x)) (λ w. steps_goes w (more_steps z zs))
 
     set_goes : (new : Value) (q : Expr) → AlwaysGoesOn (suc n) (set_run again new q)
-    set_goes new (expr x (name k moved)) = bind_goes (suc n) (exchange k.name.0 new) _ (exchange_goes (suc n) k.name.0 new) (λ old. give_goes (suc n) (Some old))
+    set_goes new (expr x (name k is_outer moved)) = bind_goes (suc n) (exchange k.name.0 new) _ (exchange_goes (suc n) k.name.0 new) (λ old. give_goes (suc n) (Some old))
     set_goes new (expr x (steps e ss)) = bind_goes (suc n) (valued (expr_run again e)) _ (valued_goes (suc n) (expr_run again e) (expr_goes e)) (λ v. set_steps_goes new v ss)
     set_goes new (expr x (set at q e)) = wrong_goes (suc n)
     set_goes new (expr x (chain e ls)) = wrong_goes (suc n)

@@ -64,7 +64,7 @@ drop_locals again at (x ∷ l) = do
 abbrev pub leave : {A : Type 0} → Again → Spot → Option Value → Run A
 leave again at v = λ calls l s. then_do (drop_locals again at l calls [] s) (λ u l s. returned v s)
 
--- A local has this value while the part runs, and is dropped behind it, at the closing brace of its scope.
+-- A local has this value while the part runs, and is dropped after it, at the closing brace of its scope.
 abbrev pub with_local : {A : Type 0} → Again → Spot → ℕ → Value → Run A → Run A
 with_local again end n v m = λ calls l s. then_do (m calls (record { name = Some n; value = Some v } ∷ l) s)
     (λ r l s. then_do (drop again end (innermost l) calls (outer l) s) (λ u l s. goes r l s))

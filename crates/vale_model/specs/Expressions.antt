@@ -165,7 +165,7 @@ expr_spot (expr x (steps e ss)) = steps_spot (expr_spot e) ss
 expr_spot (expr x (number at n)) = at
 expr_spot (expr x (quote at text)) = at
 expr_spot (expr x (truth at b)) = at
-expr_spot (expr x (name n moved)) = n.at
+expr_spot (expr x (name n is_outer moved)) = n.at
 expr_spot (expr x (call n f es)) = n.at
 expr_spot (expr x (paren at e)) = at
 expr_spot (expr x (array at t es)) = at
@@ -187,10 +187,10 @@ abbrev mutual
   node_run again x (number at n) = give (Some (Int n))
   node_run again x (quote at text) = give (Some (Text text))
   node_run again x (truth at b) = give (Some (Truth b))
-  node_run again x (name n true) = do
+  node_run again x (name n is_outer true) = do
     v ← move n.name.0
     give (Some v)
-  node_run again x (name n false) = do
+  node_run again x (name n is_outer false) = do
     v ← read n.name.0
     give (Some v)
   node_run again x (paren at e) = expr_run again e
@@ -218,7 +218,7 @@ abbrev mutual
     give (isolated v)
   node_run again x (form f) = form_run again x f
 
-  -- each waits for those behind it
+  -- each waits for those after it
   pub exprs_run : Again → Exprs → Run (List Value)
   exprs_run again no_exprs = give []
   exprs_run again (more_exprs e es) = do
@@ -252,7 +252,7 @@ abbrev mutual
 
   -- the place holds the new value now; what it held comes out
   pub set_run : Again → Value → Expr → Run (Option Value)
-  set_run again new (expr x (name n moved)) = do
+  set_run again new (expr x (name n is_outer moved)) = do
     old ← exchange n.name.0 new
     give (Some old)
   set_run again new (expr x (steps e ss)) = do

@@ -30,7 +30,7 @@ pub record Piece : Type 0 where
 abbrev pub is_blank : ℕ → Bool
 is_blank c = (c == 32) || (c == 9) || (c == 13) || (c == 10)
 
--- a byte before the words behind it: it begins the first of them, where that follows at once, or is a word by itself
+-- a byte before the words after it: it begins the first of them, where that follows at once, or is a word by itself
 abbrev pub with_byte : ℕ → ℕ → List Piece → List Piece
 with_byte place c [] = record { place = place; bytes = c ∷ [] } ∷ []
 with_byte place c (w ∷ ws) =
@@ -65,7 +65,7 @@ abbrev pub onto_line : ℕ → ℕ → List Piece → List Piece
 onto_line place c [] = record { place = place; bytes = c ∷ [] } ∷ []
 onto_line place c (l ∷ ls) = record { place = place; bytes = c ∷ l.bytes } ∷ ls
 
--- each line feed ends a line; bytes behind the last one are a line too
+-- each line feed ends a line; bytes after the last one are a line too
 abbrev pub lines_from : ℕ → List ℕ → List Piece
 lines_from place [] = []
 lines_from place (c ∷ cs) =

@@ -36,7 +36,7 @@ abbrev mutual
   node_arrays x (number at n) = []
   node_arrays x (quote at text) = []
   node_arrays x (truth at b) = []
-  node_arrays x (name n moved) = []
+  node_arrays x (name n is_outer moved) = []
   node_arrays x (call n f es) = exprs_arrays es
   node_arrays x (paren at e) = expr_arrays e
   node_arrays x (array at y es) = exprs_arrays es ++ arrays_in x

@@ -8,7 +8,7 @@ ghost use Rattle.vale_base.specs.declared.spot.Spot.{Spot};
 ghost use Rattle.vale_rules_spec.specs.Typed.{Typed, Block};
 ghost use Rattle.vale_model.specs.Destruction.{Again, destroy};
 ghost use Rattle.vale_model.specs.Expressions.{block_run};
-ghost use Rattle.vale_text.specs.Later.{StampsRise, NameLater, Begins};
+ghost use Rattle.vale_text.specs.Progress.{StampsRise, NameProgresses, Begins};
 ghost use Rattle.vale_model.specs.Loops.{state_in};
 ghost use Rattle.vale_model.specs.Meaning.{level, meaning};
 ghost use Rattle.vale_model.specs.Parts.{Parts};
@@ -38,7 +38,7 @@ pub fn stamps_rise()
 pub fn names_never_return()
     ensures { (parts : Parts) (ticks : ℕ) (block : Block) (calls : Calls) (locals : Locals) (s : State)
         → s.left ≤ ticks → (name : ℕ)
-        → NameLater (slice_get s.world name) (slice_get (state_in (block_run (level parts ticks) block calls locals s)).world name) }
+        → NameProgresses (slice_get s.world name) (slice_get (state_in (block_run (level parts ticks) block calls locals s)).world name) }
 {}
 
 /// An object is dropped at most once: where it has died no rule drops it, and it stays dead.

@@ -5,10 +5,10 @@ use Rattle.vale_base.specs.declared.spot.Spot.{Spot}
 use Rattle.vale_syntax.specs.declared.fault.Fault.{Fault}
 use Rattle.vale_syntax.specs.declared.tree.NameAt.{NameAt}
 use Rattle.vale_rules_spec.specs.Judged.{first_of}
-use Rattle.vale_rules_spec.specs.Owned.{Flow, ◌then◌, Ways, way, all_alike, agree, behind}
+use Rattle.vale_rules_spec.specs.Owned.{Flow, ◌then◌, Branches, add_branch, all_alike, agree, behind}
 use Rattle.vale_rules_spec.specs.Whole.{Locals, is_whole, are_alike}
-use Rattle.vale_owner.specs.Found.{Found, earlier, going, naming, moving, judged, declaring, declaring_all, loop_ended, Kept, no_ways, with_way, with_ways, sided, branch_ended, or_else, back_to, in_scope, kept}
-use Rattle.vale_owner.specs.declared.ways.Ways as code
+use Rattle.vale_owner.specs.FlowView.{FlowView, earlier, going, naming, moving, judged, declaring, declaring_all, loop_ended, Kept, no_branches, with_branch, with_branches, sided, branch_ended, or_else, back_to, in_scope, kept}
+use Rattle.vale_owner.specs.declared.branches.Branches as code
 
 -- ---- first faults
 
@@ -27,32 +27,32 @@ earlier_none (Some f) = refl
 pub in_turn : (a : Option Fault) (xs ys : List Fault) → earlier a (first_of (xs ++ ys)) ≡ earlier (earlier a (first_of xs)) (first_of ys)
 in_turn a xs ys = ap (λ z. earlier a z) (first_append xs ys) ∙ sym (earlier_assoc a (first_of xs) (first_of ys))
 
-abbrev pub made : Option Fault → Locals → Found
+abbrev pub made : Option Fault → Locals → FlowView
 made first locals = record { first = first; locals = locals }
 
-pub going_still : (f : Found) → made (earlier f.first None) f.locals ≡ f
+pub going_still : (f : FlowView) → made (earlier f.first None) f.locals ≡ f
 going_still f = ap (λ z. made z f.locals) (earlier_none f.first)
 
-pub going_then : (p q : Locals → Flow) (f : Found) → going (λ ls. p ls then q) f ≡ going q (going p f)
+pub going_then : (p q : Locals → Flow) (f : FlowView) → going (λ ls. p ls then q) f ≡ going q (going p f)
 going_then p q f = ap (λ z. made z (q (p f.locals).after).after) (in_turn f.first (p f.locals).faults (q (p f.locals).after).faults)
 
 -- ---- names
 
-pub declare_none : (f : Found) → declaring_all [] f ≡ f
+pub declare_none : (f : FlowView) → declaring_all [] f ≡ f
 unfolding declaring_all
 declare_none f = refl
 
-pub declare_more : (n : NameAt) (ns : List NameAt) (f : Found) → declaring_all (n ∷ ns) f ≡ declaring_all ns (declaring n f)
+pub declare_more : (n : NameAt) (ns : List NameAt) (f : FlowView) → declaring_all (n ∷ ns) f ≡ declaring_all ns (declaring n f)
 unfolding declaring_all declaring
 declare_more n ns f = refl
 
 pub ruleset declarations = (declare_none, declare_more)
 
-pub name_moves : (n : NameAt) (f : Found) → naming n true f ≡ moving n.name.0 (judged n.at 30 (is_whole n.name.0 f.locals) f)
+pub name_moves : (n : NameAt) (f : FlowView) → naming n true f ≡ moving n.name.0 (judged n.at 30 (is_whole n.name.0 f.locals) f)
 unfolding naming moving judged
 name_moves n f = refl
 
-pub name_stays : (n : NameAt) (f : Found) → naming n false f ≡ judged n.at 30 (is_whole n.name.0 f.locals) f
+pub name_stays : (n : NameAt) (f : FlowView) → naming n false f ≡ judged n.at 30 (is_whole n.name.0 f.locals) f
 unfolding naming judged
 name_stays n f = refl
 
@@ -60,25 +60,25 @@ pub ruleset named = (name_moves, name_stays)
 
 -- ---- ends
 
-pub loop_is : (at : Spot) (stays : Bool) (start : Locals) (returns : Bool) (f : Found) → loop_ended at stays start returns f ≡ back_to start (judged at 32 (stays && (returns || are_alike start f.locals)) f)
+pub loop_is : (at : Spot) (stays : Bool) (start : Locals) (returns : Bool) (f : FlowView) → loop_ended at stays start returns f ≡ back_to start (judged at 32 (stays && (returns || are_alike start f.locals)) f)
 unfolding loop_ended back_to judged
 loop_is at stays start returns f = refl
 
-pub branch_is : (at : Spot) (before : Locals) (f : Found) (k : Kept) → branch_ended at before (sided f k) ≡ back_to (or_else k.first before) (judged at 31 k.alike f)
+pub branch_is : (at : Spot) (before : Locals) (f : FlowView) (k : Kept) → branch_ended at before (sided f k) ≡ back_to (or_else k.first before) (judged at 31 k.alike f)
 unfolding branch_ended sided back_to judged
 branch_is at before f k = refl
 
-pub first_way_is : (k : code.Ways) → (kept k).first ≡ option_map (λ v. in_scope v.items) k.first
+pub first_branch_is : (k : code.Branches) → (kept k).first ≡ option_map (λ v. in_scope v.items) k.first
 unfolding kept
-first_way_is k = refl
+first_branch_is k = refl
 
-pub alike_is : (k : code.Ways) → (kept k).alike ≡ k.alike
+pub alike_is : (k : code.Branches) → (kept k).alike ≡ k.alike
 unfolding kept
 alike_is k = refl
 
-pub ruleset branches = (branch_is, first_way_is, alike_is)
+pub ruleset branches = (branch_is, first_branch_is, alike_is)
 
--- ---- ways
+-- ---- branches
 
 and_and : (a b c : Bool) → ((a && b) && c) ≡ (a && (b && c))
 and_and true b c = refl
@@ -87,23 +87,23 @@ and_and false b c = refl
 abbrev all_kept : Option Locals → Bool → Kept
 all_kept first alike = record { first = first; alike = alike }
 
-ways_from : (ws : Ways) (w : Locals) (alike : Bool) → with_ways ws (all_kept (Some w) alike) ≡ all_kept (Some w) (alike && all_alike w ws)
-unfolding with_ways with_way
-ways_from [] w true = refl
-ways_from [] w false = refl
-ways_from (v ∷ ws) w alike = ways_from ws w (alike && are_alike w v) ∙ ap (λ z. all_kept (Some w) z) (and_and alike (are_alike w v) (all_alike w ws))
+branches_from : (ws : Branches) (w : Locals) (alike : Bool) → with_branches ws (all_kept (Some w) alike) ≡ all_kept (Some w) (alike && all_alike w ws)
+unfolding with_branches with_branch
+branches_from [] w true = refl
+branches_from [] w false = refl
+branches_from (v ∷ ws) w alike = branches_from ws w (alike && are_alike w v) ∙ ap (λ z. all_kept (Some w) z) (and_and alike (are_alike w v) (all_alike w ws))
 
-pub all_ways : (ws : Ways) → (with_ways ws no_ways).alike ≡ agree ws
-unfolding with_ways with_way no_ways
-all_ways [] = refl
-all_ways (w ∷ ws) = ap (λ k. k.alike) (ways_from ws w true)
+pub all_branches : (ws : Branches) → (with_branches ws no_branches).alike ≡ agree ws
+unfolding with_branches with_branch no_branches
+all_branches [] = refl
+all_branches (w ∷ ws) = ap (λ k. k.alike) (branches_from ws w true)
 
-pub ways_behind : (before : Locals) (ws : Ways) → or_else (with_ways ws no_ways).first before ≡ behind before ws
-unfolding with_ways with_way no_ways
-ways_behind before [] = refl
-ways_behind before (w ∷ ws) = ap (λ k. or_else k.first before) (ways_from ws w true)
+pub branches_behind : (before : Locals) (ws : Branches) → or_else (with_branches ws no_branches).first before ≡ behind before ws
+unfolding with_branches with_branch no_branches
+branches_behind before [] = refl
+branches_behind before (w ∷ ws) = ap (λ k. or_else k.first before) (branches_from ws w true)
 
-pub one_way : (returns : Bool) (ls : Locals) (ws : Ways) (k : Kept) → with_ways (way returns ls ws) k ≡ with_ways ws (with_way returns ls k)
-unfolding with_ways with_way
+pub one_way : (returns : Bool) (ls : Locals) (ws : Branches) (k : Kept) → with_branches (add_branch returns ls ws) k ≡ with_branches ws (with_branch returns ls k)
+unfolding with_branches with_branch
 one_way true ls ws k = refl
 one_way false ls ws k = refl

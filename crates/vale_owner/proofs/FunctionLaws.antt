@@ -19,17 +19,17 @@ use Rattle.vale_core.proofs.PartLaws.{of_out_block}
 use Rattle.vale_rules_spec.specs.Whole.{Locals}
 use Rattle.vale_rules_spec.specs.Owned.{function_flow, function_faults, method_faults, are_taken_apart}
 use Rattle.vale_owner.specs.After.{after_stmts}
-use Rattle.vale_owner.specs.declared.so_far.SoFar.{SoFar}
-use Rattle.vale_owner.specs.Found.{Found, found, nothing, declaring, judged}
+use Rattle.vale_owner.specs.declared.flow_state.FlowState.{FlowState}
+use Rattle.vale_owner.specs.FlowView.{FlowView, found, nothing, declaring, judged}
 use Rattle.vale_owner.specs.Functions.{declaring_params, at_end, body_faults, is_taken_apart, answer}
 use Rattle.vale_owner.proofs.FoundLaws.{first_append}
 use Rattle.vale_owner.proofs.WalkLaws.{stmts_by_parts}
 
-pub no_params : (f : Found) → declaring_params [] f ≡ f
+pub no_params : (f : FlowView) → declaring_params [] f ≡ f
 unfolding declaring_params
 no_params f = refl
 
-pub more_params : (p : s.Param) (ps : List s.Param) (f : Found) → declaring_params (p ∷ ps) f ≡ declaring_params ps (declaring (param_name p) f)
+pub more_params : (p : s.Param) (ps : List s.Param) (f : FlowView) → declaring_params (p ∷ ps) f ≡ declaring_params ps (declaring (param_name p) f)
 unfolding declaring_params declaring
 more_params (s.param n x) ps f = refl
 
@@ -60,7 +60,7 @@ pub answered : (fs : List Fault) → answer (first_of fs) ≡ stopped fs tt
 answered [] = refl
 answered (f ∷ fs) = refl
 
-pub fault_is : (s : SoFar) → s.fault ≡ (found s).first
+pub fault_is : (s : FlowState) → s.fault ≡ (found s).first
 unfolding found
 fault_is s = refl
 
@@ -68,7 +68,7 @@ pub body_is : (f : t.Function) → answer (at_end f).first ≡ stopped (body_fau
 unfolding at_end
 body_is (t.function_body h b) = answered (function_flow h b).faults
 
-abbrev judged_end : List (List ℕ) → s.Head → t.Block → Found
+abbrev judged_end : List (List ℕ) → s.Head → t.Block → FlowView
 judged_end names h b = judged (head_name h).at 33 (are_taken_apart (head_params h) b (at_end (t.function_body h b)).locals) (at_end (t.function_body h b))
 
 plain_is : (names : List (List ℕ)) (h : s.Head) (b : t.Block) → is_drop names h ≡ false → answer (at_end (t.function_body h b)).first ≡ stopped (function_faults names (t.function_body h b)) tt
@@ -86,10 +86,10 @@ drop_is names h b e =
     ∙ answered ((function_flow h b).faults ++ ends)
     ∙ ap (λ d. stopped ((function_flow h b).faults ++ own (head_name h).at (if d then (33, are_taken_apart (head_params h) b (function_flow h b).after) ∷ [] else [])) tt) (sym e)
 
-pub plain_function : (names : List (List ℕ)) (f : Function) (x : Found) → x ≡ at_end (view_function f) → is_drop names (view_head f.head) ≡ false → answer x.first ≡ stopped (function_faults names (view_function f)) tt
+pub plain_function : (names : List (List ℕ)) (f : Function) (x : FlowView) → x ≡ at_end (view_function f) → is_drop names (view_head f.head) ≡ false → answer x.first ≡ stopped (function_faults names (view_function f)) tt
 plain_function names f x end e = ap (λ z. answer z.first) end ∙ plain_is names (view_head f.head) (view_block f.body) e
 
-pub drop_function : (names : List (List ℕ)) (f : Function) (x z : Found) → x ≡ at_end (view_function f) → is_drop names (view_head f.head) ≡ true
+pub drop_function : (names : List (List ℕ)) (f : Function) (x z : FlowView) → x ≡ at_end (view_function f) → is_drop names (view_head f.head) ≡ true
     → z ≡ judged f.head.name.at 33 (are_taken_apart (head_params (view_head f.head)) (view_block f.body) x.locals) x → answer z.first ≡ stopped (function_faults names (view_function f)) tt
 drop_function names f x z end e ez =
     ap (λ y. answer y.first) (ez ∙ ap (λ y. judged f.head.name.at 33 (are_taken_apart (head_params (view_head f.head)) (view_block f.body) y.locals) y) end)
@@ -109,15 +109,15 @@ module _ {X : Type 0} (F : List X → List Fault) (one : X → List Fault) (more
   here = ap F (drop_more xs i d lt ∙ ap (λ y. y ∷ drop (i + 1) xs) (sym is)) ∙ more x (drop (i + 1) xs)
 
   pub faults_next : (whole : Result (Unit {0}) Fault) → stopped (one x) (tt {0}) ≡ Ok (tt {0}) → stopped (F (drop i xs)) (tt {0}) ≡ whole → stopped (F (drop (i + 1) xs)) (tt {0}) ≡ whole
-  faults_next whole e so_far = stopped_after (one x) (F (drop (i + 1) xs)) (tt {0}) (stopped (F (drop (i + 1) xs)) (tt {0})) e refl ∙ ap (λ z. stopped z (tt {0})) (sym here) ∙ so_far
+  faults_next whole e flow_state = stopped_after (one x) (F (drop (i + 1) xs)) (tt {0}) (stopped (F (drop (i + 1) xs)) (tt {0})) e refl ∙ ap (λ z. stopped z (tt {0})) (sym here) ∙ flow_state
 
   stopped_first : (fs gs : List Fault) (f : Fault) → stopped fs (tt {0}) ≡ Err f → stopped (fs ++ gs) (tt {0}) ≡ Err f
   stopped_first [] gs f e = absurd cc
   stopped_first (g ∷ fs) gs f e = e
 
   pub faults_stop : (whole : Result (Unit {0}) Fault) (e : Fail Fault) → Gives (λ x. x) (Err e) (stopped (one x) (tt {0})) → stopped (F (drop i xs)) (tt {0}) ≡ whole → Gives (λ x. x) (Err e) whole
-  faults_stop whole Memory g so_far = tt
-  faults_stop whole (Is f) g so_far = sym so_far ∙ ap (λ z. stopped z (tt {0})) here ∙ stopped_first (one x) (F (drop (i + 1) xs)) f g
+  faults_stop whole Memory g flow_state = tt
+  faults_stop whole (Is f) g flow_state = sym flow_state ∙ ap (λ z. stopped z (tt {0})) here ∙ stopped_first (one x) (F (drop (i + 1) xs)) f g
 
 pub faults_done : {X : Type 0} (F : List X → List Fault) (none : F [] ≡ []) (xs : List X) (i : ℕ) (whole : Result (Unit {0}) Fault) → length xs ≤ i → stopped (F (drop i xs)) (tt {0}) ≡ whole → whole ≡ Ok (tt {0})
-faults_done F none xs i whole le so_far = sym so_far ∙ ap (λ z. stopped (F z) (tt {0})) (drop_all i xs le) ∙ ap (λ z. stopped z (tt {0})) none
+faults_done F none xs i whole le flow_state = sym flow_state ∙ ap (λ z. stopped (F z) (tt {0})) (drop_all i xs le) ∙ ap (λ z. stopped z (tt {0})) none

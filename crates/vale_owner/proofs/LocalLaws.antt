@@ -7,7 +7,7 @@ use Rattle.std.specs.Prelude.{Bool, true, false, ◌==◌, ◌&&◌, Option, Som
 use Rattle.vale_rules_spec.specs.Whole as w
 use Rattle.vale_rules_spec.specs.Whole.{Locals, is_whole, moved, are_alike}
 use Rattle.vale_owner.specs.declared.locals.Local.{Local}
-use Rattle.vale_owner.specs.Found.{local_of, scope_over, in_scope}
+use Rattle.vale_owner.specs.FlowView.{local_of, scope_over, in_scope}
 use Rattle.vale_owner.specs.Places.{or_first, place_of, same, alike}
 
 scope_more : (ls : List Local) (l : Local) (outer : Locals) → scope_over (ls ++ l ∷ []) outer ≡ local_of l ∷ scope_over ls outer
@@ -96,18 +96,18 @@ place_next n ls m j d e lt =
     ∙ ap (λ k. if (get_or ls j d).name.0 == n then Some k else place_of n (take j ls)) (length-take-le j ls (omega (arith, lt)))
 
 pub place_hit : (n : ℕ) (ls : List Local) (m j : ℕ) (d : Local) (whole : Option ℕ) → m ≡ j + 1 → j < length ls → (get_or ls j d).name.0 ≡ n → place_of n (take m ls) ≡ whole → Some j ≡ whole
-place_hit n ls m j d whole e lt same so_far =
-    sym (place_next n ls m j d e lt ∙ ap (λ b. if b then Some j else place_of n (take j ls)) (eq-eqb (get_or ls j d).name.0 n same)) ∙ so_far
+place_hit n ls m j d whole e lt same flow_state =
+    sym (place_next n ls m j d e lt ∙ ap (λ b. if b then Some j else place_of n (take j ls)) (eq-eqb (get_or ls j d).name.0 n same)) ∙ flow_state
 
 pub place_miss : (n : ℕ) (ls : List Local) (m i j : ℕ) (d : Local) (whole : Option ℕ) → m ≡ j + 1 → i ≡ j → j < length ls → (get_or ls i d).name.0 ≢ n → place_of n (take m ls) ≡ whole → place_of n (take j ls) ≡ whole
-place_miss n ls m i j d whole e at lt other so_far =
-    sym (place_next n ls m j d e lt ∙ ap (λ b. if b then Some j else place_of n (take j ls)) (ap (λ k. (get_or ls k d).name.0 == n) (sym at) ∙ ne_eqb (get_or ls i d).name.0 n other)) ∙ so_far
+place_miss n ls m i j d whole e at lt other flow_state =
+    sym (place_next n ls m j d e lt ∙ ap (λ b. if b then Some j else place_of n (take j ls)) (ap (λ k. (get_or ls k d).name.0 == n) (sym at) ∙ ne_eqb (get_or ls i d).name.0 n other)) ∙ flow_state
 
 pub place_all : (n : ℕ) (ls : List Local) (m : ℕ) → m ≡ length ls → place_of n (take m ls) ≡ place_of n ls
 place_all n ls m e = ap (λ k. place_of n (take k ls)) e ∙ ap (place_of n) (take-length ls)
 
 pub place_end : (n : ℕ) (ls : List Local) (m : ℕ) (whole : Option ℕ) → m ≡ 0 → place_of n (take m ls) ≡ whole → None ≡ whole
-place_end n ls m whole e so_far = sym (ap (λ k. place_of n (take k ls)) e) ∙ so_far
+place_end n ls m whole e flow_state = sym (ap (λ k. place_of n (take k ls)) e) ∙ flow_state
 
 pub ruleset places = (place_hit, place_all, place_end)
 
@@ -206,8 +206,8 @@ alike_end xs ys at lx ly = ap (λ z. alike z (drop at ys)) (drop_all at xs lx) �
 
 pub alike_differ : (xs ys : List Local) (at : ℕ) (d e : Local) → length xs ≡ length ys → at < length xs → same (get_or xs at d).whole (get_or ys at e).whole ≡ false
     → alike (drop at xs) (drop at ys) ≡ alike xs ys → false ≡ are_alike (in_scope xs) (in_scope ys)
-alike_differ xs ys at d e many lt other so_far =
+alike_differ xs ys at d e many lt other flow_state =
     let here : alike (drop at xs) (drop at ys) ≡ false = alike_next xs ys at d e lt (omega (arith, lt, many)) ∙ ap (λ b. b && alike (drop (at + 1) xs) (drop (at + 1) ys)) other in
-    sym (alike_in_scope xs ys many ∙ sym so_far ∙ here)
+    sym (alike_in_scope xs ys many ∙ sym flow_state ∙ here)
 
 pub ruleset likeness = (unlike, alike_in_scope, alike_next, alike_end)

@@ -20,7 +20,7 @@ abbrev is_self_node : ℕ → t.Node → Bool
 is_self_node self node = o.is_self self (t.expr (record { value = y.void; view = y.blind; place = None }) node)
 
 self_node : (self : ℕ) (x : y.Seen) (node : t.Node) → o.is_self self (t.expr x node) ≡ is_self_node self node
-self_node self x (t.name n is_moved) = refl
+self_node self x (t.name n is_outer is_moved) = refl
 self_node self x node = refl
 
 pub self_by_parts : (self : ℕ) (e : Expr) → o.is_self self (view_expr e) ≡ is_self_node self (view_node (out-Expr e).node)

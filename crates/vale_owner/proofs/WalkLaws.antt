@@ -1,4 +1,4 @@
--- What is found behind each part, by its own parts.
+-- What is found after each part, by its own parts.
 use Rattle.std.proofs.Common.{◌≡◌, ℕ, List, [], ◌∷◌, ◌++◌, length, refl, ap, sym, ◌∙◌, append-nil}
 use Rattle.std.specs.Prelude.{ℤ, Bool, true, false, ◌&&◌, ◌||◌, Option, Some, None, map, option_map, if◌then◌else◌}
 use Rattle.vale_base.specs.declared.name.Name.{Name}
@@ -19,24 +19,24 @@ use Rattle.vale_core.specs.declared.tree.Block.{Block, out-Block}
 use Rattle.vale_core.specs.View.{view_expr, view_node, view_stmt, view_block, view_else_if, view_link, stmts_of, last_end, return_of}
 use Rattle.vale_core.proofs.ViewLaws as v
 use Rattle.vale_core.proofs.PartLaws.{of_out_expr, of_out_link, of_out_block, of_out_else_if}
-use Rattle.vale_rules_spec.specs.Owned.{◌then◌, expr_flow, exprs_flow, links_flow, step_flow, steps_flow, elses_flow, block_flow, body_flow, stmts_flow, stmt_flow, way, agree, behind, loop_rules}
+use Rattle.vale_rules_spec.specs.Owned.{◌then◌, expr_flow, exprs_flow, links_flow, step_flow, steps_flow, elses_flow, block_flow, body_flow, stmts_flow, stmt_flow, add_branch, agree, behind, loop_rules}
 use Rattle.vale_rules_spec.specs.Returns.{block_returns}
 use Rattle.vale_rules_spec.specs.Whole.{Locals, are_alike}
-use Rattle.vale_owner.specs.Found.{Found, earlier, going, naming, judged, told, with_first, back_to, closed, declaring, declaring_all, loop_ended, Kept, no_ways, with_way, with_ways, Sided, sided, branch_ended, or_else}
-use Rattle.vale_owner.specs.After.{after_expr, after_node, after_exprs, after_link, after_links, after_step, after_steps, after_form, after_block, after_body, after_stmts, after_stmt, after_set, after_iteration, after_side, ways_of_side, after_else_if, ways_of_else_if, after_else_ifs, ways_of_else_ifs, after_sides, may_skip, link_flow}
-use Rattle.vale_owner.proofs.FoundLaws.{made, in_turn, earlier_none, going_still, going_then, all_ways, ways_behind, one_way}
+use Rattle.vale_owner.specs.FlowView.{FlowView, earlier, going, naming, judged, told, with_first, back_to, closed, declaring, declaring_all, loop_ended, Kept, no_branches, with_branch, with_branches, Sided, sided, branch_ended, or_else}
+use Rattle.vale_owner.specs.After.{after_expr, after_node, after_exprs, after_link, after_links, after_step, after_steps, after_form, after_block, after_body, after_stmts, after_stmt, after_set, after_iteration, after_side, branches_of_side, after_else_if, branches_of_else_if, after_else_ifs, branches_of_else_ifs, after_sides, may_skip, link_flow}
+use Rattle.vale_owner.proofs.FoundLaws.{made, in_turn, earlier_none, going_still, going_then, all_branches, branches_behind, one_way}
 use Rattle.vale_owner.proofs.LocalLaws.{alike_itself}
 
 abbrev sides_made : Option Fault → Kept → Sided
-sides_made first ways = record { first = first; ways = ways }
+sides_made first branches = record { first = first; branches = branches }
 
 -- ---- expressions
 
-pub expr_by_parts : (e : Expr) (f : Found) → after_expr (view_expr e) f ≡ after_node (view_node (out-Expr e).node) f
+pub expr_by_parts : (e : Expr) (f : FlowView) → after_expr (view_expr e) f ≡ after_node (view_node (out-Expr e).node) f
 unfolding after_expr after_node
 expr_by_parts e f = ap (λ z. going (expr_flow z) f) (of_out_expr e)
 
-module _ (f : Found) where
+module _ (f : FlowView) where
   pub at_set : (at : Spot) (p e : t.Expr) → after_node (t.set at p e) f ≡ after_set p e f
   unfolding after_node after_set after_expr told with_first
   at_set at p e = ap (λ z. made z (expr_flow p (expr_flow e f.locals).after).after) (in_turn f.first (expr_flow p (expr_flow e f.locals).after).faults (expr_flow e f.locals).faults)
@@ -65,7 +65,7 @@ module _ (f : Found) where
   unfolding after_node
   at_truth at b = going_still f
 
-  pub at_name : (n : NameAt) (is_moved : Bool) → after_node (t.name n is_moved) f ≡ naming n is_moved f
+  pub at_name : (n : NameAt) (is_outer is_moved : Bool) → after_node (t.name n is_outer is_moved) f ≡ naming n is_moved f
   unfolding after_node naming
   at_name n is_moved = refl
 
@@ -129,18 +129,18 @@ module _ (f : Found) where
 
 -- ---- an operator and its operand
 
-of_link : (x : y.Seen) (at : Spot) (o : BinaryOp) (e : t.Expr) (f : Found) → after_link (t.link x at o e) f ≡ (if may_skip o then judged at 31 (are_alike f.locals (after_expr e f).locals) (after_expr e f) else after_expr e f)
+of_link : (x : y.Seen) (at : Spot) (o : BinaryOp) (e : t.Expr) (f : FlowView) → after_link (t.link x at o e) f ≡ (if may_skip o then judged at 31 (are_alike f.locals (after_expr e f).locals) (after_expr e f) else after_expr e f)
 unfolding after_link after_expr judged
 of_link x at op.Or e f = ap (λ z. made z (expr_flow e f.locals).after) (in_turn f.first (expr_flow e f.locals).faults (own at ((31, are_alike f.locals (expr_flow e f.locals).after) ∷ [])))
 of_link x at op.And e f = ap (λ z. made z (expr_flow e f.locals).after) (in_turn f.first (expr_flow e f.locals).faults (own at ((31, are_alike f.locals (expr_flow e f.locals).after) ∷ [])))
 of_link x at o e f = ap (λ z. made (earlier f.first (first_of z)) (expr_flow e f.locals).after) (append-nil (expr_flow e f.locals).faults)
 
-pub link_by_parts : (l : Link) (f : Found) → after_link (view_link l) f ≡ (if may_skip (out-Link l).op then judged (out-Link l).at 31 (are_alike f.locals (after_expr (view_expr (out-Link l).operand) f).locals) (after_expr (view_expr (out-Link l).operand) f) else after_expr (view_expr (out-Link l).operand) f)
+pub link_by_parts : (l : Link) (f : FlowView) → after_link (view_link l) f ≡ (if may_skip (out-Link l).op then judged (out-Link l).at 31 (are_alike f.locals (after_expr (view_expr (out-Link l).operand) f).locals) (after_expr (view_expr (out-Link l).operand) f) else after_expr (view_expr (out-Link l).operand) f)
 link_by_parts l f = ap (λ z. after_link z f) (of_out_link l) ∙ of_link _ (out-Link l).at (out-Link l).op (view_expr (out-Link l).operand) f
 
 -- ---- sides
 
-module _ (f : Found) where
+module _ (f : FlowView) where
   pub iteration_is : (n : NameAt) (b : t.Block) → after_iteration n b f ≡ back_to f.locals (after_body n b f)
   unfolding after_iteration
   iteration_is n b = refl
@@ -149,60 +149,60 @@ module _ (f : Found) where
   unfolding after_side
   side_is b = refl
 
-  pub ways_are : (b : t.Block) (k : Kept) → ways_of_side b f k ≡ with_way (block_returns b) (after_block b f).locals k
-  unfolding ways_of_side
-  ways_are b k = refl
+  pub branches_are : (b : t.Block) (k : Kept) → branches_of_side b f k ≡ with_branch (block_returns b) (after_block b f).locals k
+  unfolding branches_of_side
+  branches_are b k = refl
 
   pub else_if_by_parts : (e : ElseIf) → after_else_if (view_else_if e) f ≡ after_side (view_block (out-ElseIf e).block) (after_expr (view_expr (out-ElseIf e).condition) f)
   unfolding after_else_if
   else_if_by_parts e = ap (λ z. after_else_if z f) (of_out_else_if e)
 
-  pub else_if_ways_by_parts : (e : ElseIf) (k : Kept) → ways_of_else_if (view_else_if e) f k ≡ ways_of_side (view_block (out-ElseIf e).block) (after_expr (view_expr (out-ElseIf e).condition) f) k
-  unfolding ways_of_else_if
-  else_if_ways_by_parts e k = ap (λ z. ways_of_else_if z f k) (of_out_else_if e)
+  pub else_if_branches_by_parts : (e : ElseIf) (k : Kept) → branches_of_else_if (view_else_if e) f k ≡ branches_of_side (view_block (out-ElseIf e).block) (after_expr (view_expr (out-ElseIf e).condition) f) k
+  unfolding branches_of_else_if
+  else_if_branches_by_parts e k = ap (λ z. branches_of_else_if z f k) (of_out_else_if e)
 
-  pub no_else : (k : Kept) → after_sides t.no_else f k ≡ sided f (with_way false f.locals k)
-  unfolding after_sides sided with_ways with_way
-  no_else k = ap (λ z. sides_made z (with_way false f.locals k)) (earlier_none f.first)
+  pub no_else : (k : Kept) → after_sides t.no_else f k ≡ sided f (with_branch false f.locals k)
+  unfolding after_sides sided with_branches with_branch
+  no_else k = ap (λ z. sides_made z (with_branch false f.locals k)) (earlier_none f.first)
 
-  pub otherwise : (b : t.Block) (k : Kept) → after_sides (t.otherwise b) f k ≡ sided (after_side b f) (ways_of_side b f k)
-  unfolding after_sides sided after_side ways_of_side after_block back_to with_ways
+  pub otherwise : (b : t.Block) (k : Kept) → after_sides (t.otherwise b) f k ≡ sided (after_side b f) (branches_of_side b f k)
+  unfolding after_sides sided after_side branches_of_side after_block back_to with_branches
   otherwise b k = ap (λ z. sides_made (earlier f.first (first_of (block_flow b f.locals).faults)) z) (one_way (block_returns b) (block_flow b f.locals).after [] k)
 
-  pub more_sides : (e : t.ElseIf) (es : t.Elses) (k : Kept) → after_sides (t.more_elses e es) f k ≡ after_sides es (after_else_if e f) (ways_of_else_if e f k)
-  unfolding after_sides after_else_if ways_of_else_if after_side ways_of_side after_block after_expr back_to
+  pub more_sides : (e : t.ElseIf) (es : t.Elses) (k : Kept) → after_sides (t.more_elses e es) f k ≡ after_sides es (after_else_if e f) (branches_of_else_if e f k)
+  unfolding after_sides after_else_if branches_of_else_if after_side branches_of_side after_block after_expr back_to
   more_sides (t.else_if at c b) es k =
       let ls : Locals = (expr_flow c f.locals).after in
       let bs : List Fault = (block_flow b ls).faults in
-      ap (λ z. sides_made z (with_ways (way (block_returns b) (block_flow b ls).after (elses_flow es ls).ways) k))
+      ap (λ z. sides_made z (with_branches (add_branch (block_returns b) (block_flow b ls).after (elses_flow es ls).branches) k))
       (in_turn f.first (expr_flow c f.locals).faults (bs ++ (elses_flow es ls).faults)
       ∙ in_turn (earlier f.first (first_of (expr_flow c f.locals).faults)) bs (elses_flow es ls).faults)
       ∙ ap (λ z. sides_made (earlier (earlier (earlier f.first (first_of (expr_flow c f.locals).faults)) (first_of bs)) (first_of (elses_flow es ls).faults)) z)
-      (one_way (block_returns b) (block_flow b ls).after (elses_flow es ls).ways k)
+      (one_way (block_returns b) (block_flow b ls).after (elses_flow es ls).branches k)
 
-pub sides_by_parts : (es : List t.ElseIf) (end : t.Elses) (f : Found) (k : Kept) → after_sides (listed t.more_elses es end) f k ≡ after_sides end (after_else_ifs es f) (ways_of_else_ifs es f k)
+pub sides_by_parts : (es : List t.ElseIf) (end : t.Elses) (f : FlowView) (k : Kept) → after_sides (listed t.more_elses es end) f k ≡ after_sides end (after_else_ifs es f) (branches_of_else_ifs es f k)
 sides_by_parts [] end f k = refl
-sides_by_parts (e ∷ es) end f k = more_sides f e (listed t.more_elses es end) k ∙ sides_by_parts es end (after_else_if e f) (ways_of_else_if e f k)
+sides_by_parts (e ∷ es) end f k = more_sides f e (listed t.more_elses es end) k ∙ sides_by_parts es end (after_else_if e f) (branches_of_else_if e f k)
 
 -- ---- forms
 
-module _ (f : Found) where
-  pub at_if : (at : Spot) (c : t.Expr) (b : t.Block) (es : t.Elses) → after_form (t.branch at c b es) f ≡ branch_ended at f.locals (after_sides es (after_side b (after_expr c f)) (ways_of_side b (after_expr c f) no_ways))
-  unfolding after_form after_sides after_side ways_of_side after_block after_expr back_to branch_ended
+module _ (f : FlowView) where
+  pub at_if : (at : Spot) (c : t.Expr) (b : t.Block) (es : t.Elses) → after_form (t.branch at c b es) f ≡ branch_ended at f.locals (after_sides es (after_side b (after_expr c f)) (branches_of_side b (after_expr c f) no_branches))
+  unfolding after_form after_sides after_side branches_of_side after_block after_expr back_to branch_ended
   at_if at c b es =
       let ls : Locals = (expr_flow c f.locals).after in
       let cs : List Fault = (expr_flow c f.locals).faults in
       let bs : List Fault = (block_flow b ls).faults in
       let es_faults : List Fault = (elses_flow es ls).faults in
-      let ws = way (block_returns b) (block_flow b ls).after (elses_flow es ls).ways in
+      let ws = add_branch (block_returns b) (block_flow b ls).after (elses_flow es ls).branches in
       let ended : Bool → List Fault = λ alike. own at ((31, alike) ∷ []) in
-      let same = one_way (block_returns b) (block_flow b ls).after (elses_flow es ls).ways no_ways in
+      let same = one_way (block_returns b) (block_flow b ls).after (elses_flow es ls).branches no_branches in
       ap (λ z. made z (behind f.locals ws))
       (in_turn f.first cs (bs ++ (es_faults ++ ended (agree ws)))
       ∙ in_turn (earlier f.first (first_of cs)) bs (es_faults ++ ended (agree ws))
       ∙ in_turn (earlier (earlier f.first (first_of cs)) (first_of bs)) es_faults (ended (agree ws)))
-      ∙ ap (λ alike. made (earlier (earlier (earlier (earlier f.first (first_of cs)) (first_of bs)) (first_of es_faults)) (first_of (ended alike))) (behind f.locals ws)) (sym (all_ways ws))
-      ∙ ap (λ z. made (earlier (earlier (earlier (earlier f.first (first_of cs)) (first_of bs)) (first_of es_faults)) (first_of (ended (with_ways ws no_ways).alike))) z) (sym (ways_behind f.locals ws))
+      ∙ ap (λ alike. made (earlier (earlier (earlier (earlier f.first (first_of cs)) (first_of bs)) (first_of es_faults)) (first_of (ended alike))) (behind f.locals ws)) (sym (all_branches ws))
+      ∙ ap (λ z. made (earlier (earlier (earlier (earlier f.first (first_of cs)) (first_of bs)) (first_of es_faults)) (first_of (ended (with_branches ws no_branches).alike))) z) (sym (branches_behind f.locals ws))
       ∙ ap (λ k. made (earlier (earlier (earlier (earlier f.first (first_of cs)) (first_of bs)) (first_of es_faults)) (first_of (ended k.alike))) (or_else k.first f.locals)) same
 
   pub at_pure : (at : Spot) (b : t.Block) → after_form (t.pure at b) f ≡ after_block b f
@@ -291,14 +291,14 @@ module _ (f : Found) where
   unfolding after_stmt after_expr
   at_express e = refl
 
-pub stmts_by_parts : (ss : List t.Stmt) (end : t.Stmts) (f : Found) → after_stmts (listed t.more_stmts ss end) f ≡ after_stmts end (after_stmts (listed t.more_stmts ss t.no_stmts) f)
+pub stmts_by_parts : (ss : List t.Stmt) (end : t.Stmts) (f : FlowView) → after_stmts (listed t.more_stmts ss end) f ≡ after_stmts end (after_stmts (listed t.more_stmts ss t.no_stmts) f)
 stmts_by_parts [] end f = ap (λ z. after_stmts end z) (sym (no_stmts f))
 stmts_by_parts (s ∷ ss) end f =
     more_stmts f s (listed t.more_stmts ss end)
     ∙ stmts_by_parts ss end (after_stmt s f)
     ∙ ap (λ z. after_stmts end z) (sym (more_stmts f s (listed t.more_stmts ss t.no_stmts)))
 
-pub set_is : (p e : t.Expr) (f : Found) → after_set p e f ≡ told (after_expr e (with_first None f)).first (after_expr p (with_first f.first (after_expr e (with_first None f))))
+pub set_is : (p e : t.Expr) (f : FlowView) → after_set p e f ≡ told (after_expr e (with_first None f)).first (after_expr p (with_first f.first (after_expr e (with_first None f))))
 unfolding after_set
 set_is p e f = refl
 
@@ -316,9 +316,9 @@ pub ruleset steps = (v.of_field, v.of_method, v.of_index, at_field, at_method, a
 
 pub ruleset forms = (sides_by_parts, v.of_if, v.of_pure, v.of_parallel_range, v.of_parallel_each, at_if, at_pure, at_range, at_each)
 
-pub ruleset sides = (iteration_is, side_is, ways_are)
+pub ruleset sides = (iteration_is, side_is, branches_are)
 
-pub ruleset else_ifs = (else_if_by_parts, else_if_ways_by_parts, no_else, otherwise)
+pub ruleset else_ifs = (else_if_by_parts, else_if_branches_by_parts, no_else, otherwise)
 
 pub ruleset blocks = (block_by_parts, body_by_parts, stmts_by_parts)
 

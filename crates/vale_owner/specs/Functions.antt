@@ -7,13 +7,13 @@ use Rattle.vale_syntax.specs.Tree.{Param}
 use Rattle.vale_rules_spec.specs.Typed.{Block, Function, function_body}
 use Rattle.vale_rules_spec.specs.Owned.{function_flow, block_moves}
 use Rattle.vale_rules_spec.specs.Whole.{Locals, params_declared, is_whole}
-use Rattle.vale_owner.specs.Found.{Found}
+use Rattle.vale_owner.specs.FlowView.{FlowView}
 
-unfoldable pub declaring_params : List Param → Found → Found
+unfoldable pub declaring_params : List Param → FlowView → FlowView
 declaring_params ps f = record { first = f.first; locals = params_declared ps f.locals }
 
 -- at the end of its body
-unfoldable pub at_end : Function → Found
+unfoldable pub at_end : Function → FlowView
 at_end (function_body h b) = record { first = first_of (function_flow h b).faults; locals = (function_flow h b).after }
 
 abbrev pub body_faults : Function → List Fault

@@ -1,5 +1,5 @@
 pub mod After
-pub mod Found
+pub mod FlowView
 pub mod Functions
 pub mod Moves
 pub mod Places

@@ -4,9 +4,9 @@
 
 mod locals;
 mod moves;
-mod so_far;
+mod flow_state;
 mod walk;
-mod ways;
-mod whole;
+mod branches;
+mod ownership;
 
-pub use whole::{OwnFault, own};
+pub use ownership::{OwnFault, own};

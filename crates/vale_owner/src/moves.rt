@@ -21,7 +21,7 @@ fn is_self(expr: &Expr, local: Name) -> bool
     ensures { result ≡ o.is_self local.0 (view_expr expr.now) }
 {
     match &expr.node {
-        Node::Name(name, _) => name.name.0 == local.0,
+        Node::Name { name, .. } => name.name.0 == local.0,
         Node::Set(..)
         | Node::Chain(..)
         | Node::Unary(..)
@@ -60,7 +60,7 @@ fn node_moves(node: &Node, local: Name) -> bool
         Node::Unary(_, _, operand) => expr_moves(operand.get(), local),
         Node::Steps(base, steps) => expr_moves(base.get(), local) || steps_move(steps, local),
         Node::Number(..) | Node::Quote(..) | Node::Truth(..) => false,
-        Node::Name(name, is_moved) => *is_moved && name.name.0 == local.0,
+        Node::Name { name, is_moved, .. } => *is_moved && name.name.0 == local.0,
         Node::Call(_, _, args) => exprs_move(args, local),
         Node::Paren(_, inner) => expr_moves(inner.get(), local),
         Node::Array(_, _, elements) => exprs_move(elements, local),

@@ -85,7 +85,7 @@ pub if_grows : {A : Type 0} {p r q t : Read A} {ts : List Token} (b is : Bool) �
 if_grows b true h k = h
 if_grows b false h k = k
 
--- what is read behind a token
+-- what is read after a token
 pub behind : {A : Type 0} {r q : Read A} (b : Bool) (t : Token) (ts : List Token) → Grows b ts r q → Grows b (t ∷ ts) r q
 behind {r = r} {q = q} b t ts h = shorter b ts (t ∷ ts) r q (omega arith) h
 

@@ -4,7 +4,7 @@ use Rattle.vale_base.specs.declared.spot.Spot.{Spot}
 use Rattle.vale_syntax.specs.declared.token.Token.{Token}
 use Rattle.vale_reading.specs.Steps.{too_deep}
 use Rattle.vale_reading.specs.ItemReading.{all_of}
-use Rattle.vale_parser.specs.declared.whole.ParseFault.{ParseFault}
+use Rattle.vale_parser.specs.declared.parser.ParseFault.{ParseFault}
 use Rattle.vale_parser.specs.Refusal.{spot_at}
 use Rattle.vale_parser.specs.TooMany.{OpensTooMany}
 use Rattle.vale_parser.proofs.MoreItems.{more_get_past}

@@ -4,7 +4,7 @@ use Rattle.vale_base.specs.declared.spot.Spot.{Spot}
 use Rattle.vale_syntax.specs.declared.token.Token.{Token}
 use Rattle.vale_syntax.specs.Tree.{Tree}
 use Rattle.vale_reading.specs.Steps.{Fault, unexpected, too_deep}
-use Rattle.vale_parser.specs.declared.whole.ParseFault.{ParseFault}
+use Rattle.vale_parser.specs.declared.parser.ParseFault.{ParseFault}
 
 -- the spot of the first token, or of the end
 abbrev pub spot_at : Spot → List Token → Spot

@@ -6,7 +6,7 @@ use Rattle.vale_syntax.specs.declared.token.Token.{Token}
 use Rattle.vale_syntax.specs.Tree.{Tree}
 use Rattle.vale_reading.specs.Steps.{Fault, unexpected, too_deep}
 use Rattle.vale_reading.specs.ItemReading.{read_at, all_of}
-use Rattle.vale_parser.specs.declared.whole.ParseFault.{ParseFault}
+use Rattle.vale_parser.specs.declared.parser.ParseFault.{ParseFault}
 use Rattle.vale_parser.specs.Refusal.{spot_at}
 
 -- the tokens from the fault on

@@ -8,6 +8,6 @@ mod nesting;
 mod operands;
 mod operators;
 mod statements;
-mod whole;
+mod parser;
 
-pub use whole::{ParseFault, parse};
+pub use parser::{ParseFault, parse};

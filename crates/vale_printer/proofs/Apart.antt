@@ -1,4 +1,4 @@
--- Pieces that stand apart: none runs on into the one behind it.
+-- Pieces that stand apart: none runs on into the one after it.
 use Rattle.std.specs.Prelude.{◌≡◌, Bool, true, false, List, [], ◌∷◌}
 use Rattle.vale_syntax.specs.declared.token.TokenKind.{TokenKind}
 use Rattle.vale_syntax.specs.declared.token.TokenKind.TheVariants as k

@@ -73,7 +73,7 @@ items :
 unfolding digits
 items = refl
 
--- a block inside an expression: what follows its `}` stands behind it
+-- a block inside an expression: what follows its `}` stands after it
 blocks_inside :
     canon (t.tree (codes "main" ∷ codes "x" ∷ codes "f" ∷ [])
     (main

@@ -78,7 +78,7 @@ pub nothings : Lays [] nothing
 unfolding laid
 nothings = record { by = λ ts rest x. sym (ap kinds x) }
 
--- a part with one space before it and one behind it
+-- a part with one space before it and one after it
 pub arounds : {p : Layout} {P : Part} → Lays p P → Lays (around p) P
 arounds h = behind gaps (before gaps h)
 

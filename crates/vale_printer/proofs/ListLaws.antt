@@ -14,7 +14,7 @@ use Rattle.vale_syntax.specs.View.{view_type, view_param}
 use Rattle.vale_printer.proofs.EachLaws.{with_commas_map}
 use Rattle.vale_printer.proofs.StepLaws.{step, finish}
 
--- a list's first part, and each of the others behind a comma
+-- a list's first part, and each of the others after a comma
 pub commas_all : {X : Type 0} (f : X → Layout) (xs : List X) (x : X) (n : ℕ) (a t1 c : List ℕ)
     → 1 ≤ length xs
     → x ≡ get_or xs 0 x

@@ -1,4 +1,4 @@
--- The pieces of a layout stand apart: none runs on into the one behind it.
+-- The pieces of a layout stand apart: none runs on into the one after it.
 use Rattle.std.proofs.Common.{◌≡◌, ℕ, suc, Bool, true, false, List, [], ◌∷◌, ◌++◌, Option, None, Some, refl, sym, subst, ◌∙◌, append_assoc}
 use Rattle.vale_base.specs.declared.name.Name.{Name}
 use Rattle.vale_syntax.specs.declared.token.TokenKind.{TokenKind}
@@ -94,7 +94,7 @@ spaced kind = record { by = λ q a. ((λ e. refl), (λ e. refl), a) }
 arounds : (kind : TokenKind) → Free (around (put kind))
 arounds kind = record { by = λ q a. ((λ e. refl), (λ e. refl), a) }
 
--- a part, and a token or a space behind it
+-- a part, and a token or a space after it
 mark_behind : {p : Layout} (x : Sign) → is_short (k.Sign x) ≡ false → Neat p → Free (p ++ mark x)
 mark_behind x e h = seq_free h (record { by = λ q. refl }) (marks x e)
 
@@ -128,7 +128,7 @@ commas : {X : Type 0} {p : X → Layout} → ((x : X) → Neat (p x)) → (xs : 
 commas h [] = nothings
 commas {p = p} h (x ∷ xs) = seq (h x) (each_soft (λ y. comma_soft (p y)) xs) (eachs (λ y. comma_neat (h y)) (λ y. comma_soft (p y)) xs)
 
--- ---- the space behind a word
+-- ---- the space after a word
 
 after_by : (x : Word) (e : Expr) {p : Layout} (b : Bool) → opens e ≡ b → (opens e ≡ true → Stops p) → Neat p → Neat (key x ++ after_word e ++ p)
 after_by x e {p} true h j i = subst (λ (z : Layout). Neat (key x ++ z ++ p)) (sym (word_true e h)) (seq (keys x) (softly (j h)) i) where
@@ -195,11 +195,11 @@ module _ (names : List (List ℕ)) where
   dotted : (n : Name) → Neat (mark s.Dot ++ member names n)
   dotted n = record { by = λ q soft a. ((λ e. false_true e), (λ e. refl), (member_neat n).by q soft a) }
 
-  -- a part, and arguments in parentheses behind it
+  -- a part, and arguments in parentheses after it
   called : {p q : Layout} → Neat p → Neat q → Neat (p ++ mark s.OpenParen ++ q ++ mark s.CloseParen)
   called h i = closed s.CloseParen refl (free (mark_behind s.OpenParen refl h) i)
 
-  -- the name of a loop, and `in` behind it
+  -- the name of a loop, and `in` after it
   looped : {p : Layout} → Free p → (n : NameAt) → Free (p ++ key w.Foreach ++ gap ++ named names n ++ around (key w.In))
   looped h n = around_behind (k.Word w.In) (free (gap_behind (free h (keys w.Foreach))) (name_neat n))
 
@@ -299,7 +299,7 @@ module _ (names : List (List ℕ)) where
   function_neat : (d : ℕ) (f : Function) → Neat (lay_function names d f)
   function_neat d (function h b) = free (gap_behind (head_neat h)) (block_neat d b)
 
-  -- a part, and a `!` behind it that is followed by a space
+  -- a part, and a `!` after it that is followed by a space
   bang_behind : {p : Layout} (b : Bool) → Neat p → Free (p ++ when b (mark s.Bang) ++ gap)
   bang_behind {p = p} true h = regroup p (mark s.Bang) gap (seq_free h (record { by = λ q. refl }) (spaced (k.Sign s.Bang)))
   bang_behind {p = p} false h = regroup p [] gap (gap_behind h)

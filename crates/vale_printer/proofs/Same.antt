@@ -51,7 +51,7 @@ goes_on_same (t ∷ ts) rest h = h.1
 ends : {p : Layout} {P : Part} → Lays p P → Lays p (P ▸ goes_on)
 ends {p = p} h = record { by = λ ts rest (mid, x, y). ap (λ (z : List Token). laid p (kinds z)) (sym (goes_on_same mid rest y)) ∙ h.by ts mid x }
 
--- a first part, and what stands behind it, where its space isn't known
+-- a first part, and what stands after it, where its space isn't known
 grouped : (a b c e : Layout) {P : Part} → Lays (a ++ ((b ++ c) ++ e)) P → Lays (((a ++ b) ++ c) ++ e) P
 grouped a b c e {P = P} h = let q : a ++ ((b ++ c) ++ e) ≡ ((a ++ b) ++ c) ++ e = grind (arith, append_assoc) in subst (λ (z : Layout). Lays z P) q h
 

@@ -1,4 +1,4 @@
-// Operators, and what stands behind words.
+// Operators, and what stands after words.
 ghost use Rattle.std.specs.Prelude.{◌≡◌, ◌++◌, OnOk};
 ghost use Rattle.vale_syntax.specs.Canon.{rendered, text_of};
 ghost use Rattle.vale_syntax.specs.Grammar.{binary_kind, unary_kind, truth_kind};
@@ -23,7 +23,7 @@ fn opens(e: &Expr) -> bool
     }
 }
 
-/// What stands between a word and the expression behind it.
+/// What stands between a word and the expression after it.
 pub fn after_word(text: &mut Vec<u8>, e: &Expr) -> Result<(), Memory>
     ensures { OnOk result (text.new.items ≡ text.old.items ++ rendered (l.after_word (view_expr e.now))) }
 {
@@ -117,7 +117,7 @@ pub fn close_block(text: &mut Vec<u8>, depth: usize) -> Result<(), Memory>
     sign(text, Sign::CloseBrace)
 }
 
-/// `else if` behind a `}`.
+/// `else if` after a `}`.
 pub fn else_if_words(text: &mut Vec<u8>) -> Result<(), Memory>
     ensures { OnOk result (text.new.items ≡ text.old.items ++ rendered (l.gap ++ l.key w.Else ++ l.gap ++ l.key w.If)) }
 {

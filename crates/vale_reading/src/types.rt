@@ -22,7 +22,7 @@ pub struct Parser<'n> {
 }
 
 impl Parser<'_> {
-    /// The levels that are left behind the token that opens one.
+    /// The levels that are left after the token that opens one.
     #[tactic(auto, using(crate::proofs::Levels::within_more, crate::proofs::Levels::within_none, crate::proofs::Levels::one_more, crate::proofs::Levels::one_none))]
     pub fn below<'t>(&self, depth: usize, here: &'t [Token]) -> Result<usize, Stop<'t>>
         ensures less { IfOk result (λ d. d < depth) }

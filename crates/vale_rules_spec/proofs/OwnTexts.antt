@@ -102,7 +102,7 @@ the_value_of_a_set_comes_before_its_place = refl
 the_place_of_a_set_is_told_first : text (codes "S" ∷ codes "B" ∷ codes "s" ∷ codes "main" ∷ codes "b" ∷ codes "a" ∷ codes "drop" ∷ []) (struct_item (n 0 8) [] ∷ struct_item (n 1 21) (field_decl (n 2 25) true (named_type (n 0 28)) ∷ []) ∷ function_item (function (head false (n 3 38) [] None) (block (at 45) (at 99) (more_stmts (declare (n 4 47) (call (n 1 51) (more_exprs (call (n 0 53) no_exprs) no_exprs))) (more_stmts (declare (n 5 59) (call (n 0 63) no_exprs)) (more_stmts (express (call (n 6 68) (more_exprs (name (n 5 73)) no_exprs))) (more_stmts (express (call (n 6 77) (more_exprs (name (n 4 82)) no_exprs))) (more_stmts (express (set (at 86) (steps (name (n 4 90)) (more_steps (field (at 91) (record { 0 = 2 })) no_steps)) (name (n 5 96)))) no_stmts))))))) ∷ []) ≡ fault 30 90
 the_place_of_a_set_is_told_first = refl
 
--- ---- after some ways whole, after others moved
+-- ---- after some branches whole, after others moved
 
 -- struct S { } func main() { a = S(); if true { drop(a); } }
 one_side_drops : text (codes "S" ∷ codes "main" ∷ codes "a" ∷ codes "drop" ∷ []) (struct_item (n 0 8) [] ∷ function_item (function (head false (n 1 19) [] None) (block (at 26) (at 58) (more_stmts (declare (n 2 28) (call (n 0 32) no_exprs)) (last (form (branch (at 37) (truth (at 40) true) (block (at 45) (at 56) (more_stmts (express (call (n 3 47) (more_exprs (name (n 2 52)) no_exprs))) no_stmts)) no_else)))))) ∷ []) ≡ fault 31 37

@@ -32,7 +32,7 @@ f then go = record { faults = f.faults ++ (go f.after).faults; after = (go f.aft
 abbrev pub but_first : Flow → (Locals → Flow) → Flow
 but_first f go = record { faults = (go f.after).faults ++ f.faults; after = (go f.after).after }
 
--- a node behind its parts
+-- a node after its parts
 abbrev pub with_rules : Spot → Rules → Flow → Flow
 with_rules at rules f = record { faults = f.faults ++ own at rules; after = f.after }
 
@@ -40,33 +40,33 @@ with_rules at rules f = record { faults = f.faults ++ own at rules; after = f.af
 abbrev pub ends_as : Locals → Flow → Flow
 ends_as ls f = record { faults = f.faults; after = ls }
 
--- ---- the ways of an `if`
+-- ---- the branches of an `if`
 
 -- the locals after each block that doesn't always return
-abbrev pub Ways : Type 0
-Ways = List Locals
+abbrev pub Branches : Type 0
+Branches = List Locals
 
-abbrev pub way : Bool → Locals → Ways → Ways
-way true ls ways = ways
-way false ls ways = ls ∷ ways
+abbrev pub add_branch : Bool → Locals → Branches → Branches
+add_branch true ls branches = branches
+add_branch false ls branches = ls ∷ branches
 
-abbrev pub all_alike : Locals → Ways → Bool
+abbrev pub all_alike : Locals → Branches → Bool
 all_alike ls [] = true
 all_alike ls (w ∷ ws) = are_alike ls w && all_alike ls ws
 
-abbrev pub agree : Ways → Bool
+abbrev pub agree : Branches → Bool
 agree [] = true
 agree (w ∷ ws) = all_alike w ws
 
--- the locals after an `if`; where no way leads behind it, those before it
-abbrev pub behind : Locals → Ways → Locals
+-- the locals after an `if`; where no way leads after it, those before it
+abbrev pub behind : Locals → Branches → Locals
 behind before [] = before
 behind before (w ∷ ws) = w
 
--- the faults of an `if`'s blocks and further conditions, and its ways
+-- the faults of an `if`'s blocks and further conditions, and its branches
 pub record Sides : Type 0 where
   pub faults : List Fault
-  pub ways : Ways
+  pub branches : Branches
 
 -- ---- parts
 
@@ -89,8 +89,8 @@ name_flow n is_moved ls = record {
 -- an `if`, by its first condition and block and its other sides
 abbrev pub branched : Spot → Locals → Flow → Bool → Flow → Sides → Flow
 branched at before c returns b sides = record {
-  faults = c.faults ++ (b.faults ++ (sides.faults ++ own at ((31, agree (way returns b.after sides.ways)) ∷ [])));
-  after = behind before (way returns b.after sides.ways);
+  faults = c.faults ++ (b.faults ++ (sides.faults ++ own at ((31, agree (add_branch returns b.after sides.branches)) ∷ [])));
+  after = behind before (add_branch returns b.after sides.branches);
 }
 
 -- a loop, by its condition and its body; the locals after it are those before its body
@@ -112,7 +112,7 @@ abbrev mutual
   node_flow (number at n) ls = still ls
   node_flow (quote at text) ls = still ls
   node_flow (truth at b) ls = still ls
-  node_flow (name n is_moved) ls = name_flow n is_moved ls
+  node_flow (name n is_outer is_moved) ls = name_flow n is_moved ls
   node_flow (call n f es) ls = exprs_flow es ls
   node_flow (paren at e) ls = expr_flow e ls
   node_flow (array at x es) ls = exprs_flow es ls
@@ -144,11 +144,11 @@ abbrev mutual
   form_flow (parallel_each at n e b) ls = expr_flow e ls then (λ us. ends_as us (body_flow n b us))
 
   pub elses_flow : Elses → Locals → Sides
-  elses_flow no_else ls = record { faults = []; ways = ls ∷ [] }
-  elses_flow (otherwise b) ls = record { faults = (block_flow b ls).faults; ways = way (block_returns b) (block_flow b ls).after [] }
+  elses_flow no_else ls = record { faults = []; branches = ls ∷ [] }
+  elses_flow (otherwise b) ls = record { faults = (block_flow b ls).faults; branches = add_branch (block_returns b) (block_flow b ls).after [] }
   elses_flow (more_elses (else_if at c b) es) ls = record {
     faults = (expr_flow c ls).faults ++ ((block_flow b (expr_flow c ls).after).faults ++ (elses_flow es (expr_flow c ls).after).faults);
-    ways = way (block_returns b) (block_flow b (expr_flow c ls).after).after (elses_flow es (expr_flow c ls).after).ways;
+    branches = add_branch (block_returns b) (block_flow b (expr_flow c ls).after).after (elses_flow es (expr_flow c ls).after).branches;
   }
 
   -- A block's own locals end with it.
@@ -179,7 +179,7 @@ abbrev mutual
 module _ (self : ℕ) where
   -- exactly the local
   abbrev pub is_self : Expr → Bool
-  is_self (expr x (name n is_moved)) = n.name.0 == self
+  is_self (expr x (name n is_outer is_moved)) = n.name.0 == self
   is_self _ = false
 
   -- whether the local is moved by anything but a destructuring
@@ -195,7 +195,7 @@ module _ (self : ℕ) where
     node_moves (number at n) = false
     node_moves (quote at text) = false
     node_moves (truth at b) = false
-    node_moves (name n is_moved) = is_moved && (n.name.0 == self)
+    node_moves (name n is_outer is_moved) = is_moved && (n.name.0 == self)
     node_moves (call n f es) = exprs_move es
     node_moves (paren at e) = expr_moves e
     node_moves (array at x es) = exprs_move es

@@ -1,4 +1,4 @@
--- The sides of an `if` behind its first one.
+-- The sides of an `if` after its first one.
 use Rattle.std.specs.Prelude.{Bool, true, ◌&&◌, List, [], ◌∷◌}
 use Rattle.vale_rules_spec.specs.Typed.{ElseIf, else_if}
 use Rattle.vale_rules_spec.specs.Returns.{block_returns}

@@ -33,7 +33,7 @@ abbrev mutual
   node_sites (number at n) = 0
   node_sites (quote at text) = 0
   node_sites (truth at b) = 0
-  node_sites (name n moved) = 0
+  node_sites (name n is_outer moved) = 0
   node_sites (call n f es) = exprs_sites es + at_call f (types es)
   node_sites (paren at e) = expr_sites e
   node_sites (array at x es) = exprs_sites es

@@ -280,7 +280,7 @@ abbrev pub part_of : View → Option Ty → Seen
 part_of v None = a_value void
 part_of v (Some t) = part_seen v t
 
--- the types that a method takes behind its object
+-- the types that a method takes after its object
 abbrev pub method_takes : Head → List Ty
 method_takes (head is_pure n [] x) = []
 method_takes (head is_pure n (p ∷ ps) x) = param_types ps

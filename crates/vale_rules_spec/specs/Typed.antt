@@ -29,8 +29,8 @@ mutual
     number : Spot → ℤ → Node
     quote : Spot → List ℕ → Node
     truth : Spot → Bool → Node
-    -- with whether it is moved
-    name : NameAt → Bool → Node
+    -- with whether it was declared outside of the innermost `pure`, `iso` or parallel block, and whether it is moved
+    name : NameAt → Bool → Bool → Node
     call : NameAt → Callee → Exprs → Node
     paren : Spot → Expr → Node
     array : Spot → Ty → Exprs → Node

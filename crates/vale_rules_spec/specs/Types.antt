@@ -183,6 +183,10 @@ abbrev pub local_seen : ℕ → Local → Seen
 local_seen depth l =
     if l.depth == depth then record { value = l.ty; view = view_here l.ty; place = Some l.ty } else as_frozen l.ty (object_of l.ty)
 
+-- it was declared outside of the innermost `pure`, `iso` or parallel block
+abbrev pub is_outer : ℕ → Local → Bool
+is_outer depth l = not (l.depth == depth)
+
 -- naming the local as a value moves it
 abbrev pub is_movable : ℕ → Local → Bool
 is_movable depth l = is_owned l.ty && (l.depth == depth)

@@ -9,7 +9,7 @@ use Rattle.vale_syntax.specs.declared.tree.NameAt.{NameAt}
 use Rattle.vale_syntax.specs.Tree.{Expr, set, chain, unary, steps, number, quote, truth, name, call, paren, array, iso, form, Exprs, no_exprs, more_exprs, Link, link, Links, no_links, more_links, Step, field, method, index, Steps, no_steps, more_steps, Form, branch, pure, parallel_range, parallel_each, ElseIf, else_if, Elses, no_else, otherwise, more_elses, Block, block, Stmt, declare, destructure, return_nothing, return_value, while, foreach, form_stmt, express, Stmts, no_stmts, last, more_stmts, Param, param, Head, Function, function, FieldDecl, field_decl, Item, struct_item, interface_item, impl_item, function_item, Tree, tree}
 use Rattle.vale_rules_spec.specs.Judged.{Judged, fine, both, node, leaf, plain, scoped}
 use Rattle.vale_rules_spec.specs.Declarations.{field_type, head_name, head_params}
-use Rattle.vale_rules_spec.specs.Types.{Ty, void, int, bool, str, type_of, View, direct, shared, Seen, a_value, Local, local_of, local_seen, is_movable, field_named, method_named}
+use Rattle.vale_rules_spec.specs.Types.{Ty, void, int, bool, str, type_of, View, direct, shared, Seen, a_value, Local, local_of, local_seen, is_outer, is_movable, field_named, method_named}
 use Rattle.vale_rules_spec.specs.Types as y
 use Rattle.vale_rules_spec.specs.Typed as t
 use Rattle.vale_rules_spec.specs.Typed.{seen, type, types, link_seen, chain_seen, step_seen, steps_seen, block_type, stmts_type, condition_types, block_types, has_else, may_be_set}
@@ -41,7 +41,7 @@ with_params (param n x ∷ ps) env = with_params ps (with_local n (type_of x) en
 abbrev pub deeper : Env → Env
 deeper env = record { gives = env.gives; depth = env.depth + 1; scope = env.scope }
 
--- behind a statement
+-- after a statement
 abbrev pub after : t.Stmt → Env → Env
 after (t.declare n ty e) env = with_local n ty env
 after (t.destructure at ns tys e) env = with_locals ns tys env
@@ -61,8 +61,8 @@ new_names env [] = fine []
 new_names env (n ∷ ns) = plain (λ v. v.0 ∷ v.1) (both (new_name env n) (new_names (with_local n void env) ns))
 
 abbrev pub named : Env → Bool → NameAt → Option Local → t.Expr
-named env as_value n None = t.expr (a_value void) (t.name n false)
-named env as_value n (Some l) = t.expr (local_seen env.depth l) (t.name n (as_value && is_movable env.depth l))
+named env as_value n None = t.expr (a_value void) (t.name n false false)
+named env as_value n (Some l) = t.expr (local_seen env.depth l) (t.name n (is_outer env.depth l) (as_value && is_movable env.depth l))
 
 -- the name that an expression is
 abbrev pub name_in : Expr → Option ℕ
@@ -144,7 +144,7 @@ module _ (names : List (List ℕ)) (items : List Item) where
     exprs env no_exprs = fine t.no_exprs
     exprs env (more_exprs e es) = plain (λ v. t.more_exprs v.0 v.1) (both (expr env true e) (exprs env es))
 
-    -- an operator behind an operand of which this is known
+    -- an operator after an operand of which this is known
     pub operand : Env → Seen → Link → Judged t.Link
     operand env s (link at op e) =
         node at (λ a. link_rules op s.value (type a)) (λ a. t.link (a_value (link_gives op s.value)) at op a) (expr env true e)

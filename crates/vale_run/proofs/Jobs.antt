@@ -17,7 +17,7 @@ use Rattle.vale_words.specs.declared.job.Options.{Options}
 use Rattle.vale_words.specs.declared.words.Command.{Command}
 use Rattle.vale_words.specs.declared.words.Command.TheVariants as c
 
--- the words behind the first two, as a slice has them
+-- the words after the first two, as a slice has them
 rest_is : {A : Type 0} (words : List (String A)) → take (length words - 2) (drop 2 words) ≡ drop 2 words
 rest_is words = take_all (length words - 2) (drop 2 words) (omega (arith, length-drop 2 words))
 

@@ -82,7 +82,7 @@ module _ (code : Parts) (reaches : ℕ → Bool) (m : ℕ) (fs : List Func) (fac
     pub lawful : func_is_lawful code reaches m f one ≡ true → funcs_fault code reaches (m + 1) (drop (m + 1) fs) (drop (m + 1) facts) ≡ funcs_fault code reaches m (drop m fs) (drop m facts)
     lawful is_so = sym (opened ∙ ap (λ (b : Bool). if b then funcs_fault code reaches (m + 1) (drop (m + 1) fs) (drop (m + 1) facts) else Some m) is_so)
 
--- behind the last function
+-- after the last function
 left_over : (code : Parts) (reaches : ℕ → Bool) (m : ℕ) (facts : List FuncFacts) → 0 < length facts → Some m ≡ funcs_fault code reaches m [] facts
 left_over code reaches m [] some = absurd (omega arith)
 left_over code reaches m (one ∷ facts) some = refl

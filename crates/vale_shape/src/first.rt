@@ -94,7 +94,7 @@ fn fault_by(code: &Code, marks: &[bool], facts: &Facts) -> Option<usize>
 }
 
 /// The number of the first kind, implementation or function that isn't as it must be, counted in this order; a function
-/// that has no facts, or facts that no function has, are at their number, and a missing `main` is behind the last.
+/// that has no facts, or facts that no function has, are at their number, and a missing `main` is after the last.
 pub fn shape_fault(alloc: Global, code: &Code, facts: &Facts) -> Result<Option<u32>, Memory>
     ensures { IfOk result (λ o. o ≡ shape_fault code.now facts.now) }
 {

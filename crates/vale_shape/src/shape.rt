@@ -167,7 +167,7 @@ fn has_pair(item: &Impl, before: &[Impl]) -> bool
     false
 }
 
-/// Whether an implementation is as it must be, behind the earlier ones.
+/// Whether an implementation is as it must be, after the earlier ones.
 pub fn impl_is_lawful(code: &Code, before: &[Impl], item: &Impl) -> bool
     ensures { result ≡ impl_is_lawful code.now before.now item.now }
 {

@@ -5,7 +5,7 @@ use Rattle.vale_rules_spec.specs.Judged.{Rules, broken, ◌⇒◌, fault_of, Jud
 
 -- ---- rows
 
--- the first rule is kept, and so are those behind it
+-- the first rule is kept, and so are those after it
 pub rule_kept : (code : ℕ) (b : Bool) (rules : Rules) → broken ((code, b) ∷ rules) ≡ None → (b ≡ true) × (broken rules ≡ None)
 rule_kept code true rules e = (refl, e)
 rule_kept code false rules e = absurd (cc)

@@ -14,7 +14,7 @@ use Rattle.vale_rules_spec.specs.Typing.{entry, void_block, in_function, in_func
 use Rattle.vale_model.specs.Parts.{first_function, functions_of, has_name, is_pure}
 use Rattle.vale_lowering.specs.Covered.{type_is_covered, block_is_covered, function_is_covered, item_is_covered}
 use Rattle.vale_lowering.specs.Scopes.{head_result}
-use Rattle.vale_lower_facts.specs.Suits.{function_suits, all_suit}
+use Rattle.vale_lower_facts.specs.WellTyped.{function_is_well_typed, all_are_well_typed}
 use Rattle.vale_sound.proofs.Fine.{one_rule, asked, of_node, of_plain, of_fine, of_both}
 use Rattle.vale_sound.proofs.Fits.{impossible, same_gives}
 use Rattle.vale_sound.proofs.Literals.{LawfulFunction, LawfulItem}
@@ -24,7 +24,7 @@ use Rattle.vale_sound.proofs.Parts.{IsFound, Finds, void_meets}
 
 module _ (names : List (List ℕ)) (items : List Item) (functions : List t.Function) (finds : Finds items functions) where
   abbrev FunctionMeets : t.Function → Type 0
-  FunctionMeets f = function_is_covered f ≡ true → function_suits functions f
+  FunctionMeets f = function_is_covered f ≡ true → function_is_well_typed functions f
 
   function_meets : (f : Function) (v : t.Function) → LawfulFunction f → in_function names items f ≡ fine v → FunctionMeets v
   function_meets (function h b) v law is =
@@ -37,7 +37,7 @@ module _ (names : List (List ℕ)) (items : List Item) (functions : List t.Funct
       ))
 
   abbrev AllMeet : List t.Item → Type 0
-  AllMeet ys = list_all item_is_covered ys ≡ true → all_suit functions (flat_map functions_of ys)
+  AllMeet ys = list_all item_is_covered ys ≡ true → all_are_well_typed functions (flat_map functions_of ys)
 
   abbrev ItemMeets : t.Item → Type 0
   ItemMeets y = (ys : List t.Item) → AllMeet ys → AllMeet (y ∷ ys)
@@ -64,7 +64,7 @@ module _ (names : List (List ℕ)) (items : List Item) (functions : List t.Funct
 -- ---- each function is found by its name
 
 module _ (names : List (List ℕ)) (items : List Item) (n : ℕ) (h : Head) where
-  -- behind these items of the source, those of the typed tree have it
+  -- after these items of the source, those of the typed tree have it
   abbrev Found : List Item → List t.Item → Type 0
   Found xs ys = function_named xs n ≡ Some h → IsFound (flat_map functions_of ys) n h
 

@@ -111,7 +111,7 @@ LawfulItem (interface_item n hs) = Unit {0}
 LawfulItem (impl_item at i n fs) = AllByRecursion LawfulFunction fs
 LawfulItem (function_item f) = LawfulFunction f
 
--- ---- what holds where lawful tokens spell a part; those behind it are lawful too
+-- ---- what holds where lawful tokens spell a part; those after it are lawful too
 
 record Keeps (P : Part) (C : Type 0) : Type 1 where
   by : (ts rest : List Token) → P ts rest → AreLawful ts → C × AreLawful rest

@@ -21,7 +21,7 @@ use Rattle.vale_model.specs.Kinds.{head_of}
 use Rattle.vale_model.specs.Parts.{first_function, has_name}
 use Rattle.vale_lowering.specs.Covered.{type_is_covered, unary_is_covered, callee_is_covered, is_local, expr_is_covered, exprs_are_covered, links_are_covered, form_is_covered, elses_are_covered, block_is_covered, stmts_are_covered, stmt_is_covered}
 use Rattle.vale_lowering.specs.Scopes.{head_result}
-use Rattle.vale_lower_facts.specs.Suits.{unary_suits, callee_suits, set_suits, expr_suits, exprs_suit, links_suit, form_suits, elses_suit, block_suits, stmts_suit, stmt_suits}
+use Rattle.vale_lower_facts.specs.WellTyped.{unary_is_well_typed, callee_is_well_typed, set_is_well_typed, expr_is_well_typed, exprs_are_well_typed, links_are_well_typed, form_is_well_typed, elses_are_well_typed, block_is_well_typed, stmts_are_well_typed, stmt_is_well_typed}
 use Rattle.vale_sound.proofs.Fine.{rule_kept, one_rule, asked, of_leaf, of_node, of_plain, of_fine, of_both, of_scoped}
 use Rattle.vale_sound.proofs.Fits.{impossible, not_true, same_is, void_is, covered_fits, covered_type, args_fit, gives_value, seen_type, seen_place, same_gives, same_takes}
 use Rattle.vale_sound.proofs.Literals.{HasOperator, LawfulExpr, LawfulExprs, LawfulLink, LawfulLinks, LawfulForm, LawfulElseIf, LawfulElses, LawfulBlock, LawfulStmts, LawfulStmt}
@@ -42,15 +42,15 @@ is_there : (n : NameAt) (env : Env) (o : Option Local) → local_of n.name.0 env
 is_there n env o e kept = subst (λ x. is_some x ≡ true) e (one_rule 21 (is_visible n env.scope) kept)
 
 module _ (functions : List t.Function) where
-  name_suits : (env : Env) (as_value : Bool) (n : NameAt) (o : Option Local) → local_of n.name.0 env.scope ≡ o → is_some o ≡ true → expr_is_covered (named env as_value n o) ≡ true → expr_suits functions env (named env as_value n o)
-  name_suits env as_value n None e there cov = impossible there
-  name_suits env as_value n (Some l) e there cov = record { is = l; found = e; typed = seen_type env.depth l (covered_type (named env as_value n (Some l)) cov) }
+  name_is_well_typed : (env : Env) (as_value : Bool) (n : NameAt) (o : Option Local) → local_of n.name.0 env.scope ≡ o → is_some o ≡ true → expr_is_covered (named env as_value n o) ≡ true → expr_is_well_typed functions env (named env as_value n o)
+  name_is_well_typed env as_value n None e there cov = impossible there
+  name_is_well_typed env as_value n (Some l) e there cov = record { is = l; found = e; typed = seen_type env.depth l (covered_type (named env as_value n (Some l)) cov) }
 
-  place_suits : (items : List Item) (env : Env) (as_value : Bool) (n : NameAt) (o : Option Local) → local_of n.name.0 env.scope ≡ o → is_some o ≡ true → (ty : Ty) → type_is_covered ty ≡ true
+  place_is_well_typed : (items : List Item) (env : Env) (as_value : Bool) (n : NameAt) (o : Option Local) → local_of n.name.0 env.scope ≡ o → is_some o ≡ true → (ty : Ty) → type_is_covered ty ≡ true
       → option_map_or (fits items ty) (t.seen (named env as_value n o)).place true ≡ true
-      → set_suits functions env (named env as_value n o) ty (set_gives (t.seen (named env as_value n o)).place)
-  place_suits items env as_value n None e there ty cov fit = impossible there
-  place_suits items env as_value n (Some l) e there ty cov fit =
+      → set_is_well_typed functions env (named env as_value n o) ty (set_gives (t.seen (named env as_value n o)).place)
+  place_is_well_typed items env as_value n None e there ty cov fit = impossible there
+  place_is_well_typed items env as_value n (Some l) e there ty cov fit =
       let place = seen_place env.depth l in
       let is_type = covered_fits items ty l.ty cov (subst (λ p. option_map_or (fits items ty) p true ≡ true) place fit) in
       (record { is = l; found = e; typed = sym is_type }, subst (λ p. set_gives p ≡ ty) (sym place) (sym is_type))
@@ -79,15 +79,15 @@ called_program None None (Some g) h e = let same : g ≡ h = cc in ap Some same
 called_program None None None h e = absurd (cc)
 
 module _ (names : List (List ℕ)) (items : List Item) (functions : List t.Function) (finds : Finds items functions) where
-  call_suits : (n : NameAt) (c : Called) → called names items n ≡ c → (v : t.Exprs) → callee_is_covered (callee c) ≡ true → exprs_are_covered v ≡ true → broken (called_rules items c (t.types v)) ≡ None → callee_suits functions n (callee c) (t.types v) (called_gives n c (t.types v))
-  call_suits n nothing e v cov args kept = impossible (one_rule 21 false kept)
-  call_suits n (language f) e v cov args kept =
+  call_is_well_typed : (n : NameAt) (c : Called) → called names items n ≡ c → (v : t.Exprs) → callee_is_covered (callee c) ≡ true → exprs_are_covered v ≡ true → broken (called_rules items c (t.types v)) ≡ None → callee_is_well_typed functions n (callee c) (t.types v) (called_gives n c (t.types v))
+  call_is_well_typed n nothing e v cov args kept = impossible (one_rule 21 false kept)
+  call_is_well_typed n (language f) e v cov args kept =
       let many = length (t.types v) == arity f in
       let takes = takes_arguments items f (t.types v) in
       let first = rule_kept 20 (many ⇒ takes) ((22, many) ∷ []) kept in
       record { taken = same_takes items f (t.types v) cov (asked many takes first.0 (one_rule 22 many first.1)); given = refl }
-  call_suits n (struct fs) e v cov args kept = impossible cov
-  call_suits n (program h) e v cov args kept =
+  call_is_well_typed n (struct fs) e v cov args kept = impossible cov
+  call_is_well_typed n (program h) e v cov args kept =
       let takes = param_types (head_params h) in
       let many = as_many (t.types v) takes in
       let plain = not_true (is_pure_head h) cov in
@@ -104,52 +104,52 @@ module _ (names : List (List ℕ)) (items : List Item) (functions : List t.Funct
   -- ---- what is shown of the parts
 
   abbrev PlaceMeets : Env → t.Expr → Type 0
-  PlaceMeets env x = is_local x ≡ true → (ty : Ty) → type_is_covered ty ≡ true → option_map_or (fits items ty) (t.seen x).place true ≡ true → set_suits functions env x ty (set_gives (t.seen x).place)
+  PlaceMeets env x = is_local x ≡ true → (ty : Ty) → type_is_covered ty ≡ true → option_map_or (fits items ty) (t.seen x).place true ≡ true → set_is_well_typed functions env x ty (set_gives (t.seen x).place)
 
   abbrev Meets : Env → t.Expr → Type 0
-  Meets env x = (expr_is_covered x ≡ true → expr_suits functions env x) × PlaceMeets env x
+  Meets env x = (expr_is_covered x ≡ true → expr_is_well_typed functions env x) × PlaceMeets env x
 
   abbrev ExprsMeet : Env → t.Exprs → Type 0
-  ExprsMeet env v = exprs_are_covered v ≡ true → exprs_suit functions env v
+  ExprsMeet env v = exprs_are_covered v ≡ true → exprs_are_well_typed functions env v
 
   abbrev LinksMeet : Env → Seen → t.Links → Type 0
-  LinksMeet env s v = links_are_covered v ≡ true → links_suit functions env s.value (t.chain_seen s v).value v
+  LinksMeet env s v = links_are_covered v ≡ true → links_are_well_typed functions env s.value (t.chain_seen s v).value v
 
   -- the operator gives a value
   abbrev LinkMeets : Env → Seen → t.Link → Type 0
   LinkMeets env s l = (is_void (t.link_seen l).value ≡ false) × ((ls : t.Links) → LinksMeet env (t.link_seen l) ls → LinksMeet env s (t.more_links l ls))
 
   abbrev FormMeets : Env → Ty × t.Form → Type 0
-  FormMeets env v = form_is_covered v.1 ≡ true → form_suits functions env v.0 v.1
+  FormMeets env v = form_is_covered v.1 ≡ true → form_is_well_typed functions env v.0 v.1
 
   -- all blocks have this type, and without an `else` it is void
   abbrev ElsesMeet : Env → t.Elses → Type 0
-  ElsesMeet env v = elses_are_covered v ≡ true → (x : Ty) → list_all is_bool (t.condition_types v) ≡ true → list_all (same x) (t.block_types v) ≡ true → (t.has_else v || is_void x) ≡ true → elses_suit functions env x v
+  ElsesMeet env v = elses_are_covered v ≡ true → (x : Ty) → list_all is_bool (t.condition_types v) ≡ true → list_all (same x) (t.block_types v) ≡ true → (t.has_else v || is_void x) ≡ true → elses_are_well_typed functions env x v
 
   abbrev ElseIfMeets : Env → t.ElseIf → Type 0
   ElseIfMeets env e = (es : t.Elses) → ElsesMeet env es → ElsesMeet env (t.more_elses e es)
 
   abbrev BlockMeets : Env → t.Block → Type 0
-  BlockMeets env b = block_is_covered b ≡ true → block_suits functions env (t.block_type b) b
+  BlockMeets env b = block_is_covered b ≡ true → block_is_well_typed functions env (t.block_type b) b
 
   abbrev VoidMeets : Env → t.Block → Type 0
-  VoidMeets env b = block_is_covered b ≡ true → block_suits functions env void b
+  VoidMeets env b = block_is_covered b ≡ true → block_is_well_typed functions env void b
 
   abbrev StmtsMeet : Env → t.Stmts → Type 0
-  StmtsMeet env v = stmts_are_covered v ≡ true → stmts_suit functions env (t.stmts_type v) v
+  StmtsMeet env v = stmts_are_covered v ≡ true → stmts_are_well_typed functions env (t.stmts_type v) v
 
   abbrev StmtMeets : Env → t.Stmt → Type 0
-  StmtMeets env s = stmt_is_covered s ≡ true → stmt_suits functions env s
+  StmtMeets env s = stmt_is_covered s ≡ true → stmt_is_well_typed functions env s
 
   -- ---- single nodes
 
-  unary_meets : (op : UnaryOp) (s : Seen) → unary_is_covered op ≡ true → broken (unary_rules op s) ≡ None → unary_suits op s.value (unary_gives op s)
+  unary_meets : (op : UnaryOp) (s : Seen) → unary_is_covered op ≡ true → broken (unary_rules op s) ≡ None → unary_is_well_typed op s.value (unary_gives op s)
   unary_meets u.Minus s cov kept = (same_is s.value int (one_rule 20 (is_int s.value) kept), refl)
   unary_meets u.Not s cov kept = (same_is s.value bool (one_rule 20 (is_bool s.value) kept), refl)
   unary_meets u.Borrow s cov kept = tt
   unary_meets u.Merge s cov kept = tt
 
-  else_if_meets : (env : Env) (at : Spot) (c : t.Expr) (b : t.Block) → (expr_is_covered c ≡ true → expr_suits functions env c) → BlockMeets env b → ElseIfMeets env (t.else_if at c b)
+  else_if_meets : (env : Env) (at : Spot) (c : t.Expr) (b : t.Block) → (expr_is_covered c ≡ true → expr_is_well_typed functions env c) → BlockMeets env b → ElseIfMeets env (t.else_if at c b)
   else_if_meets env at c b meets meets_block es rest cov x bools alike ends =
       let p = and_parts (expr_is_covered c && block_is_covered b) (elses_are_covered es) cov in
       let q = and_parts (expr_is_covered c) (block_is_covered b) p.0 in
@@ -157,11 +157,11 @@ module _ (names : List (List ℕ)) (items : List Item) (functions : List t.Funct
       let ss = and_parts (same x (t.block_type b)) (list_all (same x) (t.block_types es)) alike in (
         same_is (t.type c) bool bs.0,
         meets q.0,
-        subst (λ y. block_suits functions env y b) (sym (same_is x (t.block_type b) ss.0)) (meets_block q.1),
+        subst (λ y. block_is_well_typed functions env y b) (sym (same_is x (t.block_type b) ss.0)) (meets_block q.1),
         rest p.1 x bs.1 ss.1 ends,
       )
 
-  branch_meets : (env : Env) (at : Spot) (c : t.Expr) (b : t.Block) (es : t.Elses) → (expr_is_covered c ≡ true → expr_suits functions env c) → BlockMeets env b → ElsesMeet env es
+  branch_meets : (env : Env) (at : Spot) (c : t.Expr) (b : t.Block) (es : t.Elses) → (expr_is_covered c ≡ true → expr_is_well_typed functions env c) → BlockMeets env b → ElsesMeet env es
       → broken (branch_rules (t.type c ∷ t.condition_types es) (t.block_type b) (t.block_types es) (t.has_else es)) ≡ None → FormMeets env (t.block_type b, t.branch at c b es)
   branch_meets env at c b es meets meets_block rest kept cov =
       let x = t.block_type b in
@@ -222,8 +222,8 @@ module _ (names : List (List ℕ)) (items : List Item) (functions : List t.Funct
         of_leaf (Meets env) n.at (name_rules n env.scope) (named env as_value n (local_of n.name.0 env.scope)) x is
         (λ kept.
         let there = is_there n env (local_of n.name.0 env.scope) refl kept in (
-          (λ cov. name_suits functions env as_value n (local_of n.name.0 env.scope) refl there cov),
-          (λ local ty cov fit. place_suits functions items env as_value n (local_of n.name.0 env.scope) refl there ty cov fit),
+          (λ cov. name_is_well_typed functions env as_value n (local_of n.name.0 env.scope) refl there cov),
+          (λ local ty cov fit. place_is_well_typed functions items env as_value n (local_of n.name.0 env.scope) refl there ty cov fit),
         ))
     expr_meets env as_value (call n es) x law is =
         of_node (Meets env) n.at (λ v. called_rules items (called names items n) (t.types v)) (λ v. t.expr (a_value (called_gives n (called names items n) (t.types v))) (t.call n (callee (called names items n)) v)) (exprs names items env es) x is
@@ -232,7 +232,7 @@ module _ (names : List (List ℕ)) (items : List Item) (functions : List t.Funct
         let c = called names items n in (
           (λ cov.
               let d = and_parts (callee_is_covered (callee c)) (exprs_are_covered v) (and_parts (type_is_covered (called_gives n c (t.types v))) (callee_is_covered (callee c) && exprs_are_covered v) cov).1 in
-              (call_suits n c refl v d.0 d.1 kept, args d.1)),
+              (call_is_well_typed n c refl v d.0 d.1 kept, args d.1)),
           (λ local ty cov fit. impossible local),
         ))
     expr_meets env as_value (paren at e) x law is =
@@ -315,7 +315,7 @@ module _ (names : List (List ℕ)) (items : List Item) (functions : List t.Funct
         (λ w each.
         let inside = block_meets env b w law each in
         λ cov x bools alike ends.
-        subst (λ y. block_suits functions env y w) (sym (same_is x (t.block_type w) (and_parts (same x (t.block_type w)) true alike).0)) (inside cov))
+        subst (λ y. block_is_well_typed functions env y w) (sym (same_is x (t.block_type w) (and_parts (same x (t.block_type w)) true alike).0)) (inside cov))
     elses_meet env (more_elses e es) v law is =
         of_plain (ElsesMeet env) (λ v. t.more_elses v.0 v.1) (both (in_else_if names items env e) (elses names items env es)) v is
         (λ w each.
@@ -334,7 +334,7 @@ module _ (names : List (List ℕ)) (items : List Item) (functions : List t.Funct
         of_plain (λ b. is_void (t.block_type b) ≡ true → VoidMeets env b) (λ v. t.block at end (t.stmts_type v) v) (stmts names items env ss) w each
         (λ z inner.
         let inside = stmts_meet env ss z law inner in
-        λ none cov. let e = void_is (t.stmts_type z) none in (e, subst (λ x. stmts_suit functions env x z) e (inside cov)))
+        λ none cov. let e = void_is (t.stmts_type z) none in (e, subst (λ x. stmts_are_well_typed functions env x z) e (inside cov)))
         (one_rule 20 (is_void (t.block_type w)) kept))
 
     stmts_meet : (env : Env) (ss : Stmts) (v : t.Stmts) → LawfulStmts ss → stmts names items env ss ≡ fine v → StmtsMeet env v
@@ -398,7 +398,7 @@ module _ (names : List (List ℕ)) (items : List Item) (functions : List t.Funct
         of_node (StmtMeets env) (form_spot f) (λ v. void_rules v.0) (λ v. t.form_stmt v.1) (in_form names items env f) v is
         (λ w each kept.
         let inside = form_meets env f w law each in
-        λ cov. subst (λ x. form_suits functions env x w.1) (void_is w.0 (one_rule 20 (is_void w.0) kept)) (inside cov))
+        λ cov. subst (λ x. form_is_well_typed functions env x w.1) (void_is w.0 (one_rule 20 (is_void w.0) kept)) (inside cov))
     stmt_meets env (express e) v law is =
         of_plain (StmtMeets env) (λ v. t.express v) (expr names items env true e) v is
         (λ a each. let one = expr_meets env true e a law each in λ cov. one.0 cov)

@@ -30,7 +30,7 @@ ExprServed x = expr_is_covered x ≡ true
 abbrev ExprsServed : t.Exprs → Type 0
 ExprsServed v = exprs_are_covered v ≡ true
 
--- behind an operand of which this is known
+-- after an operand of which this is known
 abbrev LinksServed : Seen → t.Links → Type 0
 LinksServed s v = (links_are_covered v ≡ true) × (type_is_covered (t.chain_seen s v).value ≡ true)
 
@@ -55,7 +55,7 @@ VoidServed b = block_is_covered b ≡ true
 abbrev StmtsServed : t.Stmts → Type 0
 StmtsServed v = (stmts_are_covered v ≡ true) × (type_is_covered (t.stmts_type v) ≡ true)
 
--- and the locals behind it are copied
+-- and the locals after it are copied
 abbrev StmtServed : Env → t.Stmt → Type 0
 StmtServed env s = (stmt_is_covered s ≡ true) × AllCopy (after s env).scope
 

@@ -9,16 +9,16 @@ ghost use Rattle.vale_syntax.specs.declared.decls.Decls.{Decls};
 ghost use Rattle.vale_front.specs.Front.{Serves, Accepts};
 ghost use Rattle.vale_lowering.specs.Covered.{is_covered};
 ghost use Rattle.vale_syntax.specs.Bytes.{is_byte};
-ghost use Rattle.vale_lower_facts.specs.Suits.{Suits};
+ghost use Rattle.vale_lower_facts.specs.WellTyped.{WellTyped};
 ghost use Rattle.vale_sound.specs.Runs.{Runs};
 
-use vale_lower_facts::{lowered_code_is_certified, suitable_code_does_what_is_meant};
+use vale_lower_facts::{lowered_code_is_certified, well_typed_code_does_what_is_meant};
 use vale_lowering::lowered_code_does_what_is_meant;
 
 /// The types of a well-formed program fit, where its text is one of bytes and it is one of those that are lowered.
-pub fn well_formed_programs_suit()
+pub fn well_formed_programs_are_well_typed()
     ensures { (text : List ℕ) (tree : Tree) (decls : Decls) (program : Typed) → list_all is_byte text ≡ true → WellFormed text tree decls program
-        → is_covered program ≡ true → Suits program }
+        → is_covered program ≡ true → WellTyped program }
 {}
 
 /// What the front serves is among what is lowered.
@@ -32,9 +32,9 @@ pub fn well_formed_programs_run()
     ensures { (text : List ℕ) (tree : Tree) (decls : Decls) (program : Typed) → list_all is_byte text ≡ true → WellFormed text tree decls program
         → is_covered program ≡ true → Runs program }
 {
-    well_formed_programs_suit();
+    well_formed_programs_are_well_typed();
     lowered_code_is_certified();
-    suitable_code_does_what_is_meant();
+    well_typed_code_does_what_is_meant();
     lowered_code_does_what_is_meant();
 }
 

@@ -242,7 +242,7 @@ abbrev pub push : Value → Value → State → Answer
 push v new s =
     with_object v s (λ n o. if nat_lt (length o.values) width_limit then gives None (changed n o (o.values ++ new ∷ []) s) else traps ArrayTooLong)
 
--- all but the last, behind these
+-- all but the last, after these
 abbrev pub front_from : Value → List Value → List Value
 front_from v [] = []
 front_from v (u ∷ us) = v ∷ front_from u us

@@ -19,7 +19,7 @@ is_letter b = (nat_le 65 b && nat_le b 90) || (nat_le 97 b && nat_le b 122) || b
 abbrev pub is_digit : ℕ → Bool
 is_digit b = nat_le 48 b && nat_le b 57
 
--- a byte of a name behind its first
+-- a byte of a name after its first
 abbrev pub is_name_byte : ℕ → Bool
 is_name_byte b = is_letter b || is_digit b
 
@@ -40,7 +40,7 @@ Each p (b ∷ bytes) = (p b ≡ true) × Each p bytes
 abbrev pub escape_of : ℕ → Option ℕ
 escape_of b = if b == 110 then Some 10 else if b == 116 then Some 9 else if b == 92 then Some 92 else if b == 34 then Some 34 else None
 
--- the number that digits stand for, behind those of a number
+-- the number that digits stand for, after those of a number
 abbrev pub value_behind : ℕ → List ℕ → ℕ
 value_behind n [] = n
 value_behind n (d ∷ digits) = value_behind (10 * n + (d - 48)) digits

@@ -74,11 +74,11 @@ pub data IsTooLarge (piece : List ℕ) : Type 0 where
 abbrev pub start : Spot
 start = record { line = 1; col = 1 }
 
--- the spot behind a byte
+-- the spot after a byte
 abbrev pub step : Spot → ℕ → Spot
 step at b = if b == 10 then record { line = at.line + 1; col = 1 } else record { line = at.line; col = at.col + 1 }
 
--- the spot behind these bytes
+-- the spot after these bytes
 abbrev pub behind : Spot → List ℕ → Spot
 behind at [] = at
 behind at (b ∷ bytes) = behind (step at b) bytes
@@ -109,7 +109,7 @@ abbrev pub EndsLine : List ℕ → Type 0
 EndsLine [] = Unit {0}
 EndsLine (b ∷ more) = b ≡ 10
 
--- these bytes, behind a `\`, begin no escape
+-- these bytes, after a `\`, begin no escape
 abbrev pub BeginsNoEscape : List ℕ → Type 0
 BeginsNoEscape [] = Unit {0}
 BeginsNoEscape (c ∷ more) = escape_of c ≡ None

@@ -14,7 +14,7 @@ use Rattle.vale_syntax.specs.declared.tree.UnaryOp.TheVariants as u
 use Rattle.vale_syntax.specs.Grammar.{binary_kind, unary_kind, truth_kind}
 use Rattle.vale_syntax.specs.Tree.{TypeExpr, int_type, bool_type, str_type, named_type, array_type, ref_type, imm_ref_type, iso_type, Expr, set, chain, unary, steps, number, quote, truth, name, call, paren, array, iso, form, Exprs, no_exprs, more_exprs, Link, link, Links, no_links, more_links, Step, field, method, index, Steps, no_steps, more_steps, Form, branch, pure, parallel_range, parallel_each, ElseIf, else_if, Elses, no_else, otherwise, more_elses, Block, block, Stmt, declare, destructure, return_nothing, return_value, while, foreach, form_stmt, express, Stmts, no_stmts, last, more_stmts, Param, param, Head, head, Function, function, FieldDecl, field_decl, Item, struct_item, interface_item, impl_item, function_item, Tree, tree}
 
--- a token, one space, or a line feed and the depth of the line behind it
+-- a token, one space, or a line feed and the depth of the line after it
 pub data Piece : Type 0 where
   lexeme : TokenKind → Piece
   space : Piece
@@ -42,7 +42,7 @@ gap = space ∷ []
 abbrev pub new_line : ℕ → Layout
 new_line d = line d ∷ []
 
--- a part with one space before it and one behind it
+-- a part with one space before it and one after it
 abbrev pub around : Layout → Layout
 around p = gap ++ p ++ gap
 
@@ -64,7 +64,7 @@ abbrev pub with_commas : {X : Type 0} → (X → Layout) → List X → Layout
 with_commas p [] = []
 with_commas p (x ∷ xs) = p x ++ each (λ y. mark s.Comma ++ gap ++ p y) xs
 
--- ---- the space behind a word
+-- ---- the space after a word
 
 -- whether the expression's first token is a `(`
 abbrev pub opens : Expr → Bool
@@ -73,7 +73,7 @@ opens (chain e ls) = opens e
 opens (steps e ss) = opens e
 opens _ = false
 
--- what stands between a word and the expression behind it: one space, but nothing before a `(`
+-- what stands between a word and the expression after it: one space, but nothing before a `(`
 abbrev pub after_word : Expr → Layout
 after_word e = space_unless (opens e) where
   space_unless : Bool → Layout

@@ -112,7 +112,7 @@ impl<B> SharedTable<B> {
         self.table.shared.load::<Tell>(token, 0);
     }
 
-    // The page of the next frame, where it is free. The seat goes on to the frame behind it.
+    // The page of the next frame, where it is free. The seat goes on to the frame after it.
     pub(crate) fn try_next(&self, seat: &mut Seat<B>) -> Option<Page<B>>
         requires table { IsAt seat.old self.now }
         requires next { seat.old.next < frames_of self.now }

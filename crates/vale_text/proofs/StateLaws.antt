@@ -12,7 +12,7 @@ use Rattle.vale_base.specs.declared.name.Kind.{Kind}
 use Rattle.vale_base.specs.declared.piece.Piece.{Piece}
 use Rattle.vale_base.specs.declared.trap.TrapKind.{TrapKind}
 use Rattle.vale_base.specs.declared.trap.TrapKind.TheVariants.{ArrayTooLong}
-use Rattle.vale_text.specs.Later.{StampsRise, NameLater, Later, StepGoesOn}
+use Rattle.vale_text.specs.Progress.{StampsRise, NameProgresses, Progresses, StepGoesOn}
 use Rattle.vale_text.proofs.WorldLaws.{same_later, later_later, born_later, died_later, written_later, relabelled_later, cleared_later}
 
 -- ---- states
@@ -23,7 +23,7 @@ stamps_on from mid to [] (q ∷ qs) a b = (omega (arith, a, b.0), b.1)
 stamps_on from mid to (p ∷ ps) qs a b = (a.0, stamps_on p.tick mid to ps qs a.1 b)
 
 -- a state in which nothing but the world and what is counted is another
-quiet_later : (s t : State) → t.left ≡ s.left → t.spent ≡ s.spent → t.pieces ≡ s.pieces → ((n : ℕ) → NameLater (slice_get s.world n) (slice_get t.world n)) → Later s t
+quiet_later : (s t : State) → t.left ≡ s.left → t.spent ≡ s.spent → t.pieces ≡ s.pieces → ((n : ℕ) → NameProgresses (slice_get s.world n) (slice_get t.world n)) → Progresses s t
 quiet_later s t l sp p names = record {
   ticks = omega (arith, l, sp);
   fewer = omega (arith, l);
@@ -33,10 +33,10 @@ quiet_later s t l sp p names = record {
   names = names;
 }
 
-pub later_refl : (s : State) → Later s s
+pub later_refl : (s : State) → Progresses s s
 later_refl s = quiet_later s s refl refl refl (λ n. same_later (slice_get s.world n))
 
-pub later_trans : (s t u : State) → Later s t → Later t u → Later s u
+pub later_trans : (s t u : State) → Progresses s t → Progresses t u → Progresses s u
 later_trans s t u a b = record {
   ticks = b.ticks ∙ a.ticks;
   fewer = omega (arith, a.fewer, b.fewer);
@@ -48,7 +48,7 @@ later_trans s t u a b = record {
 
 -- a tick was spent, and one fewer is left
 pub record Spent (s t : State) : Type 0 where
-  pub later : Later s t
+  pub later : Progresses s t
   pub one : t.left + 1 ≡ s.left
 
 pub spend_of_later : (n : ℕ) (s t : State) → n ≡ s.left → spend_of n s ≡ Some t → Spent s t
@@ -77,7 +77,7 @@ none_left (suc n) s e is = absurd (cc)
 
 -- ---- changes
 
-pub printed_later : (bytes : List ℕ) (s : State) → Later s (printed bytes s)
+pub printed_later : (bytes : List ℕ) (s : State) → Progresses s (printed bytes s)
 printed_later bytes s = record {
   ticks = refl;
   fewer = omega arith;
@@ -87,58 +87,58 @@ printed_later bytes s = record {
   names = λ n. same_later (slice_get s.world n);
 }
 
-pick_later : (b : Bool) (s t u : State) → Later s t → Later s u → Later s (if b then t else u)
+pick_later : (b : Bool) (s t u : State) → Progresses s t → Progresses s u → Progresses s (if b then t else u)
 pick_later true s t u a b = a
 pick_later false s t u a b = b
 
 -- only the world is another, or what is counted too
-world_later : (s : State) (world : World) → ((n : ℕ) → NameLater (slice_get s.world n) (slice_get world n)) → Later s (record s { world = world })
+world_later : (s : State) (world : World) → ((n : ℕ) → NameProgresses (slice_get s.world n) (slice_get world n)) → Progresses s (record s { world = world })
 world_later s world names = quiet_later s (record s { world = world }) refl refl refl names
 
-pub born_later_state : (kind : Kind) (values : List Value) (s : State) → Later s (born kind values s)
+pub born_later_state : (kind : Kind) (values : List Value) (s : State) → Progresses s (born kind values s)
 born_later_state kind values s =
     let o : Object = record { region = here s; kind = kind; values = values } in
     let t : State = record s { world = w.born s.world o } in
-    let names : ((n : ℕ) → NameLater (slice_get s.world n) (slice_get (w.born s.world o) n)) = born_later s.world o in
+    let names : ((n : ℕ) → NameProgresses (slice_get s.world n) (slice_get (w.born s.world o) n)) = born_later s.world o in
     pick_later s.quiet s t (record t { most = max t.most (live t.world); made = t.made + 1 })
     (quiet_later s t refl refl refl names)
     (quiet_later s (record t { most = max t.most (live t.world); made = t.made + 1 }) refl refl refl names)
 
-pub dies_later : (n : ℕ) (s : State) → Later s (dies n s)
+pub dies_later : (n : ℕ) (s : State) → Progresses s (dies n s)
 dies_later n s = world_later s (w.died s.world n) (died_later s.world n)
 
 living_is : (x : Option (Option Object)) (o : Object) → living x ≡ Some o → x ≡ Some (Some o)
 living_is None o e = absurd (cc)
 living_is (Some x) o e = ap Some e
 
-changed_later : (n : ℕ) (o : Object) (values : List Value) (s : State) → object_of n s ≡ Some o → Later s (changed n o values s)
+changed_later : (n : ℕ) (o : Object) (values : List Value) (s : State) → object_of n s ≡ Some o → Progresses s (changed n o values s)
 changed_later n o values s e =
     world_later s (w.written s.world n (record o { values = values })) (λ k. written_later s.world n k o (record o { values = values }) (living_is (slice_get s.world n) o e) refl)
 
-pub freeze_later : (s : State) → Later s (freeze s)
+pub freeze_later : (s : State) → Progresses s (freeze s)
 freeze_later s = quiet_later s (freeze s) refl refl refl (λ n. same_later (slice_get s.world n))
 
-pub freeze_iteration_later : (s : State) → Later s (freeze_iteration s)
+pub freeze_iteration_later : (s : State) → Progresses s (freeze_iteration s)
 freeze_iteration_later s = quiet_later s (freeze_iteration s) refl refl refl (λ n. same_later (slice_get s.world n))
 
-world_after_later : (end : RegionEnd) (s : State) (n : ℕ) → NameLater (slice_get s.world n) (slice_get (world_after end s) n)
+world_after_later : (end : RegionEnd) (s : State) (n : ℕ) → NameProgresses (slice_get s.world n) (slice_get (world_after end s) n)
 world_after_later merged s n = relabelled_later (here s) (Freeze (s.regions - 1)) s.world n
 world_after_later (kept root) s n = relabelled_later (here s) (Isolate root) s.world n
 world_after_later cleared s n = cleared_later (here s) s.world n
 
-pub thaw_later : (end : RegionEnd) (s : State) → Later s (thaw end s)
+pub thaw_later : (end : RegionEnd) (s : State) → Progresses s (thaw end s)
 thaw_later end s = quiet_later s (thaw end s) refl refl refl (world_after_later end s)
 
-pub thaw_iteration_later : (end : RegionEnd) (s : State) → Later s (thaw_iteration end s)
+pub thaw_iteration_later : (end : RegionEnd) (s : State) → Progresses s (thaw_iteration end s)
 thaw_iteration_later end s = quiet_later s (thaw_iteration end s) refl refl refl (world_after_later end s)
 
-pub join_isolate_later : (n : ℕ) (s : State) → Later s (join_isolate n s)
+pub join_isolate_later : (n : ℕ) (s : State) → Progresses s (join_isolate n s)
 join_isolate_later n s = world_later s (relabelled (Isolate n) (here s) s.world) (relabelled_later (Isolate n) (here s) s.world)
 
-pub loop_counted_later : (ends : List State) (s : State) → Later s (loop_counted ends s)
+pub loop_counted_later : (ends : List State) (s : State) → Progresses s (loop_counted ends s)
 loop_counted_later ends s = quiet_later s (loop_counted ends s) refl refl refl (λ n. same_later (slice_get s.world n))
 
-pub counting_as_later : (before s : State) → Later s (counting_as before s)
+pub counting_as_later : (before s : State) → Progresses s (counting_as before s)
 counting_as_later before s = quiet_later s (counting_as before s) refl refl refl (λ n. same_later (slice_get s.world n))
 
 -- ---- steps

@@ -1,4 +1,4 @@
 pub mod Gives
-pub mod Later
 pub mod Operations
+pub mod Progress
 pub mod Steps

@@ -73,7 +73,7 @@ abbrev pub negated : Option ℤ → Option ℤ
 negated None = None
 negated (Some z) = Some (neg_ℤ z)
 
--- the number that digits write, behind a `-` or not
+-- the number that digits write, after a `-` or not
 abbrev pub written_in : List ℕ → Option ℤ
 written_in [] = None
 written_in (c ∷ cs) = if c == 45 then negated (digits_number cs) else digits_number (c ∷ cs)

@@ -53,7 +53,7 @@ pub fn is_number(s: &Text) -> bool
     number(s).is_ok()
 }
 
-/// The decimal digits of n, behind a `-` where it is negative.
+/// The decimal digits of n, after a `-` where it is negative.
 pub fn text_of(alloc: Global, n: i64) -> Result<Text, Memory>
     ensures { IfOk result (λ t. t ≡ text_of n) }
 {

@@ -7,7 +7,7 @@ ghost use Rattle.vale_text.specs.Operations.{join, slice, byte};
 use std::alloc::Global;
 use vale_base::{Fail, TEXT_LIMIT, Text, TrapKind};
 
-/// Both texts, one behind the other; `TextTooLong` exactly where they have more than 65,536 bytes together.
+/// Both texts, one after the other; `TextTooLong` exactly where they have more than 65,536 bytes together.
 pub fn join(alloc: Global, s: &Text, t: &Text) -> Result<Text, Fail<TrapKind>>
     ensures { Gives result (join s.now t.now) }
 {

@@ -14,7 +14,7 @@ use Rattle.vale_type_rules.specs.declared.places.Places.{Places}
 use Rattle.vale_type_rules.specs.Places.{is_name, place_from, HasPlaces}
 use Rattle.vale_type_rules.specs.Index.{struct_key, interface_key, function_key, field_key, method_key, member_keys, fields_in, methods_in, head_in, fields_at, methods_at, head_at, field_at, method_at, HasMembers}
 
--- a place is added behind those that were there, before those that are left
+-- a place is added after those that were there, before those that are left
 pub add_place : (o : Option ℕ) (b : Bool) (at : ℕ) (rest : Option ℕ) → or_else (or_else o (if b then Some at else None)) rest ≡ or_else o (if b then Some at else rest)
 add_place None true at rest = refl
 add_place None false at rest = refl
@@ -137,7 +137,7 @@ members_more x xs p ps here later (suc at) n = later at n
 no_members : HasMembers [] []
 no_members at n = refl
 
--- whatever has the members of the items that are left, behind those that are done, has those of all
+-- whatever has the members of the items that are left, after those that are done, has those of all
 abbrev pub Done : List c.Item → ℕ → List Places → Type 0
 Done items i done = (ps : List Places) → HasMembers (map view_item (drop i items)) ps → HasMembers (map view_item items) (done ++ ps)
 

@@ -25,7 +25,7 @@ pub use parts::{
     block_type, chain_seen, link_seen, may_be_set, seen_of, step_seen, steps_seen, type_in,
     types_in,
 };
-pub use scope::{Local, Scope, is_movable, is_visible, local_of, local_seen};
+pub use scope::{Local, Scope, is_movable, is_outer, is_visible, local_of, local_seen};
 pub use seen::{
     a_value, as_frozen, as_shared, copy_seen, copy_view, is_frozen, is_loose, part_seen,
     seen_object, value_view, view_here,

@@ -1,7 +1,7 @@
 // The visible locals.
 ghost use Rattle.std.specs.Prelude.{◌≡◌, ◌==◌, ◌&&◌, option_map, List, IfOk};
 ghost use Rattle.vale_rules_spec.specs.Types as y;
-ghost use Rattle.vale_rules_spec.specs.Types.{local_of, local_seen, is_movable, is_visible};
+ghost use Rattle.vale_rules_spec.specs.Types.{local_of, local_seen, is_outer, is_movable, is_visible};
 ghost use Rattle.vale_core.specs.View.{view_ty, view_seen};
 ghost use Rattle.vale_type_rules.specs.Scope.{view_local, framed, locals};
 ghost use Rattle.vale_type_rules.specs.Plain.{or_else};
@@ -82,6 +82,13 @@ pub fn local_seen(alloc: Global, depth: u32, local: &Local) -> Result<Seen, Memo
         let object = object_of(alloc, &ty)?;
         as_frozen(alloc, ty, object)
     }
+}
+
+/// Whether it was declared outside of the innermost `pure`, `iso` or parallel block.
+pub fn is_outer(depth: u32, local: &Local) -> bool
+    ensures { result ≡ is_outer depth (view_local local.now) }
+{
+    local.depth != depth
 }
 
 /// Whether naming the local as a value moves it.

@@ -32,7 +32,7 @@ pub fn field_types(alloc: Global, fields: &[FieldDecl]) -> Result<Vec<Ty>, Memor
     Ok(types)
 }
 
-/// The types that a method takes behind its object.
+/// The types that a method takes after its object.
 pub fn method_takes(alloc: Global, head: &Head) -> Result<Vec<Ty>, Memory>
     ensures { IfOk result (λ ts. map view_ty ts.items ≡ method_takes (view_head head.now)) }
 {

@@ -1,4 +1,4 @@
--- An `if`, part by part: its condition, its first block, what stands behind it, and its end.
+-- An `if`, part by part: its condition, its first block, what stands after it, and its end.
 use Rattle.std.proofs.Common.{◌≡◌, ℕ, List, [], ◌∷◌, refl, sym, ap, ◌∙◌}
 use Rattle.std.specs.Prelude.{Result, Ok, Err, Option, None, map, option_map, true}
 use Rattle.vale_base.specs.declared.spot.Spot.{Spot}

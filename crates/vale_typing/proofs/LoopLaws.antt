@@ -53,7 +53,7 @@ module _ {X A L : Type 0} (more : A → L → L) (done : List A) (xs : List X) (
   at_part : i < length xs → x ≡ get_or xs i d → with_parts more done (rest (drop i xs)) ≡ whole → with_parts more done (rest (x ∷ drop (i + 1) xs)) ≡ whole
   at_part l is h = sym (ap (λ (ys : List X). with_parts more done (rest ys)) (drop_more xs i d l ∙ ap (λ (y : X). y ∷ drop (i + 1) xs) (sym is))) ∙ h
 
-  -- the part has no fault, and `left` is the answer to those behind it
+  -- the part has no fault, and `left` is the answer to those after it
   pub part_passes : (left : Result L Fault) (a : A) → i < length xs → x ≡ get_or xs i d → rest (x ∷ drop (i + 1) xs) ≡ (left >>= λ b. Ok (more a b)) → with_parts more done (rest (drop i xs)) ≡ whole → with_parts more (done ++ a ∷ []) left ≡ whole
   part_passes left a l is e h = one_part more done a left ∙ ap (with_parts more done) (sym e) ∙ at_part l is h
 

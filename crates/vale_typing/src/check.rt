@@ -17,7 +17,7 @@ ghost use Rattle.vale_typing.specs.Walk.{env_at, view_exprs, view_links, view_st
 
 use crate::names::{element_of, is_used, is_value_under, new_name, new_names};
 use crate::nodes;
-use crate::so_far::{LinksSoFar, StepsSoFar, StmtsSoFar};
+use crate::lists::{TypedLinks, TypedSteps, TypedStmts};
 use crate::valued::{Inside, Valued};
 use sqlite_items::{Boxed, Items};
 use std::alloc::Global;
@@ -150,7 +150,7 @@ fn type_links(
 ) -> Result<Items<typed::Link>, Fail<Fault>>
     ensures { Gives view_links result (first (d.links (names_of table.now) (items_of table.now) (env_at (view_ty gives.now) depth (locals scope.now)) (seen (c.view_expr before.now)) (links_of (map view_link links.now)))) }
 {
-    let mut so_far = LinksSoFar::new(alloc, seen_of(before))?;
+    let mut so_far = TypedLinks::new(alloc, seen_of(before))?;
     let links = links.as_slice();
     for link in links {
         let link = type_link(alloc, table, link, gives, depth, scope, so_far.before.get())?;
@@ -203,7 +203,7 @@ fn type_steps(
 ) -> Result<Items<typed::Step>, Fail<Fault>>
     ensures { Gives view_steps result (first (d.steps_from (names_of table.now) (items_of table.now) (env_at (view_ty gives.now) depth (locals scope.now)) as_value (name_in (view_expr base.now)) (seen (c.view_expr before.now)) (steps_of (map view_step steps.now)))) }
 {
-    let mut so_far = StepsSoFar::new(alloc, name_in(base), seen_of(before))?;
+    let mut so_far = TypedSteps::new(alloc, name_in(base), seen_of(before))?;
     let steps = steps.as_slice();
     for index in 0..steps.len() {
         let is_used = is_used(as_value, steps, index);
@@ -407,7 +407,7 @@ fn type_stmts(
 ) -> Result<Inside, Fail<Fault>>
     ensures { Gives view_inside result (first (d.stmts (names_of table.now) (items_of table.now) (env_at (view_ty gives.now) depth (locals scope.now)) (stmts_of (map view_stmt (out-Block block.now).stmts) (option_map view_expr (out-Block block.now).last)))) }
 {
-    let mut so_far = StmtsSoFar::new(alloc);
+    let mut so_far = TypedStmts::new(alloc);
     let stmts = block.stmts.as_slice();
     for stmt in stmts {
         let inner = Scope::Frame(&so_far.locals, &*scope);

@@ -5,8 +5,8 @@ mod check;
 mod copies;
 mod names;
 mod nodes;
-mod so_far;
+mod lists;
 mod valued;
-mod whole;
+mod typing;
 
-pub use whole::{TypeFault, type_all};
+pub use typing::{TypeFault, type_all};

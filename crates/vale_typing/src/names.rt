@@ -30,7 +30,7 @@ pub fn new_name(scope: &Scope, name: NameAt) -> Result<(), Fail<Fault>>
     Ok(())
 }
 
-/// A local of this name and type, declared behind those of the frame.
+/// A local of this name and type, declared after those of the frame.
 #[tactic(auto, using(crate::proofs::FrameLaws::framed_more))]
 fn push_local(
     alloc: Global,
@@ -91,7 +91,7 @@ fn declare_each(
     }
 }
 
-/// The locals that a statement leaves behind.
+/// The locals that a statement leaves after.
 #[tactic(auto, using(crate::proofs::Rules::typed_stmts))]
 pub fn declare_all(
     alloc: Global,

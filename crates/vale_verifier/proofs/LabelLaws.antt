@@ -40,7 +40,7 @@ none_before q p (l ∷ labels) lt a =
 pub not_first : (l : Label) (labels : List Label) (p : ℕ) → l.at ≢ p → Ahead p (l ∷ labels) → label_at (l ∷ labels) p ≡ None
 not_first l labels p ne a = past_first l labels p ne ∙ none_before (l.at + 1) p labels (omega (arith, a.0)) a.1
 
--- ---- behind a place
+-- ---- after a place
 
 pub further : (l : Label) (labels : List Label) (p : ℕ) → l.at ≢ p → Ahead p (l ∷ labels) → Ahead (p + 1) (l ∷ labels)
 further l labels p ne a = (omega (arith, a.0), a.1)

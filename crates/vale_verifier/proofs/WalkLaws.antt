@@ -23,7 +23,7 @@ all_of kept true a b l = refl
 all_of kept false a b l = refl
 
 module _ (code : Parts) (f : Func) (labels : List Label) (base p : ℕ) (came : Bool) (instr : Instr) (depth : ℕ) where
-  -- what the registers are behind it
+  -- what the registers are after it
   abbrev behind : List RegFact → Known
   behind regs = record { depth = depth; regs = regs }
 
@@ -57,7 +57,7 @@ both_hold a b x y p q t = rw (p, q, t) refl
 pub first_fails : (a x y : Bool) → x ≡ a → a ≡ false → a ≡ (x && y)
 first_fails a x y p f = rw (p, f) refl
 
--- ---- the next label lies among those behind
+-- ---- the next label lies among those after
 
 pub next_enters : (code : Parts) (f : Func) (labels left : List Label) (base p : ℕ) (instr : Instr) (known : Known) → label_at left (p + 1) ≡ label_at labels (p + 1)
     → enters code f left base (next_of code f left base p instr) known ≡ enters code f labels base (next_of code f labels base p instr) known

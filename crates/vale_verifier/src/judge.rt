@@ -15,7 +15,7 @@ use crate::rules::row;
 use vale_cert::{Kept, Label, RegFact};
 use vale_code::{Code, Func, Instr};
 
-/// Whether the instruction behind it is a successor.
+/// Whether the instruction after it is a successor.
 fn goes_on(instr: &Instr) -> bool
     ensures { result ≡ goes_on instr.now }
 {
@@ -46,7 +46,7 @@ fn label_of(labels: &[Label], target: Option<u32>) -> Option<&Label>
     }
 }
 
-/// The label at the next instruction, where that is a successor; these are the labels behind this one.
+/// The label at the next instruction, where that is a successor; these are the labels after this one.
 fn label_behind<'a>(left: &'a [Label], place: usize, instr: &Instr) -> Option<&'a Label>
     requires place { place < 2 ^ 32 }
     requires ahead { Ahead (place + 1) left.now }
@@ -77,7 +77,7 @@ fn has_next(func: &Func, place: usize, instr: &Instr) -> bool
     !goes_on(instr) || place + 1 < func.body.len()
 }
 
-/// Whether what is known behind an instruction may enter the labels that it leads to; `left` are those behind this place.
+/// Whether what is known after an instruction may enter the labels that it leads to; `left` are those after this place.
 fn enters_labels(
     labels: &[Label],
     left: &[Label],
@@ -98,7 +98,7 @@ fn enters_labels(
     may_enter(aim, depth, regs) && may_enter(next, depth, regs)
 }
 
-/// Whether there is something at each place that an instruction leads to: a label at its target, an instruction behind it.
+/// Whether there is something at each place that an instruction leads to: a label at its target, an instruction after it.
 fn leads_on(func: &Func, labels: &[Label], place: usize, instr: &Instr) -> bool
     requires place { place < 2 ^ 32 }
     requires all { Ahead 0 labels.now }
@@ -133,7 +133,7 @@ fn lowest(kept: Kept, came: bool, enters: bool, leads: bool) -> Option<u8>
 }
 
 /// The lowest rule that an instruction breaks, before which this is known; the registers are those after it. `left` are the
-/// labels behind it, and `came` says that the function's entry may enter the label at its first instruction.
+/// labels after it, and `came` says that the function's entry may enter the label at its first instruction.
 pub fn step(
     code: &Code,
     func: &Func,
@@ -158,7 +158,7 @@ pub fn step(
     lowest(kept, came, enters, leads)
 }
 
-/// The depth behind an instruction, where that is its successor.
+/// The depth after an instruction, where that is its successor.
 pub fn depth_after(instr: &Instr, depth: u32) -> Option<u32>
     ensures { (regs : List AnyFact) → known_of result regs ≡ if goes_on instr.now then Some (record { depth = depth; regs = regs }) else None }
 {

@@ -39,7 +39,7 @@ pub fn front_at(labels: &[Label], p: usize) -> Option<&Label>
     }
 }
 
-/// The labels behind a place, before which there is none.
+/// The labels after a place, before which there is none.
 pub fn behind(labels: &[Label], p: usize) -> &[Label]
     requires { Ahead p labels.now }
     ensures ahead { Ahead (p + 1) result.now }

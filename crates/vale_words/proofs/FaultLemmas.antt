@@ -12,7 +12,7 @@ pub at_end : (Lawful : List Word → Type 0) → Begins Lawful [] → (Lawful []
 at_end Lawful begins none =
     record { front = []; back = []; whole = refl; at = refl; begins = begins; stops = none }
 
--- a fault behind the first word
+-- a fault after the first word
 pub behind : (Lawful : List Word → Type 0) (word : Word) (more : List Word) (index : ℕ) → IsFirstFault (λ words. Lawful (word ∷ words)) more index → IsFirstFault Lawful (word ∷ more) (index + 1)
 behind Lawful word more index fault =
     record {

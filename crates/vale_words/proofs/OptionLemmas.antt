@@ -52,7 +52,7 @@ module _ (chosen : Chosen) (option : OptionName) (key : Word) (named : option_te
   with_value more value setting options of is after =
       (setting, ap option_text of ∙ named, ap (λ p. is_chosen p chosen) of ∙ is_open, is, after)
 
-  -- nothing stands behind the option
+  -- nothing stands after the option
   pub no_value : IsFirstFault (AreOptionsFrom chosen) (key ∷ []) 1
   no_value =
       let (value, setting, of, is) = some_value option in
@@ -65,7 +65,7 @@ module _ (chosen : Chosen) (option : OptionName) (key : Word) (named : option_te
     same_option : (setting : Setting) → option_text (option_of setting) ≡ key → option_of setting ≡ option
     same_option setting is = let k = only (option_of setting) is in sym (cc k)
 
-    -- what stands behind the option is no value of it
+    -- what stands after the option is no value of it
     pub wrong_value : (value : Word) (more : List Word) → ((setting : Setting) → option_of setting ≡ option → IsValue value setting → ⊥) → IsFirstFault (AreOptionsFrom chosen) (key ∷ value ∷ more) 1
     wrong_value value more none =
         let (good, setting, of, is) = some_value option in
@@ -97,7 +97,7 @@ is_none : {A : Type 0} (x : Option A) → is_some x ≡ false → x ≡ None
 is_none None no_value = refl
 is_none (Some x) no_value = absurd (cc no_value)
 
--- one option fewer is open behind an option
+-- one option fewer is open after an option
 pub open_fewer : (setting : Setting) (chosen : Chosen) → is_chosen (option_of setting) chosen ≡ false → open_count (with_setting setting chosen) + 1 ≡ open_count chosen
 open_fewer (s.Workers n) chosen free = rw (is_none chosen.workers free) (omega arith)
 open_fewer (s.Ticks n) chosen free = rw (is_none chosen.ticks free) (omega arith)

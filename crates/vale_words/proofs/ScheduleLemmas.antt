@@ -67,7 +67,7 @@ numbers_unique (m ∷ ms) (n ∷ ns) a b e =
     let same = decimal_injective m n (omega (arith, All-head Small m ms a)) (omega (arith, All-head Small n ns b)) first in
     ap (λ k. k ∷ ms) same ∙ ap (λ ks. n ∷ ks) (numbers_unique ms ns (All-tail Small m ms a) (All-tail Small n ns b) more)
 
--- a part behind the numbers that were read is a number of the whole
+-- a part after the numbers that were read is a number of the whole
 pub next_number : (all turns : List ℕ) (part : List ℕ) (left : List (List ℕ)) → All (λ n. n < workers_limit) all → map decimal all ≡ map decimal turns ++ part ∷ left → (n : ℕ) × (part ≡ decimal n) × (n < workers_limit)
 next_number [] [] part left a e = absurd (cc e)
 next_number [] (t ∷ turns) part left a e = absurd (cc e)
@@ -77,7 +77,7 @@ next_number (n ∷ all) (t ∷ turns) part left a e =
     let more : map decimal all ≡ map decimal turns ++ part ∷ left = cc e in next_number all turns part left (All-tail Small n all a) more
 
 module _ {S A : Type 0} (steps : S → Option A → S → Type 0) (v : A → List ℕ) where
-  -- these turns were read of the word, and the iterator gives the parts behind them
+  -- these turns were read of the word, and the iterator gives the parts after them
   pub record Reading (word turns : List ℕ) (s : S) : Type 0 where
     pub left : List (List ℕ)
     pub yields : AlwaysYields steps v s left

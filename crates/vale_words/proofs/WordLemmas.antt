@@ -1,4 +1,4 @@
--- The first fault behind each command.
+-- The first fault after each command.
 use Rattle.std.proofs.Common.{◌≡◌, ℕ, ◌+◌, ◌<◌, ◌≤◌, Bool, true, false, List, [], ◌∷◌, ◌++◌, length, get_or, Some, refl, sym, ap, subst, ◌∙◌, arith, codes, append-nil}
 use Rattle.std.proofs.lemmas.Fmt.{decimal_digit}
 use Rattle.std.specs.Prelude.{Err}
@@ -122,7 +122,7 @@ text_alone number [] n is text few = absurd text
 text_alone number (t ∷ []) n is text few = (is, ap (λ z. z ∷ []) text)
 text_alone number (t ∷ w ∷ ws) n is text few = absurd (omega (arith, few))
 
--- behind `--text` no options stand
+-- after `--text` no options stand
 pub text_only : (number : Word) (more : List Word) (m n : ℕ) (job : Job) → BeginsText more → ((k : ℕ) → IsNumber 1 10000 number k → Some m ≡ Some k) → AsksBehind c.Gen (number ∷ more) job → j.GenText m ≡ job
 text_only number [] m n job text one asks = absurd text
 text_only number (t ∷ more) m n (j.GenText k) text one asks =

@@ -99,7 +99,7 @@ options_of chosen =
       schedule = chosen.schedule;
     }
 
--- Behind what is chosen, the words are options of two words each, in any order, each option at most once; with them it
+-- After what is chosen, the words are options of two words each, in any order, each option at most once; with them it
 -- is these options.
 abbrev pub ChoosesFrom : Chosen → List Word → Options → Type 0
 ChoosesFrom chosen [] options = options ≡ options_of chosen
@@ -133,7 +133,7 @@ abbrev pub AreTwoNames : List Word → Type 0
 AreTwoNames [] = ⊥
 AreTwoNames (name ∷ more) = IsFileName name × IsOneName more
 
--- a name, and options behind it
+-- a name, and options after it
 abbrev pub IsNameWith : List Word → Options → Type 0
 IsNameWith [] options = ⊥
 IsNameWith (name ∷ more) options = IsFileName name × ChoosesFrom nothing_chosen more options
@@ -141,12 +141,12 @@ IsNameWith (name ∷ more) options = IsFileName name × ChoosesFrom nothing_chos
 abbrev pub IsSomeNameWith : List Word → Type 0
 IsSomeNameWith words = (options : Options) × IsNameWith words options
 
--- the number of a generated program, and options behind it
+-- the number of a generated program, and options after it
 abbrev pub IsProgramWith : List Word → ℕ → Options → Type 0
 IsProgramWith [] n options = ⊥
 IsProgramWith (number ∷ more) n options = IsNumber 1 10000 number n × ChoosesFrom nothing_chosen more options
 
--- the number of a generated program, and `--text` alone behind it
+-- the number of a generated program, and `--text` alone after it
 abbrev pub IsProgramText : List Word → ℕ → Type 0
 IsProgramText [] n = ⊥
 IsProgramText (number ∷ more) n = IsNumber 1 10000 number n × (more ≡ codes "--text" ∷ [])
@@ -161,7 +161,7 @@ abbrev pub NoText : List Word → Type 0
 NoText [] = Unit {0}
 NoText (word ∷ more) = word ≢ codes "--text"
 
--- the command asks for this job with the words behind it
+-- the command asks for this job with the words after it
 abbrev pub AsksBehind : Command → List Word → Job → Type 0
 AsksBehind c.Run words (j.Run file options) = (file ≡ 1) × IsNameWith words options
 AsksBehind c.Check words (j.Check file) = (file ≡ 1) × IsOneName words

@@ -91,7 +91,7 @@ fn read_two_names(words: &[String]) -> Result<(), WordFault>
     }
 }
 
-// A name, and options behind it.
+// A name, and options after it.
 fn read_name_with(alloc: Global, words: &[String]) -> Result<Options, Fail<WordFault>>
     ensures found { IfOk result (IsNameWith (texts words.now)) }
     ensures complete { (o : Options) → IsNameWith (texts words.now) o → IsValueUnlessMemory result (λ p. p ≡ o) }
@@ -127,7 +127,7 @@ fn begins_with_text(words: &[String]) -> bool
     }
 }
 
-// The number of a generated program, and `--text` or options behind it.
+// The number of a generated program, and `--text` or options after it.
 fn read_program(alloc: Global, words: &[String]) -> Result<Job, Fail<WordFault>>
     ensures found { IfOk result (AsksBehind Command.Gen (texts words.now)) }
     ensures complete { (j : Job) → AsksBehind Command.Gen (texts words.now) j → IsValueUnlessMemory result (λ i. i ≡ j) }
@@ -154,7 +154,7 @@ fn read_program(alloc: Global, words: &[String]) -> Result<Job, Fail<WordFault>>
     }
 }
 
-// The job of a command with the words behind it.
+// The job of a command with the words after it.
 fn read_behind(alloc: Global, command: Command, words: &[String]) -> Result<Job, Fail<WordFault>>
     ensures found { IfOk result (AsksBehind command (texts words.now)) }
     ensures complete { (j : Job) → AsksBehind command (texts words.now) j → IsValueUnlessMemory result (λ i. i ≡ j) }

@@ -1,4 +1,4 @@
-// Operators and steps behind what they start from: what each is, or its own fault.
+// Operators and steps after what they start from: what each is, or its own fault.
 ghost use Rattle.std.specs.Prelude.{map};
 ghost use Rattle.std.specs.Option.{option_and_then};
 ghost use Rattle.vale_rules_spec.specs.Judged.{first, leaf, fine, Gives};
@@ -85,7 +85,7 @@ pub fn index(
     Ok(Held::new(Step::index(seen, view.into_inner(), at, index)))
 }
 
-/// An operator and the operand after it, behind an operand of which this is known.
+/// An operator and the operand after it, after an operand of which this is known.
 #[tactic(auto, using(vale_rules_spec::proofs::JudgedLaws::first_leaf))]
 pub fn operand(
     alloc: Global,

@@ -18,7 +18,7 @@ use vale_held::Held;
 use vale_syntax::{Fault, NameAt};
 use vale_type_faults::{set_fault, set_gives};
 use vale_type_rules::{
-    Scope, Table, a_value, is_movable, local_of, local_seen, may_be_set, seen_of, type_in,
+    Scope, Table, a_value, is_movable, is_outer, local_of, local_seen, may_be_set, seen_of, type_in,
 };
 
 /// The name of a local.
@@ -39,8 +39,9 @@ pub fn name(
         })),
         Some(local) => {
             let seen = local_seen(alloc, depth, local)?;
+            let is_outer = is_outer(depth, local);
             let is_moved = as_value && is_movable(depth, local);
-            Ok(Held::new(Expr::name(seen, name, is_moved)))
+            Ok(Held::new(Expr::name(seen, name, is_outer, is_moved)))
         }
     }
 }

@@ -8,29 +8,29 @@ use Rattle.vale_lower_code.specs.Sides.{sides_code, sides_ends}
 use Rattle.vale_lower_expr.specs.Surroundings.{view_around}
 use Rattle.vale_lower_code.proofs.walk.+emit.Given as goal
 
--- the code so far, and behind it that of what is left
+-- the code so far, and after it that of what is left
 
 abbrev pub invariant-emit_args-loop-at : goal.invariant-emit_args-loop-at
 invariant-emit_args-loop-at l = record {
   next : l.next ≡ l.h + l.at;
-  code : l.emission.code.items ++ args_code (view_around l.around) (exprs_of (map view_expr (drop l.at l.args))) (length l.emission.code.items) l.next (awaited l.h l.at (entries l.scope))
-      ≡ l.initial.emission.code.items ++ args_code (view_around l.around) (exprs_of (map view_expr l.args)) (length l.initial.emission.code.items) l.h (entries l.scope);
+  code : l.buffer.code.items ++ args_code (view_around l.around) (exprs_of (map view_expr (drop l.at l.args))) (length l.buffer.code.items) l.next (awaited l.h l.at (entries l.scope))
+      ≡ l.initial.buffer.code.items ++ args_code (view_around l.around) (exprs_of (map view_expr l.args)) (length l.initial.buffer.code.items) l.h (entries l.scope);
 }
 
 abbrev pub invariant-emit_links-loop-link : goal.invariant-emit_links-loop-link
 invariant-emit_links-loop-link l =
-    l.emission.code.items ++ links_code (view_around l.around) (links_of (map view_link (drop l.link-index l.slice))) (length l.emission.code.items) l.h (entries l.scope)
-    ≡ l.initial.emission.code.items ++ links_code (view_around l.around) (links_of (map view_link l.slice)) (length l.initial.emission.code.items) l.h (entries l.scope)
+    l.buffer.code.items ++ links_code (view_around l.around) (links_of (map view_link (drop l.link-index l.slice))) (length l.buffer.code.items) l.h (entries l.scope)
+    ≡ l.initial.buffer.code.items ++ links_code (view_around l.around) (links_of (map view_link l.slice)) (length l.initial.buffer.code.items) l.h (entries l.scope)
 
 abbrev pub invariant-emit_else_ifs-loop-else_if : goal.invariant-emit_else_ifs-loop-else_if
 invariant-emit_else_ifs-loop-else_if l = record {
-  code : l.emission.code.items ++ sides_code (view_around l.around) l.gives (map view_else_if (drop l.else_if-index l.slice)) 0 (length l.emission.code.items) l.h (entries l.scope)
-      ≡ l.initial.emission.code.items ++ sides_code (view_around l.around) l.gives (map view_else_if l.slice) 0 (length l.initial.emission.code.items) l.h (entries l.scope);
-  ends : l.ends.items ++ sides_ends (view_around l.around) l.gives (map view_else_if (drop l.else_if-index l.slice)) (length l.emission.code.items) l.h (entries l.scope)
-      ≡ l.initial.ends.items ++ sides_ends (view_around l.around) l.gives (map view_else_if l.slice) (length l.initial.emission.code.items) l.h (entries l.scope);
+  code : l.buffer.code.items ++ sides_code (view_around l.around) l.gives (map view_else_if (drop l.else_if-index l.slice)) 0 (length l.buffer.code.items) l.h (entries l.scope)
+      ≡ l.initial.buffer.code.items ++ sides_code (view_around l.around) l.gives (map view_else_if l.slice) 0 (length l.initial.buffer.code.items) l.h (entries l.scope);
+  ends : l.ends.items ++ sides_ends (view_around l.around) l.gives (map view_else_if (drop l.else_if-index l.slice)) (length l.buffer.code.items) l.h (entries l.scope)
+      ≡ l.initial.ends.items ++ sides_ends (view_around l.around) l.gives (map view_else_if l.slice) (length l.initial.buffer.code.items) l.h (entries l.scope);
 }
 
 abbrev pub invariant-emit_block-loop-stmt : goal.invariant-emit_block-loop-stmt
 invariant-emit_block-loop-stmt l =
-    l.emission.code.items ++ stmts_code (view_around l.around) l.gives (stmts_of (map view_stmt (drop l.stmt-index l.stmts)) (option_map view_expr (out-Block l.block).last)) (length l.emission.code.items) l.to l.frame.next (framed l.frame.locals.items (entries l.scope))
-    ≡ l.initial.emission.code.items ++ stmts_code (view_around l.around) l.gives (stmts_of (map view_stmt l.stmts) (option_map view_expr (out-Block l.block).last)) (length l.initial.emission.code.items) l.to l.h (entries l.scope)
+    l.buffer.code.items ++ stmts_code (view_around l.around) l.gives (stmts_of (map view_stmt (drop l.stmt-index l.stmts)) (option_map view_expr (out-Block l.block).last)) (length l.buffer.code.items) l.to l.frame.next (framed l.frame.locals.items (entries l.scope))
+    ≡ l.initial.buffer.code.items ++ stmts_code (view_around l.around) l.gives (stmts_of (map view_stmt l.stmts) (option_map view_expr (out-Block l.block).last)) (length l.initial.buffer.code.items) l.to l.h (entries l.scope)

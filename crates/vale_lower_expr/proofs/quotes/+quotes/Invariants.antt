@@ -3,7 +3,7 @@ use Rattle.vale_core.specs.View.{view_expr, view_stmt, view_else_if, view_link, 
 use Rattle.vale_lowering.specs.Texts.{exprs_quotes, links_quotes, elses_quotes, stmts_quotes}
 use Rattle.vale_lower_expr.proofs.quotes.+quotes.Given as goal
 
--- the texts so far, and behind them the quotes of what is left
+-- the texts so far, and after them the quotes of what is left
 
 abbrev pub invariant-add_exprs-loop-expr : goal.invariant-add_exprs-loop-expr
 invariant-add_exprs-loop-expr l = l.texts ++ exprs_quotes (exprs_of (map view_expr (drop l.expr-index l.exprs))) ≡ l.initial.texts ++ exprs_quotes (exprs_of (map view_expr l.exprs))

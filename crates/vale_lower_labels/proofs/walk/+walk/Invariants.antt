@@ -8,7 +8,7 @@ use Rattle.vale_lower_labels.specs.Standing.{stand, framed, waited, slots_of, pl
 use Rattle.vale_lower_labels.specs.Sides.{sides_marks, sides_due}
 use Rattle.vale_lower_labels.proofs.walk.+walk.Given as goal
 
--- the labels so far, and behind them those of what is left
+-- the labels so far, and after them those of what is left
 
 abbrev pub invariant-walk_args-loop-at : goal.invariant-walk_args-loop-at
 invariant-walk_args-loop-at l = record {

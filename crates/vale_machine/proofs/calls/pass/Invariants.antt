@@ -4,7 +4,7 @@ use Rattle.vale_machine.specs.Cells.{values_in}
 use Rattle.vale_machine.proofs.Passing.{IsPassing}
 use Rattle.vale_machine.proofs.calls.pass.Given as goal
 
--- the values so far were put behind the cells
+-- the values so far were put after the cells
 abbrev pub invariant-loop-i : goal.invariant-loop-i
 invariant-loop-i l =
     let registers = values_in (drop l.base l.fn.cells.items) in

@@ -1,8 +1,8 @@
 use Rattle.std.proofs.Common.{map, refl}
 use Rattle.std.specs.Prelude.{None}
 use Rattle.vale_core.specs.View.{view_expr, view_stmt, view_step, view_link, view_else_if, exprs_of, links_of, steps_of, stmts_of}
-use Rattle.vale_owner.specs.After.{after_expr, after_exprs, after_link, after_links, after_step, after_steps, after_stmt, after_stmts, after_else_if, after_else_ifs, ways_of_else_if, ways_of_else_ifs}
-use Rattle.vale_owner.proofs.ListLaws.{list_next, list_done, ways_next, ways_done}
+use Rattle.vale_owner.specs.After.{after_expr, after_exprs, after_link, after_links, after_step, after_steps, after_stmt, after_stmts, after_else_if, after_else_ifs, branches_of_else_if, branches_of_else_ifs}
+use Rattle.vale_owner.proofs.ListLaws.{list_next, list_done, branches_next, branches_done}
 use Rattle.vale_owner.proofs.WalkLaws as w
 use Rattle.vale_owner.proofs.walk.+walk.Goals as goal
 
@@ -46,14 +46,14 @@ pub walk_else_ifs-loop-else_if-preserved : goal.walk_else_ifs-loop-else_if-prese
 walk_else_ifs-loop-else_if-preserved t c = record {
   behind = list_next (λ es f. after_else_ifs (map view_else_if es) f) (λ e f. after_else_if (view_else_if e) f) (λ e es f. refl)
       c.as_slice-slice.result.now c.loop-else_if.else_if-index c.else_if-item.result c.else_if-item.result _ _ _ c.loop-else_if-test.true c.else_if-item.is c.in_ok-walk_else_if.ensures.found c.loop-else_if.invariant.behind;
-  way = ways_next (λ es f k. ways_of_else_ifs (map view_else_if es) f k) (λ e f. after_else_if (view_else_if e) f) (λ e f k. ways_of_else_if (view_else_if e) f k) (λ e es f k. refl)
-      c.as_slice-slice.result.now c.loop-else_if.else_if-index c.else_if-item.result c.else_if-item.result _ _ _ _ _ c.loop-else_if-test.true c.else_if-item.is c.in_ok-walk_else_if.ensures.found c.in_ok-walk_else_if.ensures.way c.loop-else_if.invariant.way;
+  branch = branches_next (λ es f k. branches_of_else_ifs (map view_else_if es) f k) (λ e f. after_else_if (view_else_if e) f) (λ e f k. branches_of_else_if (view_else_if e) f k) (λ e es f k. refl)
+      c.as_slice-slice.result.now c.loop-else_if.else_if-index c.else_if-item.result c.else_if-item.result _ _ _ _ _ c.loop-else_if-test.true c.else_if-item.is c.in_ok-walk_else_if.ensures.found c.in_ok-walk_else_if.ensures.branch c.loop-else_if.invariant.branch;
 }
 
 pub walk_else_ifs-returns-clause-found : goal.walk_else_ifs-returns-clause-found
 walk_else_ifs-returns-clause-found t c = rw c.as_slice-slice.ensures at
     (list_done (λ es f. after_else_ifs (map view_else_if es) f) (λ f. refl) c.as_slice-slice.result.now c.loop-else_if.else_if-index _ _ c.loop-else_if-test.false c.loop-else_if.invariant.behind)
 
-pub walk_else_ifs-returns-clause-way : goal.walk_else_ifs-returns-clause-way
-walk_else_ifs-returns-clause-way t c = rw c.as_slice-slice.ensures at
-    (ways_done (λ es f k. ways_of_else_ifs (map view_else_if es) f k) (λ f k. refl) c.as_slice-slice.result.now c.loop-else_if.else_if-index _ _ _ c.loop-else_if-test.false c.loop-else_if.invariant.way)
+pub walk_else_ifs-returns-clause-branch : goal.walk_else_ifs-returns-clause-branch
+walk_else_ifs-returns-clause-branch t c = rw c.as_slice-slice.ensures at
+    (branches_done (λ es f k. branches_of_else_ifs (map view_else_if es) f k) (λ f k. refl) c.as_slice-slice.result.now c.loop-else_if.else_if-index _ _ _ c.loop-else_if-test.false c.loop-else_if.invariant.branch)

@@ -3,8 +3,8 @@ use Rattle.vale_sound.proofs.laws.well_formed_programs_run.Goals as goal
 
 pub returns : goal.returns
 returns c = λ text tree decls program bytes formed covered.
-    let suits = c.well_formed_programs_suit.ensures text tree decls program bytes formed covered in
-    let code = c.suitable_code_does_what_is_meant.ensures in
+    let suits = c.well_formed_programs_are_well_typed.ensures text tree decls program bytes formed covered in
+    let code = c.well_typed_code_does_what_is_meant.ensures in
     let wrong = code.never_wrong program covered suits in
     record {
       certified = c.lowered_code_is_certified.ensures program covered suits;

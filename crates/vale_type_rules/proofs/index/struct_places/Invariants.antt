@@ -5,6 +5,6 @@ use Rattle.vale_type_rules.specs.Places.{place_in, place_from}
 use Rattle.vale_type_rules.specs.Index.{struct_key}
 use Rattle.vale_type_rules.proofs.index.struct_places.Given as goal
 
--- the places so far, and behind them those of what is left, are those of all
+-- the places so far, and after them those of what is left, are those of all
 abbrev pub invariant-loop-at : goal.invariant-loop-at
 invariant-loop-at l = (n : ℕ) → or_else (place_in l.places n) (place_from l.at (map struct_key (map view_item (drop l.at l.items))) n) ≡ place_from 0 (map struct_key (map view_item l.items)) n
