@@ -11,4 +11,5 @@ mod LongerSteps
 mod LoopExamples
 mod NumberExamples
 mod ObjectExamples
+pub mod OperandLaws
 pub mod RunLaws

@@ -7,6 +7,7 @@ pub mod Instructions
 pub mod Kinds
 pub mod Loops
 pub mod Need
+pub mod Operands
 pub mod Parts
 pub mod Registers
 pub mod Run
