@@ -1,9 +1,10 @@
 // Whether the numbers of instructions lie inside their tables.
 ghost use Rattle.std.specs.Prelude.{◌≡◌, slice_get};
-ghost use Rattle.vale_cert.specs.Numbers.{is_text, are_registers, takes_result, calls_function, calls_method, calls_interface, dispatches, loop_numbers, object_numbers, numbers};
+ghost use Rattle.vale_cert.specs.Numbers.{is_text, is_function, method_from, has_method, is_void_function, is_void_method, is_void_call, in_tables, numbers};
 
 use crate::lawful::is_kind;
-use vale_code::{Code, Instr, KindInfo, MethodInfo, Ty};
+use crate::types::is_void;
+use vale_code::{Code, Instr, KindInfo};
 
 pub fn is_text(code: &Code, n: u32) -> bool
     ensures { result ≡ is_text code.now n }
@@ -11,188 +12,88 @@ pub fn is_text(code: &Code, n: u32) -> bool
     (n as usize) < code.texts.len()
 }
 
-fn are_registers(registers: u32, list: &[u32]) -> bool
-    ensures { result ≡ are_registers registers list.now }
+fn is_function(code: &Code, n: u32) -> bool
+    ensures { result ≡ is_function code.now n }
 {
-    for r in list {
-        if *r >= registers {
-            return false;
-        }
-    }
-    true
+    (n as usize) < code.funcs.len()
 }
 
-fn takes_result(registers: u32, ty: Ty, to: u32) -> bool
-    ensures { result ≡ takes_result registers ty to }
-{
-    match ty {
-        Ty::Void => true,
-        _ => to < registers,
-    }
-}
-
-fn calls_function(code: &Code, registers: u32, func: u32, to: u32) -> bool
-    ensures { result ≡ calls_function registers (slice_get code.now.funcs func) to }
-{
-    match code.funcs.as_slice().get(func as usize) {
-        None => false,
-        Some(callee) => takes_result(registers, callee.result, to),
-    }
-}
-
-fn calls_method(registers: u32, methods: &[MethodInfo], method: u32, to: u32) -> bool
-    ensures { result ≡ calls_method registers (slice_get methods.now method) to }
-{
-    match methods.get(method as usize) {
-        None => false,
-        Some(m) => takes_result(registers, m.result, to),
-    }
-}
-
-fn calls_interface(code: &Code, registers: u32, interface: u32, method: u32, to: u32) -> bool
-    ensures { result ≡ calls_interface registers (slice_get code.now.kinds interface) method to }
+fn has_method(code: &Code, interface: u32, method: u32) -> bool
+    ensures { result ≡ has_method (slice_get code.now.kinds interface) method }
 {
     match code.kinds.as_slice().get(interface as usize) {
         None => false,
-        Some(KindInfo::Interface { methods, .. }) => calls_method(
-            registers,
-            methods.as_slice(),
-            method,
-            to,
-        ),
-        Some(KindInfo::Struct { .. } | KindInfo::Array { .. }) => to < registers,
+        Some(KindInfo::Interface { methods, .. }) => (method as usize) < methods.len(),
+        Some(KindInfo::Struct { .. } | KindInfo::Array { .. }) => true,
     }
 }
 
-fn dispatches(
-    code: &Code,
-    registers: u32,
-    interface: u32,
-    method: u32,
-    to: u32,
-    object: u32,
-    args: &[u32],
-) -> bool
-    ensures { result ≡ dispatches code.now registers interface method to object args.now }
-{
-    calls_interface(code, registers, interface, method, to)
-        && object < registers
-        && are_registers(registers, args)
-}
+// ---- calls of which nothing comes back
 
-fn loop_numbers(code: &Code, registers: u32, instr: &Instr) -> bool
-    ensures { result ≡ loop_numbers code.now registers instr.now }
+fn is_void_function(code: &Code, func: u32) -> bool
+    ensures { result ≡ is_void_function (slice_get code.now.funcs func) }
 {
-    match instr {
-        Instr::ParRange {
-            to,
-            first,
-            end,
-            func,
-            args,
-            ..
-        } => {
-            calls_function(code, registers, *func, *to)
-                && *first < registers
-                && *end < registers
-                && are_registers(registers, args.as_slice())
-        }
-        Instr::ParEach {
-            to,
-            array,
-            func,
-            args,
-            ..
-        } => {
-            calls_function(code, registers, *func, *to)
-                && *array < registers
-                && are_registers(registers, args.as_slice())
-        }
-        Instr::Upcast { to, from, kind } => {
-            *to < registers && *from < registers && is_kind(code, *kind)
-        }
-        _ => true,
+    match code.funcs.as_slice().get(func as usize) {
+        None => false,
+        Some(callee) => is_void(callee.result),
     }
 }
 
-fn object_numbers(code: &Code, registers: u32, instr: &Instr) -> bool
-    ensures { result ≡ object_numbers code.now registers instr.now }
+fn is_void_method(code: &Code, interface: u32, method: u32) -> bool
+    ensures { result ≡ is_void_method (method_from (slice_get code.now.kinds interface) method) }
 {
-    let n = registers;
+    match code.kinds.as_slice().get(interface as usize) {
+        Some(KindInfo::Interface { methods, .. }) => match methods.as_slice().get(method as usize) {
+            None => false,
+            Some(m) => is_void(m.result),
+        },
+        _ => false,
+    }
+}
+
+fn is_void_call(code: &Code, instr: &Instr) -> bool
+    ensures { result ≡ is_void_call code.now instr.now }
+{
     match instr {
+        Instr::Call { func, .. } | Instr::ParRange { func, .. } | Instr::ParEach { func, .. } => {
+            is_void_function(code, *func)
+        }
         Instr::CallM {
-            to,
             interface,
             method,
-            object,
-            args,
             ..
         }
         | Instr::CallMLive {
-            to,
             interface,
             method,
-            object,
-            args,
             ..
-        } => { dispatches(code, n, *interface, *method, *to, *object, args.as_slice()) }
-        Instr::Make { to, kind, args } => {
-            *to < n && is_kind(code, *kind) && are_registers(n, args.as_slice())
+        } => { is_void_method(code, *interface, *method) }
+        _ => false,
+    }
+}
+
+fn in_tables(code: &Code, instr: &Instr) -> bool
+    ensures { result ≡ in_tables code.now instr.now }
+{
+    match instr {
+        Instr::Truth { choice, .. } | Instr::Print { choice, .. } => *choice < 2,
+        Instr::Cmp { choice, .. } => *choice < 6,
+        Instr::Text { text, .. } => is_text(code, *text),
+        Instr::Call { func, .. } | Instr::ParRange { func, .. } | Instr::ParEach { func, .. } => {
+            is_function(code, *func)
         }
-        Instr::LoadOwn { to, object, .. }
-        | Instr::Load { to, object, .. }
-        | Instr::LoadLive { to, object, .. }
-        | Instr::Len { to, object, .. }
-        | Instr::LenLive { to, object }
-        | Instr::Pop { to, object, .. } => *to < n && *object < n,
-        Instr::ElemOwn {
-            to,
-            object,
-            index,
-            ..
-        }
-        | Instr::Elem {
-            to,
-            object,
-            index,
+        Instr::CallM {
+            interface,
+            method,
             ..
         }
-        | Instr::ElemLive {
-            to,
-            object,
-            index,
+        | Instr::CallMLive {
+            interface,
+            method,
             ..
-        } => *to < n && *object < n && *index < n,
-        Instr::SwapOwn {
-            to,
-            object,
-            value,
-            ..
-        }
-        | Instr::Swap {
-            to,
-            object,
-            value,
-            ..
-        } => *to < n && *object < n && *value < n,
-        Instr::SwapElOwn {
-            to,
-            object,
-            index,
-            value,
-            ..
-        }
-        | Instr::SwapEl {
-            to,
-            object,
-            index,
-            value,
-            ..
-        } => *to < n && *object < n && *index < n && *value < n,
-        Instr::Push { object, value, .. } => *object < n && *value < n,
-        Instr::Open { to, from } => are_registers(n, to.as_slice()) && *from < n,
-        Instr::Destroy { from, .. } => *from < n,
-        _ => loop_numbers(code, n, instr),
+        } => { has_method(code, *interface, *method) }
+        Instr::Make { kind, .. } | Instr::Upcast { kind, .. } => is_kind(code, *kind),
+        _ => true,
     }
 }
 
@@ -200,109 +101,7 @@ fn object_numbers(code: &Code, registers: u32, instr: &Instr) -> bool
 pub fn numbers(code: &Code, registers: u32, instr: &Instr) -> bool
     ensures { result ≡ numbers code.now registers instr.now }
 {
-    let n = registers;
-    match instr {
-        Instr::Int { to, .. } => *to < n,
-        Instr::Truth { to, choice } => *to < n && *choice < 2,
-        Instr::Text { to, text } => *to < n && is_text(code, *text),
-        Instr::Copy { to, from }
-        | Instr::Move { to, from }
-        | Instr::Not { to, from }
-        | Instr::TextLen { to, from }
-        | Instr::TextOf { to, from }
-        | Instr::IsNum { to, from }
-        | Instr::Num { to, from, .. }
-        | Instr::Borrow { to, from }
-        | Instr::Frozen { to, from }
-        | Instr::Merge { to, from }
-        | Instr::ThawMerge { to, from }
-        | Instr::ThawKeep { to, from } => *to < n && *from < n,
-        Instr::Add {
-            to,
-            left,
-            right,
-            ..
-        }
-        | Instr::Sub {
-            to,
-            left,
-            right,
-            ..
-        }
-        | Instr::Mul {
-            to,
-            left,
-            right,
-            ..
-        }
-        | Instr::Div {
-            to,
-            left,
-            right,
-            ..
-        }
-        | Instr::Rem {
-            to,
-            left,
-            right,
-            ..
-        }
-        | Instr::Join {
-            to,
-            left,
-            right,
-            ..
-        } => *to < n && *left < n && *right < n,
-        Instr::Cmp {
-            to,
-            choice,
-            left,
-            right,
-        } => *to < n && *left < n && *right < n && *choice < 6,
-        Instr::Slice {
-            to,
-            from,
-            first,
-            end,
-            ..
-        } => *to < n && *from < n && *first < n && *end < n,
-        Instr::Byte {
-            to,
-            from,
-            index,
-            ..
-        } => *to < n && *from < n && *index < n,
-        Instr::Print { from, choice } => *from < n && *choice < 2,
-        Instr::Unless { condition, .. } => *condition < n,
-        Instr::Call { to, func, args, .. } => calls_function(code, n, *func, *to)
-            && are_registers(n, args.as_slice()),
-        Instr::Ret { from } => *from < n,
-        Instr::Jump { .. }
-        | Instr::Tick
-        | Instr::CallM { .. }
-        | Instr::CallMLive { .. }
-        | Instr::RetVoid
-        | Instr::Make { .. }
-        | Instr::LoadOwn { .. }
-        | Instr::Load { .. }
-        | Instr::LoadLive { .. }
-        | Instr::ElemOwn { .. }
-        | Instr::Elem { .. }
-        | Instr::ElemLive { .. }
-        | Instr::Len { .. }
-        | Instr::LenLive { .. }
-        | Instr::SwapOwn { .. }
-        | Instr::Swap { .. }
-        | Instr::SwapElOwn { .. }
-        | Instr::SwapEl { .. }
-        | Instr::Push { .. }
-        | Instr::Pop { .. }
-        | Instr::Open { .. }
-        | Instr::Destroy { .. }
-        | Instr::Freeze { .. }
-        | Instr::ThawClear
-        | Instr::ParRange { .. }
-        | Instr::ParEach { .. }
-        | Instr::Upcast { .. } => object_numbers(code, n, instr),
-    }
+    instr.reads().are_below(registers)
+        && (is_void_call(code, instr) || instr.writes().are_below(registers))
+        && in_tables(code, instr)
 }
