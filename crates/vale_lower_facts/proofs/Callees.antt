@@ -3,6 +3,7 @@ use Rattle.std.proofs.Common.{◌≡◌, ℕ, zero, suc, ◌+◌, ◌<◌, ◌�
 use Rattle.std.specs.Prelude.{slice_get, slice_set, nat_lt}
 use Rattle.std.specs.List.{list_all}
 use Rattle.std.proofs.lemmas.Bool.{and_parts, and_from, lt-ltb, eq-eqb}
+use Rattle.std.proofs.lemmas.Option.{slice_get_within}
 use Rattle.vale_base.specs.declared.spot.Spot.{Spot}
 use Rattle.vale_syntax.specs.declared.built_in.BuiltIn.{BuiltIn}
 use Rattle.vale_syntax.specs.declared.built_in.BuiltIn.TheVariants as b
@@ -14,24 +15,24 @@ use Rattle.vale_rules_spec.specs.TypeRules.{is_int, is_array_ref, takes_argument
 use Rattle.vale_rules_spec.specs.Typed.{Expr, Exprs, no_exprs, more_exprs, type, types, Function}
 use Rattle.vale_model.specs.Kinds.{head_of}
 use Rattle.vale_model.specs.Parts.{first_function, has_name}
+use Rattle.vale_code.specs.Operands.{room_of, room_for}
 use Rattle.vale_code.specs.declared.instr.Instr.{Instr}
 use Rattle.vale_code.specs.declared.instr.Instr.TheVariants as i
 use Rattle.vale_code.specs.declared.ty.Ty.{Ty as CodeTy}
 use Rattle.vale_code.specs.declared.ty.Ty.TheVariants as t
 use Rattle.vale_cert.specs.Known.{Known, fact_of}
-use Rattle.vale_cert.specs.Numbers.{numbers, takes_result, calls_function}
 use Rattle.vale_cert.specs.Rules.{Row, gets, passes_all, comes_back, all_fine, calls, call_by_form}
 use Rattle.vale_cert.specs.declared.facts.RegFact.TheVariants.{Held}
 use Rattle.vale_lowering.specs.Covered.{type_is_covered, built_in_is_covered}
 use Rattle.vale_lowering.specs.Instructions.{registers_from, built_in_code}
-use Rattle.vale_lowering.specs.Lowered.{count, call_code, room_of}
+use Rattle.vale_lowering.specs.Lowered.{count, call_code}
 use Rattle.vale_lowering.specs.Scopes.{code_type, agree, may_be_called, number_of_function, result_type}
 use Rattle.vale_lower_facts.specs.Slots.{waits, holds, Stand, with_slot, given, type_at}
 use Rattle.vale_lower_facts.specs.Marks.{mark, marked, with_args}
 use Rattle.vale_lower_facts.specs.WellTyped.{IsBuiltIn, IsCalled}
 use Rattle.vale_lower_facts.proofs.Stands.{Site, Covers, covers_less, covers_write, covers_kept, is_plain, plain_free, plain_less, plain_given, Below, below_slot}
 use Rattle.vale_lower_facts.proofs.Runs.{row_at, Does, Runs, single}
-use Rattle.vale_lower_facts.proofs.Rows.{Fine, all_kept, Stored, all_passed, print_runs, len_runs, text_of_runs, slice_runs, byte_runs, is_num_runs, num_runs}
+use Rattle.vale_lower_facts.proofs.Rows.{Fine, all_kept, Stored, all_passed, numbered, print_runs, len_runs, text_of_runs, slice_runs, byte_runs, is_num_runs, num_runs}
 use Rattle.vale_lower_facts.proofs.Names.{copies_too, IsFunc, Context, says_args, arg_here}
 use Rattle.vale_lower_facts.proofs.Operators.{int_type, chosen_marked}
 
@@ -135,10 +136,6 @@ module _ (k : Site) where
     stored known es (h + 1) (with_slot (waits h (type e)) s) (below_slot k (waits h (type e)) b) c (omega (arith, room)),
   )
 
-  all_registers : (h n : ℕ) → room_of (registers_from h n) ≤ k.func.registers → list_all (λ r. nat_lt r k.func.registers) (registers_from h n) ≡ true
-  all_registers h zero room = refl
-  all_registers h (suc n) room = and_from _ _ (lt-ltb h k.func.registers (omega (arith, room))) (all_registers (h + 1) n (omega (arith, room)))
-
   -- what comes back from a call
   record Back (to : ℕ) (x : Ty) (known : Known) (s : Stand) (row : Row) : Type 0 where
     fine : Fine row.kept
@@ -165,16 +162,6 @@ module _ (k : Site) where
   comes_does to (y.imm x) known s row cov f same c = absurd (cc)
   comes_does to (y.iso x) known s row cov f same c = absurd (cc)
 
-  result_taken : (ty : CodeTy) (to : ℕ) → to < k.func.registers → takes_result k.func.registers ty to ≡ true
-  result_taken t.Void to lt = refl
-  result_taken t.Int to lt = lt-ltb to k.func.registers lt
-  result_taken t.Truth to lt = lt-ltb to k.func.registers lt
-  result_taken t.Text to lt = lt-ltb to k.func.registers lt
-  result_taken (t.Own m) to lt = lt-ltb to k.func.registers lt
-  result_taken (t.Ref m) to lt = lt-ltb to k.func.registers lt
-  result_taken (t.Frozen m) to lt = lt-ltb to k.func.registers lt
-  result_taken (t.Iso m) to lt = lt-ltb to k.func.registers lt
-
   module _ (n : ℕ) (f : Function) (fc : IsFunc (slice_get k.code.funcs n) f) (es : Exprs) (taken : types es ≡ param_types (head_params (head_of f))) (at : Spot) (h : ℕ) (s : Stand) (below : Below k h s) where
     abbrev instr : Instr
     instr = i.Call h n (registers_from h (count es)) at
@@ -197,7 +184,7 @@ module _ (k : Site) where
     copies : list_all y.is_copy (types es) ≡ true
     copies = ap (list_all y.is_copy) taken ∙ fc.copies
 
-    call_does : max (h + 1) (room_of (registers_from h (count es))) ≤ k.func.registers → (known : Known) → Covers k known (with_args es h s) → Does k instr known (given (y.is_copy (result_type f)) h (result_type f) s)
+    call_does : room_for instr ≤ k.func.registers → (known : Known) → Covers k known (with_args es h s) → Does k instr known (given (y.is_copy (result_type f)) h (result_type f) s)
     call_does room known c =
         let p = all_passed k known.depth known.regs h (types es) (all_fine known.regs) copies (stored known es h s below c (omega (arith, room))) refl all_kept in
         let q = comes_does h (result_type f) known s (passing known) fc.covered p.0 p.1 (covers_less k c (says_args k es h below)) in
@@ -208,13 +195,8 @@ module _ (k : Site) where
           covers = subst (λ r. Covers k (record { depth = known.depth; regs = r.after }) (given (y.is_copy (result_type f)) h (result_type f) s)) (sym (row_is known)) q.covers;
         }
 
-    call_numbers : max (h + 1) (room_of (registers_from h (count es))) ≤ k.func.registers → numbers k.code k.func.registers instr ≡ true
-    call_numbers room =
-        and_from _ _ (ap (λ o. calls_function k.func.registers o h) fc.is ∙ result_taken fc.func.result h (omega (arith, room)))
-        (all_registers h (count es) (omega (arith, room)))
-
     call_single : {p : ℕ} {due : Bool} → Runs k p (instr ∷ []) (mark due (with_args es h s) ∷ []) due (with_args es h s) false (given (y.is_copy (result_type f)) h (result_type f) s)
-    call_single = single k instr refl refl call_numbers call_does (λ p. plain_given k (y.is_copy (result_type f)) h (result_type f) (λ q. copies_too (result_type f) q) (plain_less k (says_args k es h below) p))
+    call_single = single k instr refl refl (numbered k instr (lt-ltb n (length k.code.funcs) (slice_get_within k.code.funcs n fc.func fc.is))) call_does (λ p. plain_given k (y.is_copy (result_type f)) h (result_type f) (λ q. copies_too (result_type f) q) (plain_less k (says_args k es h below) p))
 
   pub call_runs : (c : Context k) (n : NameAt) (es : Exprs) (x : Ty) (p h : ℕ) (s : Stand) (due : Bool) → IsCalled c.around.functions n (types es) x → Below k h s
       → Runs k p (call_code c.around (y.is_copy x) n (count es) h) (marked due (with_args es h s) (call_code c.around (y.is_copy x) n (count es) h)) due (with_args es h s) false (given (y.is_copy x) h x s)

@@ -312,7 +312,7 @@ module _ (p : Parts) (covered : list_all function_is_covered (functions_in p) �
     -- ---- its shape
 
     numbered_end : (b : Bool) → list_all (numbers code (func f).registers) (end_code b count) ≡ true
-    numbered_end true = and_from _ _ (lt-ltb count (func f).registers (omega arith)) refl
+    numbered_end true = and_from _ _ (and_from _ _ (and_from _ _ (and_from _ _ (lt-ltb count (func f).registers (omega arith)) refl) refl) refl) refl
     numbered_end false = refl
 
     numbered : list_all (numbers code (func f).registers) whole ≡ true

@@ -6,20 +6,21 @@ use Rattle.std.proofs.lemmas.Bool.{and_parts, and_from, lt-ltb}
 use Rattle.vale_base.specs.declared.spot.Spot.{Spot}
 use Rattle.vale_rules_spec.specs.Types.{Ty}
 use Rattle.vale_rules_spec.specs.Types as y
+use Rattle.vale_code.specs.Operands.{reads as registers_read, writes, room_of, room_for}
 use Rattle.vale_code.specs.declared.instr.Instr.{Instr}
 use Rattle.vale_code.specs.declared.instr.Instr.TheVariants as i
 use Rattle.vale_code.specs.declared.ty.Ty.{Ty as CodeTy}
 use Rattle.vale_code.specs.declared.ty.Ty.TheVariants as t
 use Rattle.vale_cert.specs.Types.{is_copy}
 use Rattle.vale_cert.specs.Known.{Known, fact_of, is_there, has}
-use Rattle.vale_cert.specs.Numbers.{numbers}
+use Rattle.vale_code.proofs.OperandLaws.{below_room}
+use Rattle.vale_cert.specs.Numbers.{numbers, in_tables, is_void_call}
 use Rattle.vale_cert.specs.Rules.{Row, fine, reads, uses, gets, copy_of, is_copied, is_usable, is_ordered, is_comparable, are_alike, is_printable, is_short, if_types, passed, passes_all}
 use Rattle.vale_cert.specs.Walk.{goes_on, target_of}
 use Rattle.vale_cert.specs.declared.facts.RegFact.{RegFact}
 use Rattle.vale_cert.specs.declared.facts.RegFact.TheVariants.{Held}
 use Rattle.vale_cert.specs.declared.rules.Kept.{Kept}
 use Rattle.vale_lowering.specs.Instructions.{registers_from}
-use Rattle.vale_lowering.specs.Lowered.{room_for}
 use Rattle.vale_lowering.specs.Scopes.{code_type}
 use Rattle.vale_lower_facts.specs.Slots.{Slot, slot_register, slot_type, holds, Stand, with_slot, type_at}
 use Rattle.vale_lower_facts.specs.Marks.{mark}
@@ -70,6 +71,20 @@ uses_fine depth regs a {ty} {kept} f copy e = record {
 }
 
 module _ (k : Site) where
+  -- ---- numbers inside their tables
+
+  or_right : (a b : Bool) → b ≡ true → (a || b) ≡ true
+  or_right true b e = refl
+  or_right false b e = e
+
+  -- where there are registers enough
+  pub numbered : (instr : Instr) → in_tables k.code instr ≡ true → room_for instr ≤ k.func.registers → numbers k.code k.func.registers instr ≡ true
+  numbered instr inside room =
+      and_from _ _
+      (and_from _ _ (below_room k.func.registers (registers_read instr) (omega (arith, room)))
+      (or_right (is_void_call k.code instr) _ (below_room k.func.registers (writes instr) (omega (arith, room)))))
+      inside
+
   -- ---- a value goes to a register
 
   pub gets_does : {known : Known} {s : Stand} (instr : Instr) (x : Slot) (kept : Kept) → row_at k instr known ≡ gets known.depth known.regs (slot_register x) (code_type (slot_type x)) kept → Fine kept → is_copy (code_type (slot_type x)) ≡ true → Covers k known s → Does k instr known (with_slot x s)
@@ -82,10 +97,10 @@ module _ (k : Site) where
 
   -- from no register
   pub sets : {p : ℕ} {due : Bool} {s : Stand} (instr : Instr) (x : Slot) (kept : Kept) → goes_on instr ≡ true → target_of instr ≡ None → is_copy (code_type (slot_type x)) ≡ true → Fine kept
-      → (room_for instr ≤ k.func.registers → numbers k.code k.func.registers instr ≡ true)
+      → in_tables k.code instr ≡ true
       → ((known : Known) → row_at k instr known ≡ gets known.depth known.regs (slot_register x) (code_type (slot_type x)) kept)
       → Runs k p (instr ∷ []) (mark due s ∷ []) due s false (with_slot x s)
-  sets instr x kept on none copy f number is = single k instr on none number (λ room known c. gets_does instr x kept (is known) f copy c) (plain_slot k x copy)
+  sets instr x kept on none copy f inside is = single k instr on none (numbered instr inside) (λ room known c. gets_does instr x kept (is known) f copy c) (plain_slot k x copy)
 
   -- a register holds a value of a type
   abbrev pub Has : Stand → ℕ → CodeTy → Type 0
@@ -94,21 +109,21 @@ module _ (k : Site) where
   -- from one, two or three registers; what is known of others stays
   pub from_one : {p : ℕ} {due : Bool} {s u : Stand} (instr : Instr) (x : Slot) (a : ℕ) (ty : CodeTy) → goes_on instr ≡ true → target_of instr ≡ None → is_copy (code_type (slot_type x)) ≡ true → is_copy ty ≡ true
       → (room_for instr ≤ k.func.registers → a < k.func.registers)
-      → (room_for instr ≤ k.func.registers → numbers k.code k.func.registers instr ≡ true)
+      → in_tables k.code instr ≡ true
       → ((known : Known) → row_at k instr known ≡ gets known.depth known.regs (slot_register x) (code_type (slot_type x)) (reads known.regs a ty fine))
       → Has s a ty → Says k s u → Runs k p (instr ∷ []) (mark due s ∷ []) due s false (with_slot x u)
-  from_one instr x a ty on none copy cty lt number is ha less =
-      single k instr on none number
+  from_one instr x a ty on none copy cty lt inside is ha less =
+      single k instr on none (numbered instr inside)
       (λ room known c. gets_does instr x (reads known.regs a ty fine) (is known) (reads_fine known.regs a all_kept cty (c.held a ty (lt room) ha)) copy (covers_less k c less))
       (λ p. plain_slot k x copy (plain_less k less p))
 
   pub from_two : {p : ℕ} {due : Bool} {s u : Stand} (instr : Instr) (x : Slot) (a b : ℕ) (ta tb : CodeTy) → goes_on instr ≡ true → target_of instr ≡ None → is_copy (code_type (slot_type x)) ≡ true → is_copy ta ≡ true → is_copy tb ≡ true
       → (room_for instr ≤ k.func.registers → (a < k.func.registers) × (b < k.func.registers))
-      → (room_for instr ≤ k.func.registers → numbers k.code k.func.registers instr ≡ true)
+      → in_tables k.code instr ≡ true
       → ((known : Known) → row_at k instr known ≡ gets known.depth known.regs (slot_register x) (code_type (slot_type x)) (reads known.regs b tb (reads known.regs a ta fine)))
       → Has s a ta → Has s b tb → Says k s u → Runs k p (instr ∷ []) (mark due s ∷ []) due s false (with_slot x u)
-  from_two instr x a b ta tb on none copy ca cb lt number is ha hb less =
-      single k instr on none number
+  from_two instr x a b ta tb on none copy ca cb lt inside is ha hb less =
+      single k instr on none (numbered instr inside)
       (λ room known c.
       gets_does instr x (reads known.regs b tb (reads known.regs a ta fine)) (is known)
       (reads_fine known.regs b (reads_fine known.regs a all_kept ca (c.held a ta (lt room).0 ha)) cb (c.held b tb (lt room).1 hb)) copy (covers_less k c less))
@@ -116,49 +131,38 @@ module _ (k : Site) where
 
   pub from_three : {p : ℕ} {due : Bool} {s u : Stand} (instr : Instr) (x : Slot) (a b d : ℕ) (ta tb td : CodeTy) → goes_on instr ≡ true → target_of instr ≡ None → is_copy (code_type (slot_type x)) ≡ true → is_copy ta ≡ true → is_copy tb ≡ true → is_copy td ≡ true
       → (room_for instr ≤ k.func.registers → (a < k.func.registers) × (b < k.func.registers) × (d < k.func.registers))
-      → (room_for instr ≤ k.func.registers → numbers k.code k.func.registers instr ≡ true)
+      → in_tables k.code instr ≡ true
       → ((known : Known) → row_at k instr known ≡ gets known.depth known.regs (slot_register x) (code_type (slot_type x)) (reads known.regs d td (reads known.regs b tb (reads known.regs a ta fine))))
       → Has s a ta → Has s b tb → Has s d td → Says k s u → Runs k p (instr ∷ []) (mark due s ∷ []) due s false (with_slot x u)
-  from_three instr x a b d ta tb td on none copy ca cb cd lt number is ha hb hd less =
-      single k instr on none number
+  from_three instr x a b d ta tb td on none copy ca cb cd lt inside is ha hb hd less =
+      single k instr on none (numbered instr inside)
       (λ room known c.
       gets_does instr x (reads known.regs d td (reads known.regs b tb (reads known.regs a ta fine))) (is known)
       (reads_fine known.regs d (reads_fine known.regs b (reads_fine known.regs a all_kept ca (c.held a ta (lt room).0 ha)) cb (c.held b tb (lt room).1 hb)) cd (c.held d td (lt room).2 hd)) copy (covers_less k c less))
       (λ p. plain_slot k x copy (plain_less k less p))
 
-  -- ---- numbers of registers
-
-  pub below : (r : ℕ) → r < k.func.registers → nat_lt r k.func.registers ≡ true
-  below r lt = lt-ltb r k.func.registers lt
-
-  pub one_below : (to a : ℕ) → max to a + 1 ≤ k.func.registers → (nat_lt to k.func.registers && nat_lt a k.func.registers) ≡ true
-  one_below to a room = and_from _ _ (below to (omega (arith, room))) (below a (omega (arith, room)))
-
-  pub two_below : (to a b : ℕ) → max to (max a b) + 1 ≤ k.func.registers → (nat_lt to k.func.registers && nat_lt a k.func.registers && nat_lt b k.func.registers) ≡ true
-  two_below to a b room = and_from _ _ (and_from _ _ (below to (omega (arith, room))) (below a (omega (arith, room)))) (below b (omega (arith, room)))
-
   -- ---- each instruction
 
   pub int_runs : {p : ℕ} {due : Bool} {s : Stand} (h : ℕ) (n : ℤ) → Runs k p (i.Int h n ∷ []) (mark due s ∷ []) due s false (with_slot (holds h y.int) s)
-  int_runs h n = sets (i.Int h n) (holds h y.int) fine refl refl refl all_kept (λ room. below h (omega (arith, room))) (λ known. refl)
+  int_runs h n = sets (i.Int h n) (holds h y.int) fine refl refl refl all_kept refl (λ known. refl)
 
   pub truth_runs : {p : ℕ} {due : Bool} {s : Stand} (h n : ℕ) → n < 2 → Runs k p (i.Truth h n ∷ []) (mark due s ∷ []) due s false (with_slot (holds h y.bool) s)
-  truth_runs h n lt = sets (i.Truth h n) (holds h y.bool) fine refl refl refl all_kept (λ room. and_from _ _ (below h (omega (arith, room))) (lt-ltb n 2 lt)) (λ known. refl)
+  truth_runs h n lt = sets (i.Truth h n) (holds h y.bool) fine refl refl refl all_kept (lt-ltb n 2 lt) (λ known. refl)
 
   pub text_runs : {p : ℕ} {due : Bool} {s : Stand} (h n : ℕ) → n < length k.code.texts → is_short (slice_get k.code.texts n) ≡ true → Runs k p (i.Text h n ∷ []) (mark due s ∷ []) due s false (with_slot (holds h y.str) s)
   text_runs h n lt short =
       sets (i.Text h n) (holds h y.str) (if_types (is_short (slice_get k.code.texts n))) refl refl refl
       (record { types = short; present = refl; depths = refl })
-      (λ room. and_from _ _ (below h (omega (arith, room))) (lt-ltb n (length k.code.texts) lt)) (λ known. refl)
+      (lt-ltb n (length k.code.texts) lt) (λ known. refl)
 
   -- an operator on two numbers
-  two_ints : {p : ℕ} {due : Bool} {s u : Stand} (instr : Instr) (to a b : ℕ) → goes_on instr ≡ true → target_of instr ≡ None → room_for instr ≡ max to (max a b) + 1
-      → (numbers k.code k.func.registers instr ≡ (nat_lt to k.func.registers && nat_lt a k.func.registers && nat_lt b k.func.registers))
+  two_ints : {p : ℕ} {due : Bool} {s u : Stand} (instr : Instr) (to a b : ℕ) → goes_on instr ≡ true → target_of instr ≡ None → registers_read instr ≡ a ∷ b ∷ []
+      → in_tables k.code instr ≡ true
       → ((known : Known) → row_at k instr known ≡ gets known.depth known.regs to t.Int (reads known.regs b t.Int (reads known.regs a t.Int fine)))
       → Has s a t.Int → Has s b t.Int → Says k s u → Runs k p (instr ∷ []) (mark due s ∷ []) due s false (with_slot (holds to y.int) u)
-  two_ints instr to a b on none room_is number is ha hb less =
-      from_two instr (holds to y.int) a b t.Int t.Int on none refl refl refl (λ room. (omega (arith, room, room_is), omega (arith, room, room_is)))
-      (λ room. number ∙ two_below to a b (omega (arith, room, room_is))) is ha hb less
+  two_ints instr to a b on none read inside is ha hb less =
+      from_two instr (holds to y.int) a b t.Int t.Int on none refl refl refl (λ room. let few = ap room_of read in (omega (arith, room, few), omega (arith, room, few)))
+      inside is ha hb less
 
   pub add_runs : {p : ℕ} {due : Bool} {s u : Stand} (to a b : ℕ) (at : Spot) → Has s a t.Int → Has s b t.Int → Says k s u → Runs k p (i.Add to a b at ∷ []) (mark due s ∷ []) due s false (with_slot (holds to y.int) u)
   add_runs to a b at ha hb less = two_ints (i.Add to a b at) to a b refl refl refl refl (λ known. refl) ha hb less
@@ -178,34 +182,33 @@ module _ (k : Site) where
   pub join_runs : {p : ℕ} {due : Bool} {s u : Stand} (to a b : ℕ) (at : Spot) → Has s a t.Text → Has s b t.Text → Says k s u → Runs k p (i.Join to a b at ∷ []) (mark due s ∷ []) due s false (with_slot (holds to y.str) u)
   join_runs to a b at ha hb less =
       from_two (i.Join to a b at) (holds to y.str) a b t.Text t.Text refl refl refl refl refl (λ room. (omega (arith, room), omega (arith, room)))
-      (λ room. two_below to a b room) (λ known. refl) ha hb less
+      refl (λ known. refl) ha hb less
 
   pub byte_runs : {p : ℕ} {due : Bool} {s u : Stand} (to a b : ℕ) (at : Spot) → Has s a t.Text → Has s b t.Int → Says k s u → Runs k p (i.Byte to a b at ∷ []) (mark due s ∷ []) due s false (with_slot (holds to y.int) u)
   byte_runs to a b at ha hb less =
       from_two (i.Byte to a b at) (holds to y.int) a b t.Text t.Int refl refl refl refl refl (λ room. (omega (arith, room), omega (arith, room)))
-      (λ room. two_below to a b room) (λ known. refl) ha hb less
+      refl (λ known. refl) ha hb less
 
   pub slice_runs : {p : ℕ} {due : Bool} {s u : Stand} (to a b d : ℕ) (at : Spot) → Has s a t.Text → Has s b t.Int → Has s d t.Int → Says k s u → Runs k p (i.Slice to a b d at ∷ []) (mark due s ∷ []) due s false (with_slot (holds to y.str) u)
   slice_runs to a b d at ha hb hd less =
       from_three (i.Slice to a b d at) (holds to y.str) a b d t.Text t.Int t.Int refl refl refl refl refl refl
       (λ room. (omega (arith, room), omega (arith, room), omega (arith, room)))
-      (λ room. and_from _ _ (and_from _ _ (and_from _ _ (below to (omega (arith, room))) (below a (omega (arith, room)))) (below b (omega (arith, room)))) (below d (omega (arith, room))))
-      (λ known. refl) ha hb hd less
+      refl (λ known. refl) ha hb hd less
 
   pub not_runs : {p : ℕ} {due : Bool} {s u : Stand} (to a : ℕ) → Has s a t.Truth → Says k s u → Runs k p (i.Not to a ∷ []) (mark due s ∷ []) due s false (with_slot (holds to y.bool) u)
-  not_runs to a ha less = from_one (i.Not to a) (holds to y.bool) a t.Truth refl refl refl refl (λ room. omega (arith, room)) (λ room. one_below to a room) (λ known. refl) ha less
+  not_runs to a ha less = from_one (i.Not to a) (holds to y.bool) a t.Truth refl refl refl refl (λ room. omega (arith, room)) refl (λ known. refl) ha less
 
   pub len_runs : {p : ℕ} {due : Bool} {s u : Stand} (to a : ℕ) → Has s a t.Text → Says k s u → Runs k p (i.TextLen to a ∷ []) (mark due s ∷ []) due s false (with_slot (holds to y.int) u)
-  len_runs to a ha less = from_one (i.TextLen to a) (holds to y.int) a t.Text refl refl refl refl (λ room. omega (arith, room)) (λ room. one_below to a room) (λ known. refl) ha less
+  len_runs to a ha less = from_one (i.TextLen to a) (holds to y.int) a t.Text refl refl refl refl (λ room. omega (arith, room)) refl (λ known. refl) ha less
 
   pub text_of_runs : {p : ℕ} {due : Bool} {s u : Stand} (to a : ℕ) → Has s a t.Int → Says k s u → Runs k p (i.TextOf to a ∷ []) (mark due s ∷ []) due s false (with_slot (holds to y.str) u)
-  text_of_runs to a ha less = from_one (i.TextOf to a) (holds to y.str) a t.Int refl refl refl refl (λ room. omega (arith, room)) (λ room. one_below to a room) (λ known. refl) ha less
+  text_of_runs to a ha less = from_one (i.TextOf to a) (holds to y.str) a t.Int refl refl refl refl (λ room. omega (arith, room)) refl (λ known. refl) ha less
 
   pub is_num_runs : {p : ℕ} {due : Bool} {s u : Stand} (to a : ℕ) → Has s a t.Text → Says k s u → Runs k p (i.IsNum to a ∷ []) (mark due s ∷ []) due s false (with_slot (holds to y.bool) u)
-  is_num_runs to a ha less = from_one (i.IsNum to a) (holds to y.bool) a t.Text refl refl refl refl (λ room. omega (arith, room)) (λ room. one_below to a room) (λ known. refl) ha less
+  is_num_runs to a ha less = from_one (i.IsNum to a) (holds to y.bool) a t.Text refl refl refl refl (λ room. omega (arith, room)) refl (λ known. refl) ha less
 
   pub num_runs : {p : ℕ} {due : Bool} {s u : Stand} (to a : ℕ) (at : Spot) → Has s a t.Text → Says k s u → Runs k p (i.Num to a at ∷ []) (mark due s ∷ []) due s false (with_slot (holds to y.int) u)
-  num_runs to a at ha less = from_one (i.Num to a at) (holds to y.int) a t.Text refl refl refl refl (λ room. omega (arith, room)) (λ room. one_below to a room) (λ known. refl) ha less
+  num_runs to a at ha less = from_one (i.Num to a at) (holds to y.int) a t.Text refl refl refl refl (λ room. omega (arith, room)) refl (λ known. refl) ha less
 
   -- ---- comparisons, copies and what is printed
 
@@ -222,7 +225,7 @@ module _ (k : Site) where
   pub cmp_runs : {p : ℕ} {due : Bool} {s u : Stand} (to choice a b : ℕ) (ty : CodeTy) → choice < 6 → is_ordered choice ty ≡ true → is_copy ty ≡ true → Has s a ty → Has s b ty → Says k s u → Runs k p (i.Cmp to choice a b ∷ []) (mark due s ∷ []) due s false (with_slot (holds to y.bool) u)
   cmp_runs to choice a b ty few o copy ha hb less =
       single k (i.Cmp to choice a b) refl refl
-      (λ room. and_from _ _ (two_below to a b room) (lt-ltb choice 6 few))
+      (numbered (i.Cmp to choice a b) (lt-ltb choice 6 few))
       (λ room known c.
       gets_does (i.Cmp to choice a b) (holds to y.bool)
       (record { types = is_comparable choice (fact_of known.regs a) && is_comparable choice (fact_of known.regs b) && are_alike (fact_of known.regs a) (fact_of known.regs b); present = is_there (fact_of known.regs a) && is_there (fact_of known.regs b); depths = true })
@@ -245,7 +248,7 @@ module _ (k : Site) where
   -- to a register of which nothing is said
   pub copy_runs : {p : ℕ} {due : Bool} {s u : Stand} (x : Slot) (a : ℕ) → is_copy (code_type (slot_type x)) ≡ true → Has s a (code_type (slot_type x)) → Says k s u → Runs k p (i.Copy (slot_register x) a ∷ []) (mark due s ∷ []) due s false (with_slot x u)
   copy_runs x a copy ha less =
-      single k (i.Copy (slot_register x) a) refl refl (λ room. one_below (slot_register x) a room)
+      single k (i.Copy (slot_register x) a) refl refl (numbered (i.Copy (slot_register x) a) refl)
       (λ room known c.
       copies_does (slot_register x) a (code_type (slot_type x)) known copy (c.held a (code_type (slot_type x)) (omega (arith, room)) ha) c
       (covers_write k x copy (covers_less k c less)))
@@ -254,7 +257,7 @@ module _ (k : Site) where
   -- to one that holds a value of the type already
   pub store_runs : {p : ℕ} {due : Bool} {s u : Stand} (to a : ℕ) (ty : CodeTy) → is_copy ty ≡ true → Has s a ty → Says k s u → Has u to ty → Runs k p (i.Copy to a ∷ []) (mark due s ∷ []) due s false u
   store_runs {s = s} {u} to a ty copy ha less hto =
-      single k (i.Copy to a) refl refl (λ room. one_below to a room)
+      single k (i.Copy to a) refl refl (numbered (i.Copy to a) refl)
       (λ room known c.
       let e = c.held a ty (omega (arith, room)) ha in
       copies_does to a ty known copy e c
@@ -264,7 +267,7 @@ module _ (k : Site) where
   pub print_runs : {p : ℕ} {due : Bool} {s u : Stand} (a choice : ℕ) (ty : CodeTy) → choice < 2 → is_copy ty ≡ true → Has s a ty → Says k s u → Runs k p (i.Print a choice ∷ []) (mark due s ∷ []) due s false u
   print_runs a choice ty few copy ha less =
       single k (i.Print a choice) refl refl
-      (λ room. and_from _ _ (below a (omega (arith, room))) (lt-ltb choice 2 few))
+      (numbered (i.Print a choice) (lt-ltb choice 2 few))
       (λ room known c.
       let e = c.held a ty (omega (arith, room)) ha in
       record { types = ap is_printable e ∙ (own ty copy).printable; present = ap is_there e; depths = refl; covers = covers_kept k (covers_less k c less) })

@@ -4,6 +4,7 @@ use Rattle.std.proofs.Common.{◌≡◌, ℕ, ◌+◌, ◌<◌, ◌≤◌, List,
 use Rattle.std.specs.List.{list_all}
 use Rattle.std.proofs.lemmas.Bool.{and_from, lt-ltb}
 use Rattle.std.proofs.lemmas.List.Folds.{list_all-append}
+use Rattle.vale_code.specs.Operands.{room_for}
 use Rattle.vale_code.specs.declared.instr.Instr.{Instr}
 use Rattle.vale_code.specs.declared.instr.Instr.TheVariants as i
 use Rattle.vale_code.specs.declared.ty.Ty.TheVariants as t
@@ -14,7 +15,6 @@ use Rattle.vale_cert.specs.Walk.{Rules, broken, fault_of, or_else, row_of, after
 use Rattle.vale_cert.specs.declared.facts.Label.{Label}
 use Rattle.vale_cert.specs.declared.facts.RegFact.TheVariants.{Held}
 use Rattle.vale_cert.specs.declared.fault.Fault.{Fault}
-use Rattle.vale_lowering.specs.Lowered.{room_for}
 use Rattle.vale_lower_facts.specs.Slots.{Stand, type_at, label_for}
 use Rattle.vale_lower_facts.specs.Marks.{Marks, mark}
 use Rattle.vale_lower_facts.proofs.Stands.{Site, Covers, Says, covers_less, Plain, plain_less, covers_plain, enters_label, known_of, covers_stated, covers_kept}

@@ -8,6 +8,7 @@ use Rattle.vale_rules_spec.specs.Types.{is_copy, type_of}
 use Rattle.vale_rules_spec.specs.Typed.{Callee, built_in, constructor, function, Expr, expr, Node, set, chain, unary, steps, number, quote, truth, name, call, paren, array, iso, form, Exprs, no_exprs, more_exprs, link, Links, no_links, more_links, Form, branch, pure, parallel_range, parallel_each, else_if, Elses, no_else, otherwise, more_elses, Block, block, Stmt, declare, destructure, return_nothing, return_value, while, foreach, form_stmt, express, Stmts, no_stmts, last, more_stmts, Function, Typed, type}
 use Rattle.vale_model.specs.Kinds.{head_of, body_of}
 use Rattle.vale_model.specs.Parts.{Parts, parts_of, name_text, name_of, param_names, has_name, has_text, first_function, functions_of, is_pure}
+use Rattle.vale_code.specs.Operands.{room_for}
 use Rattle.vale_code.specs.Parts.{Parts as Code}
 use Rattle.vale_code.specs.declared.func.Func.{Func}
 use Rattle.vale_code.specs.declared.instr.Instr.{Instr}
@@ -132,37 +133,7 @@ abbrev mutual
 
 -- ---- functions
 
--- more than each of these registers
-abbrev pub room_of : List ℕ → ℕ
-room_of [] = 0
-room_of (r ∷ rs) = max (r + 1) (room_of rs)
-
--- more than each register that the instruction names, for those that code is made of here
-abbrev pub room_for : Instr → ℕ
-room_for (i.Int to n) = to + 1
-room_for (i.Truth to n) = to + 1
-room_for (i.Text to n) = to + 1
-room_for (i.Copy to a) = max to a + 1
-room_for (i.Add to a b at) = max to (max a b) + 1
-room_for (i.Sub to a b at) = max to (max a b) + 1
-room_for (i.Mul to a b at) = max to (max a b) + 1
-room_for (i.Div to a b at) = max to (max a b) + 1
-room_for (i.Rem to a b at) = max to (max a b) + 1
-room_for (i.Cmp to n a b) = max to (max a b) + 1
-room_for (i.Not to a) = max to a + 1
-room_for (i.Join to a b at) = max to (max a b) + 1
-room_for (i.TextLen to a) = max to a + 1
-room_for (i.Slice to a x y at) = max (max to a) (max x y) + 1
-room_for (i.Byte to a x at) = max to (max a x) + 1
-room_for (i.TextOf to a) = max to a + 1
-room_for (i.IsNum to a) = max to a + 1
-room_for (i.Num to a at) = max to a + 1
-room_for (i.Print a n) = a + 1
-room_for (i.Unless a target) = a + 1
-room_for (i.Call to f args at) = max (to + 1) (room_of args)
-room_for (i.Ret a) = a + 1
-room_for _ = 0
-
+-- more than each register that one of these instructions names
 abbrev pub registers_in : List Instr → ℕ
 registers_in [] = 0
 registers_in (x ∷ xs) = max (room_for x) (registers_in xs)
