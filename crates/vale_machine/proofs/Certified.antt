@@ -1,5 +1,5 @@
 -- What the machine relies on holds of certified code.
-use Rattle.std.proofs.Common.{◌≡◌, ◌≢◌, ℕ, zero, suc, ◌+◌, ◌<◌, List, [], ◌∷◌, length, Option, Some, None, Bool, true, false, ◌&&◌, ◌==◌, nat_lt, nat_le, refl, subst, arith}
+use Rattle.std.proofs.Common.{◌≡◌, ◌≢◌, ℕ, zero, suc, ◌+◌, ◌<◌, List, [], ◌∷◌, length, Option, Some, None, Bool, true, false, ◌&&◌, ◌||◌, ◌==◌, nat_lt, nat_le, refl, subst, arith}
 use Rattle.std.specs.Prelude.{slice_get}
 use Rattle.std.specs.List.{list_all}
 use Rattle.std.proofs.lemmas.Bool.{and_parts}
@@ -9,6 +9,7 @@ use Rattle.vale_state_spec.specs.State.{State}
 use Rattle.vale_state_spec.specs.World.{Value}
 use Rattle.vale_code.specs.Frames.{Config, Next, On, Over}
 use Rattle.vale_code.specs.Kinds.{result_to}
+use Rattle.vale_code.specs.Operands.{reads, writes}
 use Rattle.vale_code.specs.Parts.{Parts}
 use Rattle.vale_code.specs.Run.{exec, then_go, go_on, step, steps, last_state}
 use Rattle.vale_code.specs.declared.func.Func.{Func}
@@ -18,7 +19,8 @@ use Rattle.vale_code.specs.declared.ty.Ty.{Ty}
 use Rattle.vale_code.specs.declared.ty.Ty.TheVariants as t
 use Rattle.vale_cert.specs.Certificate.{Certified}
 use Rattle.vale_cert.specs.Known.{Known, entry}
-use Rattle.vale_cert.specs.Numbers.{numbers, calls_function, takes_result}
+use Rattle.vale_cert.specs.Numbers.{numbers, are_registers, is_void_function, is_void_call, in_tables}
+use Rattle.vale_cert.specs.Types.{is_void}
 use Rattle.vale_cert.specs.Rules.{row, call_by_form, calls}
 use Rattle.vale_cert.specs.Walk.{row_of, walk, known_after}
 use Rattle.vale_cert.specs.declared.facts.FuncFacts.{FuncFacts}
@@ -83,48 +85,56 @@ within r n e = let lt : r < n = grind (arith, nat_tests) in omega arith
 one : (a b : Bool) → (a && b) ≡ true → a ≡ true
 one a b e = (and_parts a b e).0
 
+-- which registers lie among those of the function
+registers : (code : Parts) (n : ℕ) (instr : Instr) → numbers code n instr ≡ true → (are_registers n (reads instr) ≡ true) × ((is_void_call code instr || are_registers n (writes instr)) ≡ true)
+registers code n instr e = and_parts (are_registers n (reads instr)) (is_void_call code instr || are_registers n (writes instr)) (one (are_registers n (reads instr) && (is_void_call code instr || are_registers n (writes instr))) (in_tables code instr) e)
+
+written : (code : Parts) (n : ℕ) (instr : Instr) (to : ℕ) → numbers code n instr ≡ true → is_void_call code instr ≡ false → writes instr ≡ to ∷ [] → nat_lt to n ≡ true
+written code n instr to e call is =
+    one (nat_lt to n) true (subst (λ l. are_registers n l ≡ true) is (subst (λ b. (b || are_registers n (writes instr)) ≡ true) call (registers code n instr e).1))
+
 room : (code : Parts) (n : ℕ) (instr : Instr) → numbers code n instr ≡ true → HasRegister (register_of instr) 0 n
-room code n (i.Int to m) e = within to n e
-room code n (i.Truth to choice) e = within to n (one _ _ e)
-room code n (i.Text to text) e = within to n (one _ _ e)
-room code n (i.Copy to a) e = within to n (one _ _ e)
-room code n (i.Add to a b at) e = within to n (one _ _ (one _ _ e))
-room code n (i.Sub to a b at) e = within to n (one _ _ (one _ _ e))
-room code n (i.Mul to a b at) e = within to n (one _ _ (one _ _ e))
-room code n (i.Div to a b at) e = within to n (one _ _ (one _ _ e))
-room code n (i.Rem to a b at) e = within to n (one _ _ (one _ _ e))
-room code n (i.Cmp to choice a b) e = within to n (one _ _ (one _ _ (one _ _ e)))
-room code n (i.Not to a) e = within to n (one _ _ e)
-room code n (i.Join to a b at) e = within to n (one _ _ (one _ _ e))
-room code n (i.TextLen to a) e = within to n (one _ _ e)
-room code n (i.Slice to a x y at) e = within to n (one _ _ (one _ _ (one _ _ e)))
-room code n (i.Byte to a x at) e = within to n (one _ _ (one _ _ e))
-room code n (i.TextOf to a) e = within to n (one _ _ e)
-room code n (i.IsNum to a) e = within to n (one _ _ e)
-room code n (i.Num to a at) e = within to n (one _ _ e)
-room code n (i.Ret a) e = within a n e
+room code n (i.Int to m) e = within to n (written code n (i.Int to m) to e refl refl)
+room code n (i.Truth to choice) e = within to n (written code n (i.Truth to choice) to e refl refl)
+room code n (i.Text to text) e = within to n (written code n (i.Text to text) to e refl refl)
+room code n (i.Copy to a) e = within to n (written code n (i.Copy to a) to e refl refl)
+room code n (i.Add to a b at) e = within to n (written code n (i.Add to a b at) to e refl refl)
+room code n (i.Sub to a b at) e = within to n (written code n (i.Sub to a b at) to e refl refl)
+room code n (i.Mul to a b at) e = within to n (written code n (i.Mul to a b at) to e refl refl)
+room code n (i.Div to a b at) e = within to n (written code n (i.Div to a b at) to e refl refl)
+room code n (i.Rem to a b at) e = within to n (written code n (i.Rem to a b at) to e refl refl)
+room code n (i.Cmp to choice a b) e = within to n (written code n (i.Cmp to choice a b) to e refl refl)
+room code n (i.Not to a) e = within to n (written code n (i.Not to a) to e refl refl)
+room code n (i.Join to a b at) e = within to n (written code n (i.Join to a b at) to e refl refl)
+room code n (i.TextLen to a) e = within to n (written code n (i.TextLen to a) to e refl refl)
+room code n (i.Slice to a x y at) e = within to n (written code n (i.Slice to a x y at) to e refl refl)
+room code n (i.Byte to a x at) e = within to n (written code n (i.Byte to a x at) to e refl refl)
+room code n (i.TextOf to a) e = within to n (written code n (i.TextOf to a) to e refl refl)
+room code n (i.IsNum to a) e = within to n (written code n (i.IsNum to a) to e refl refl)
+room code n (i.Num to a at) e = within to n (written code n (i.Num to a at) to e refl refl)
+room code n (i.Ret a) e = within a n (one (nat_lt a n) true (registers code n (i.Ret a) e).0)
 room code n _ e = tt
 
-result_room : (ty : Ty) (to n : ℕ) → takes_result n ty to ≡ true → HasRegister (result_to ty to) 0 n
+result_room : (ty : Ty) (to n : ℕ) → (is_void ty || are_registers n (to ∷ [])) ≡ true → HasRegister (result_to ty to) 0 n
 result_room t.Void to n e = tt
-result_room t.Int to n e = within to n e
-result_room t.Truth to n e = within to n e
-result_room t.Text to n e = within to n e
-result_room (t.Own k) to n e = within to n e
-result_room (t.Ref k) to n e = within to n e
-result_room (t.Frozen k) to n e = within to n e
-result_room (t.Iso k) to n e = within to n e
+result_room t.Int to n e = within to n (one (nat_lt to n) true e)
+result_room t.Truth to n e = within to n (one (nat_lt to n) true e)
+result_room t.Text to n e = within to n (one (nat_lt to n) true e)
+result_room (t.Own k) to n e = within to n (one (nat_lt to n) true e)
+result_room (t.Ref k) to n e = within to n (one (nat_lt to n) true e)
+result_room (t.Frozen k) to n e = within to n (one (nat_lt to n) true e)
+result_room (t.Iso k) to n e = within to n (one (nat_lt to n) true e)
 
 module _ (code : Parts) (facts : List FuncFacts) (cert : Certified code facts) where
   callable : (ty : Ty) (depth : ℕ) (regs : List RegFact) (n to g : ℕ) (args : List ℕ) → (calls depth regs (slice_get code.funcs g) to args).kept.types ≡ true
-      → calls_function n (slice_get code.funcs g) to ≡ true → IsCallable code g to 0 n
+      → (is_void_function (slice_get code.funcs g) || are_registers n (to ∷ [])) ≡ true → IsCallable code g to 0 n
   callable ty depth regs n to g args e h = at (slice_get code.funcs g) refl e h
     where
       plainly : (callee : Func) (b : Bool) → (callee.form == 0) ≡ b → (call_by_form b depth regs callee to args).kept.types ≡ true → callee.form ≡ 0
       plainly callee false q k = absurd (let x : ⊥ = cc in x)
       plainly callee true q k = grind (arith, nat_tests)
 
-      at : (o : Option Func) → slice_get code.funcs g ≡ o → (calls depth regs o to args).kept.types ≡ true → calls_function n o to ≡ true → IsCallable code g to 0 n
+      at : (o : Option Func) → slice_get code.funcs g ≡ o → (calls depth regs o to args).kept.types ≡ true → (is_void_function o || are_registers n (to ∷ [])) ≡ true → IsCallable code g to 0 n
       at None q k m = absurd (let x : ⊥ = cc in x)
       at (Some callee) q k m = record {
         func = callee;
@@ -135,7 +145,7 @@ module _ (code : Parts) (facts : List FuncFacts) (cert : Certified code facts) w
       }
 
   calls_well : (ty : Ty) (depth : ℕ) (regs : List RegFact) (n : ℕ) (instr : Instr) → (row code ty depth regs instr).kept.types ≡ true → numbers code n instr ≡ true → CallsWell code instr 0 n
-  calls_well ty depth regs n (i.Call to g args at) e h = callable ty depth regs n to g args e (one _ _ h)
+  calls_well ty depth regs n (i.Call to g args at) e h = callable ty depth regs n to g args e (registers code n (i.Call to g args at) h).1
   calls_well ty depth regs n _ e h = tt
 
   pub runnable : IsRunnable code

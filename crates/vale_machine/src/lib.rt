@@ -9,14 +9,14 @@ mod machine;
 mod numbers;
 mod print;
 mod reply;
+mod runs;
 mod start;
 mod texts;
 mod trap;
 mod turn;
 mod values;
-mod runs;
 
 pub use machine::Machine;
+pub use runs::{Finished, run, run_certified};
 pub use start::Input;
 pub use turn::{End, Turn};
-pub use runs::{Finished, run, run_certified};
