@@ -1,6 +1,7 @@
 // Whether the numbers of instructions lie inside their tables.
-ghost use Rattle.std.specs.Prelude.{◌≡◌, slice_get};
-ghost use Rattle.vale_cert.specs.Numbers.{is_text, is_function, method_from, has_method, is_void_function, is_void_method, is_void_call, in_tables, numbers};
+ghost use Rattle.std.specs.Prelude.{◌≡◌, ◌||◌, slice_get};
+ghost use Rattle.vale_code.specs.Operands.{writes};
+ghost use Rattle.vale_cert.specs.Numbers.{is_text, is_function, method_from, has_method, is_void_function, is_void_method, is_void_call, in_tables, are_registers, numbers};
 
 use crate::lawful::is_kind;
 use crate::types::is_void;
@@ -97,11 +98,17 @@ fn in_tables(code: &Code, instr: &Instr) -> bool
     }
 }
 
+fn are_written(code: &Code, registers: u32, instr: &Instr) -> bool
+    ensures { result ≡ (is_void_call code.now instr.now || are_registers registers (writes instr.now)) }
+{
+    is_void_call(code, instr) || instr.writes().are_below(registers)
+}
+
 /// Whether the numbers of an instruction lie inside their tables, in a function with so many registers.
 pub fn numbers(code: &Code, registers: u32, instr: &Instr) -> bool
     ensures { result ≡ numbers code.now registers instr.now }
 {
     instr.reads().are_below(registers)
-        && (is_void_call(code, instr) || instr.writes().are_below(registers))
+        && are_written(code, registers, instr)
         && in_tables(code, instr)
 }
