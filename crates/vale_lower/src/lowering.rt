@@ -6,13 +6,13 @@ ghost use Rattle.vale_lowering.specs.Lowered.{lowered};
 ghost use Rattle.vale_lower_facts.specs.Marks.{lowered_facts};
 ghost use Rattle.vale_sound.specs.Runs.{Runs};
 
+use crate::facts::lower_facts;
 use std::alloc::Global;
 use vale_base::Memory;
 use vale_cert::Facts;
 use vale_code::Code;
 use vale_core::Sound;
 use vale_lower_code::lower_code;
-use vale_lower_labels::lower_facts;
 use vale_sound::well_formed_programs_run;
 
 /// The code of a sound program and the facts that certify it. A part that isn't lowered yet has code by which no step

@@ -1,5 +1,5 @@
 //! The facts that certify the code of a program, as definitions in `specs/`, and the laws that hold of them. The call that makes
-//! them is `lower_facts` of vale_lower_labels.
+//! them is `lower_facts` of vale_lower.
 #![tactic(auto)]
 
 mod laws;

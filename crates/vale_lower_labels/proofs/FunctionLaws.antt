@@ -16,11 +16,11 @@ use Rattle.vale_lowering.specs.Scopes.{result_type, code_type}
 use Rattle.vale_lower_facts.specs.Slots as s
 use Rattle.vale_lower_facts.specs.Marks.{Marks, mark, value_type, param_slots, labels_from, last_of, entry_stand, function_marks, function_facts, block_due}
 use Rattle.vale_rules_spec.specs.Returns.{block_returns}
-use Rattle.vale_lower_labels.specs.declared.labels.Labels.{Labels}
+use Rattle.vale_label_steps.specs.declared.labels.Labels.{Labels}
 use Rattle.vale_lower_labels.specs.Bodies.{body_marks, plain_of}
-use Rattle.vale_lower_labels.specs.Progress.{Progress, progress, with_marks}
+use Rattle.vale_label_steps.specs.Progress.{Progress, progress, with_marks}
 use Rattle.vale_lower_labels.proofs.PlainLaws.{same_block}
-use Rattle.vale_lower_labels.proofs.ProgressLaws.{in_turn, progress_is, with_marks_is}
+use Rattle.vale_label_steps.proofs.ProgressLaws.{in_turn, progress_is, with_marks_is}
 
 pub names_length : (ps : List Param) → length (param_names (map view_param ps)) ≡ length ps
 names_length [] = refl

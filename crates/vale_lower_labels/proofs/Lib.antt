@@ -1,9 +1,4 @@
-pub mod FillLaws
 pub mod FunctionLaws
 pub mod ListLaws
 pub mod PlainLaws
-pub mod ProgressLaws
-pub mod SlotLaws
-pub mod StepLaws
 pub mod WalkLaws
-pub mod WholeLaws

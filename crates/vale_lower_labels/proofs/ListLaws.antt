@@ -15,11 +15,11 @@ use Rattle.vale_lower_facts.specs.Slots as s
 use Rattle.vale_rules_spec.specs.Returns.{stmt_returns}
 use Rattle.vale_lower_facts.specs.Marks.{Marks, value_marks, value_due, args_marks, args_due, links_marks, links_due, link_due, stmts_marks, stmts_due}
 use Rattle.vale_lower_labels.specs.Going.{one_link_marks, link_op, next_marks, next_due, next_slots, next_register, goes_on}
-use Rattle.vale_lower_labels.specs.Progress.{Progress, with_marks}
+use Rattle.vale_label_steps.specs.Progress.{Progress, with_marks}
 use Rattle.vale_lower_labels.specs.Sides.{side_marks, sides_marks, sides_due}
-use Rattle.vale_lower_labels.specs.Standing.{waited}
-use Rattle.vale_lower_labels.proofs.ProgressLaws.{in_turn, no_marks}
-use Rattle.vale_lower_labels.proofs.SlotLaws.{waited_more}
+use Rattle.vale_label_steps.specs.Standing.{waited}
+use Rattle.vale_label_steps.proofs.ProgressLaws.{in_turn, no_marks}
+use Rattle.vale_label_steps.proofs.SlotLaws.{waited_more}
 use Rattle.vale_lower_labels.proofs.WalkLaws.{links_first, links_due_first, link_type_by_parts}
 
 -- marks, and then others

@@ -12,8 +12,8 @@ use Rattle.vale_lowering.specs.Scopes.{Around, agree}
 use Rattle.vale_lower_facts.specs.Slots.{Stand, with_slot, local, holds, waits, given, behind}
 use Rattle.vale_rules_spec.specs.Returns.{block_returns, stmt_returns}
 use Rattle.vale_lower_facts.specs.Marks.{Marks, mark, marked, only_marks, if_marks, loop_marks, count_marks, counted, link_marks, with_args, expr_marks, value_marks, node_marks, args_marks, links_marks, form_marks, elses_marks, block_marks, stmts_marks, stmt_marks, unused_marks, value_due, args_due, link_due, block_due, stmt_due}
-use Rattle.vale_lower_labels.specs.Standing.{plain}
-use Rattle.vale_lower_labels.proofs.StepLaws.{of_callee}
+use Rattle.vale_label_steps.specs.Standing.{plain}
+use Rattle.vale_label_steps.proofs.StepLaws.{of_callee}
 
 both : {a b c d : Marks} → a ≡ b → c ≡ d → (a ++ c) ≡ (b ++ d)
 both {a} {b} {c} {d} e f = ap (λ z. z ++ c) e ∙ ap (λ z. b ++ z) f

@@ -6,7 +6,7 @@ use Rattle.vale_lowering.specs.Scopes.{Around, result_type}
 use Rattle.vale_rules_spec.specs.Returns.{block_returns}
 use Rattle.vale_lower_facts.specs.Slots.{Stand, behind}
 use Rattle.vale_lower_facts.specs.Marks.{Marks, mark, block_marks, block_due}
-use Rattle.vale_lower_labels.specs.Standing.{plain}
+use Rattle.vale_label_steps.specs.Standing.{plain}
 
 abbrev pub body_marks : Bool → Block → ℕ → Stand → Marks
 body_marks returns b h s = block_marks (plain returns) false b h s false ++ (mark (block_due returns false b false) (behind (block_returns b) s) ∷ [])

@@ -1,7 +1,3 @@
 pub mod Bodies
-pub mod Filling
 pub mod Going
-pub mod Progress
-pub mod Shapes
 pub mod Sides
-pub mod Standing

@@ -9,12 +9,9 @@ ghost use Rattle.vale_model.specs.Parts.{Parts, param_names};
 ghost use Rattle.vale_lowering.specs.Lowered.{lowered_function};
 ghost use Rattle.vale_lower_facts.specs.Marks.{value_type, param_slots, labels_from, last_of, function_marks, function_facts};
 ghost use Rattle.vale_lower_labels.specs.Bodies.{body_marks, plain_of};
-ghost use Rattle.vale_lower_labels.specs.Progress.{progress, with_marks};
-ghost use Rattle.vale_lower_labels.specs.Standing.{framed};
+ghost use Rattle.vale_label_steps.specs.Progress.{progress, with_marks};
+ghost use Rattle.vale_label_steps.specs.Standing.{framed};
 
-use crate::frame::Frame;
-use crate::labels::{Labels, above};
-use crate::slots::Slots;
 use crate::walk::walk_block;
 use std::alloc::Global;
 use vale_base::Memory;
@@ -22,6 +19,7 @@ use vale_cert::{FuncFacts, Label};
 use vale_code::{Sequence, Ty as CodeTy};
 use vale_core::{Block, Function};
 use vale_core::block_returns;
+use vale_label_steps::{Frame, Labels, Slots, above};
 use vale_syntax::{Param, TypeExpr};
 use vale_type_rules::type_of;
 

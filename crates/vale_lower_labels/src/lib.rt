@@ -1,13 +1,7 @@
-//! The facts that certify lowered code, from the typed tree.
+//! The facts that certify a function's lowered code, from the typed tree.
 #![tactic(auto)]
 
-mod frame;
 mod function;
-mod known;
-mod labels;
-mod slots;
-mod steps;
 mod walk;
-mod facts;
 
-pub use facts::lower_facts;
+pub use function::function_facts;

@@ -3,24 +3,21 @@ ghost use Rattle.std.specs.Prelude.{◌≡◌, ◌||◌, true, false, map, optio
 ghost use Rattle.vale_lowering.specs.Scopes.{agree};
 ghost use Rattle.vale_core.specs.View.{view_ty, view_expr, view_node, view_form, view_stmt, view_block, view_else_if, view_link, exprs_of, links_of, else_end, stmts_of, last_end};
 ghost use Rattle.vale_lower_facts.specs.Marks.{expr_marks, value_marks, node_marks, args_marks, links_marks, form_marks, elses_marks, block_marks, stmts_marks, stmt_marks, unused_marks, expr_due, value_due, node_due, args_due, links_due, link_due, form_due, block_due, stmts_due, stmt_due, unused_due};
-ghost use Rattle.vale_lower_labels.specs.Progress.{progress, with_marks};
-ghost use Rattle.vale_lower_labels.specs.Standing.{stand, framed, slots_of, plain};
+ghost use Rattle.vale_label_steps.specs.Progress.{progress, with_marks};
+ghost use Rattle.vale_label_steps.specs.Standing.{stand, framed, slots_of, plain};
 ghost use Rattle.vale_lower_labels.specs.Sides.{side_marks, sides_marks, sides_due};
 ghost use Rattle.vale_lower_labels.specs.Going.{one_link_marks, link_op, next_marks, next_due, next_slots, next_register, goes_on, store_marks, turns_marks, return_marks};
 ghost use Rattle.vale_rules_spec.specs.Returns.{stmt_returns};
 
-use crate::frame::Frame;
-use crate::labels::{Labels, above};
-use crate::slots::{Local, Slots};
-use crate::steps::{
-    begin_count, begin_loop, end_count, end_loop, end_side, is_set, put_held, put_return, put_set,
-    put_unary,
-};
 use sqlite_items::{Boxed, Items};
 use std::alloc::Global;
 use vale_base::{Memory, Name};
 use vale_core::{Block, ElseIf, Expr, Form, Link, Node, Stmt, Ty};
 use vale_core::{expr_returns, stmt_returns};
+use vale_label_steps::{
+    Frame, Labels, Local, Slots, above, begin_count, begin_loop, end_count, end_loop, end_side,
+    is_set, put_held, put_return, put_set, put_unary,
+};
 use vale_syntax::BinaryOp;
 
 // Whether a value is given exactly where one is wanted.

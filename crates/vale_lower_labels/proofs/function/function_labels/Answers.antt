@@ -1,6 +1,6 @@
 use Rattle.std.proofs.Common.{[], ◌∙◌}
 use Rattle.vale_core.specs.View.{view_function}
-use Rattle.vale_lower_labels.specs.Standing.{framed}
+use Rattle.vale_label_steps.specs.Standing.{framed}
 use Rattle.vale_lower_labels.proofs.FunctionLaws.{function_by_parts}
 use Rattle.vale_lower_labels.proofs.function.function_labels.Goals as goal
 

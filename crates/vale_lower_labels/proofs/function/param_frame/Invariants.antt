@@ -2,7 +2,7 @@ use Rattle.std.proofs.Common.{◌≡◌, [], map, drop}
 use Rattle.std.specs.Prelude.{false}
 use Rattle.vale_syntax.specs.View.{view_param}
 use Rattle.vale_lower_facts.specs.Marks.{param_slots}
-use Rattle.vale_lower_labels.specs.Standing.{framed}
+use Rattle.vale_label_steps.specs.Standing.{framed}
 use Rattle.vale_lower_labels.proofs.function.param_frame.Given as goal
 
 -- the parameters so far, and those that are left

@@ -5,8 +5,8 @@ use Rattle.vale_core.specs.View.{view_expr, view_block, last_end}
 use Rattle.vale_core.proofs.ViewLaws.{of_int}
 use Rattle.vale_rules_spec.specs.Types.{Ty}
 use Rattle.vale_lower_facts.specs.Slots.{local, with_slot}
-use Rattle.vale_lower_labels.specs.Progress.{progress, with_marks}
-use Rattle.vale_lower_labels.specs.Standing.{stand, framed, slots_of, plain}
+use Rattle.vale_label_steps.specs.Progress.{progress, with_marks}
+use Rattle.vale_label_steps.specs.Standing.{stand, framed, slots_of, plain}
 use Rattle.vale_lower_labels.proofs.ListLaws.{args_next, args_due_next, args_done, links_next, links_due_next, links_done, sides_next, sides_due_next, sides_done, stmts_next, stmts_stop, stmts_done, due_next, due_stop, due_done}
 use Rattle.vale_lower_labels.proofs.WalkLaws.{block_by_parts, block_due_by_parts, return_by_parts, turns_by_parts}
 use Rattle.vale_lower_labels.proofs.walk.+walk.Goals as goal

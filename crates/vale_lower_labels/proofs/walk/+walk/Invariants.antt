@@ -3,8 +3,8 @@ use Rattle.std.specs.Prelude.{option_map}
 use Rattle.vale_core.specs.declared.tree.Block.{out-Block}
 use Rattle.vale_core.specs.View.{view_ty, view_expr, view_stmt, view_else_if, view_link, exprs_of, links_of, stmts_of}
 use Rattle.vale_lower_facts.specs.Marks.{args_marks, args_due, links_marks, links_due, stmts_marks, stmts_due}
-use Rattle.vale_lower_labels.specs.Progress.{progress, with_marks}
-use Rattle.vale_lower_labels.specs.Standing.{stand, framed, waited, slots_of, plain}
+use Rattle.vale_label_steps.specs.Progress.{progress, with_marks}
+use Rattle.vale_label_steps.specs.Standing.{stand, framed, waited, slots_of, plain}
 use Rattle.vale_lower_labels.specs.Sides.{sides_marks, sides_due}
 use Rattle.vale_lower_labels.proofs.walk.+walk.Given as goal
 

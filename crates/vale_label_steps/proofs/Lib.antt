@@ -1,0 +1,4 @@
+pub mod FillLaws
+pub mod ProgressLaws
+pub mod SlotLaws
+pub mod StepLaws

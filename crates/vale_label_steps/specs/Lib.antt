@@ -1,0 +1,4 @@
+pub mod Filling
+pub mod Progress
+pub mod Shapes
+pub mod Standing

@@ -1,0 +1,16 @@
+//! The labels of single nodes and jumps, and what is known of the registers at a label.
+#![tactic(auto)]
+
+mod frame;
+mod known;
+mod labels;
+mod slots;
+mod steps;
+
+pub use frame::Frame;
+pub use labels::{Labels, above};
+pub use slots::{Local, Slots};
+pub use steps::{
+    begin_count, begin_loop, end_count, end_loop, end_side, is_set, put_held, put_return, put_set,
+    put_unary,
+};
