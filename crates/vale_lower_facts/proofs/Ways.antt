@@ -2,7 +2,7 @@
 use Rattle.std.proofs.Common.{◌≡◌, ℕ, zero, suc, ◌+◌, ◌<◌, List, [], ◌∷◌, ◌++◌, length, Some, None, Bool, true, false, refl, sym, ap, ◌∙◌, subst, arith, length-append, append_assoc}
 use Rattle.std.specs.Prelude.{slice_set}
 use Rattle.std.specs.List.{list_all}
-use Rattle.std.proofs.lemmas.Bool.{and_from, lt-ltb, eq-eqb}
+use Rattle.std.proofs.lemmas.Bool.{and_from, eq-eqb}
 use Rattle.std.proofs.lemmas.List.Folds.{list_all-append}
 use Rattle.vale_code.specs.declared.instr.Instr.{Instr}
 use Rattle.vale_code.specs.declared.instr.Instr.TheVariants as i
@@ -16,7 +16,7 @@ use Rattle.vale_cert.specs.declared.facts.RegFact.TheVariants.{Empty}
 use Rattle.vale_lower_facts.specs.Slots.{Stand, behind, type_at}
 use Rattle.vale_lower_facts.specs.Marks.{Marks, mark, if_marks, loop_marks}
 use Rattle.vale_lower_facts.proofs.Stands.{Site, Covers, Says, says_same, Plain, plain_less, covers_plain, plain_behind, covers_kept, is_plain, plain_free, known_of, covers_stated}
-use Rattle.vale_lower_facts.proofs.Rows.{own}
+use Rattle.vale_lower_facts.proofs.Rows.{own, numbered as one_numbered}
 use Rattle.vale_lower_facts.proofs.Runs.{row_at, Ready, ready_more, Goes, step, no_way, label_mark, Does, goes, target_ready, target_label, jumps, tests, Fits, front, back, tail, AllPlain, all_plain, plain_both, Runs}
 
 module _ (k : Site) where
@@ -68,7 +68,7 @@ module _ (k : Site) where
           let f4 = back k one (i.Jump end ∷ two) om (mark d1 b1 ∷ tw) y.along f3 in
           let room = f2.each.1 in
           numbered_both test (i.Unless h other ∷ sides) (x.numbered (front k test (i.Unless h other ∷ sides) tm (mark dt tested ∷ (om ++ (mark d1 b1 ∷ tw))) x.along f))
-          (and_from _ _ (lt-ltb h k.func.registers (omega (arith, room)))
+          (and_from _ _ (one_numbered k (i.Unless h other) refl room)
           (numbered_both one (i.Jump end ∷ two) (y.numbered (front k one (i.Jump end ∷ two) om (mark d1 b1 ∷ tw) y.along f3)) (z.numbered (tail k f4))))
 
       if_ready : Fits k p whole (if_marks tm dt tested om d1 b1 tw) → (rest : List Instr) → Ready k (p + length whole) true u rest → Ready k p due s (whole ++ rest)
@@ -107,7 +107,7 @@ module _ (k : Site) where
   pub and_runs : {p h : ℕ} {one : List Instr} {om : Marks} {due d : Bool} {tested s1 b1 u : Stand} → type_at k.last tested h ≡ Some t.Truth → Runs k (p + 1) one om false s1 d b1 → Says k tested s1 → Says k tested u → Says k b1 u → Runs k p (i.Unless h (p + 1 + length one) ∷ one) (mark due tested ∷ om) due tested true u
   and_runs {p} {h} {one} {om} {due} {d} {tested} {s1} {b1} {u} is y a1 a2 a3 = record {
     along = ap suc y.along;
-    numbered = λ f. let room = f.each.1 in and_from _ _ (lt-ltb h k.func.registers (omega (arith, room))) (y.numbered (tail k f));
+    numbered = λ f. let room = f.each.1 in and_from _ _ (one_numbered k (i.Unless h (p + 1 + length one)) refl (omega (arith, room))) (y.numbered (tail k f));
     ready = λ f rest r.
         let room = f.each.1 in
         let r' : Ready k (p + 1 + length one) true u rest = ready_at (let z : p + suc (length one) ≡ p + 1 + length one = omega arith in z) r in
@@ -153,7 +153,7 @@ module _ (k : Site) where
           let fe = back k test turns tm (mark dt tested ∷ None ∷ []) y.along ft in
           let room = fe.each.1 in
           numbered_both body (test ++ turns) (x.numbered (front k body (test ++ turns) bm (tm ++ (mark dt tested ∷ None ∷ [])) x.along fb))
-          (numbered_both test turns (y.numbered (front k test turns tm (mark dt tested ∷ None ∷ []) y.along ft)) (and_from _ _ (lt-ltb h k.func.registers (omega (arith, room))) refl))
+          (numbered_both test turns (y.numbered (front k test turns tm (mark dt tested ∷ None ∷ []) y.along ft)) (and_from _ _ (one_numbered k (i.Unless h (p + 2 + length body + length test + 2)) refl (omega (arith, room))) refl))
 
       loop_ready : Fits k p loop loop_ms → (rest : List Instr) → Ready k (p + length loop) true s rest → Ready k p due s (loop ++ rest)
       loop_ready f rest r =
@@ -248,7 +248,7 @@ module _ (k : Site) where
   pub ret_runs : {p h : ℕ} {due : Bool} {s : Stand} → type_at k.last s h ≡ Some k.func.result → Runs k p (i.Ret h ∷ []) (mark due s ∷ []) due s true (behind true s)
   ret_runs {p} {h} {due} {s} is = record {
     along = refl;
-    numbered = λ f. let room = f.each.1 in and_from _ _ (lt-ltb h k.func.registers (omega (arith, room))) refl;
+    numbered = λ f. let room = f.each.1 in and_from _ _ (one_numbered k (i.Ret h) refl room) refl;
     ready = λ f rest r. let room = f.each.1 in ret_ready h f.each.0 (omega (arith, room)) is r;
     plains = λ p. (plain_behind k true p, all_plain k due s [] p tt);
   }
