@@ -1,17 +1,19 @@
--- What ties the counts and the bits that a page keeps to its slots.
-use Rattle.std.specs.Prelude.{◌≡◌, ℕ, ◌<◌, Option, Some, None, Bool, true, false}
-use Rattle.std.specs.Int.{bit_at}
-use Rattle.vale_page.specs.PageState.{PageState, IsPage, live_count, retired_count, body_of, retired_at}
+-- What a page says of its block of slots, and what holds of it.
+use Rattle.std.specs.Prelude.{◌≡◌, ℕ, map}
+use Rattle.vale_page.specs.BlockState.{generation_in, body_in, spents, IsSound}
+use Rattle.vale_page.specs.PageState.{PageState, IsPage, live_count, retired_count}
+use Rattle.vale_page.specs.declared.block.Block.{Block}
 
-module _ {B : Type 0} where
-  -- 1 for a slot that can take a body, else 0
-  abbrev pub free_bit : Option B → Bool → ℕ
-  free_bit None false = 1
-  free_bit None true = 0
-  free_bit (Some body) retired = 0
+abbrev pub page_of : {B : Type 0} → ℕ → Block B → PageState B
+page_of frame b = record {
+  frame = frame;
+  generations = map (generation_in b.first) b.generations.cells;
+  bodies = map body_in b.bodies.cells;
+  retired = spents b.generations.cells b.bodies.cells;
+}
 
-  pub record IsSound (p : PageState B) (free_bits live_slots retired_slots : ℕ) : Type 0 where
-    pub page : IsPage p
-    pub bits : (slot : ℕ) → slot < 64 → bit_at free_bits slot ≡ free_bit (body_of p slot) (retired_at p slot)
-    pub live : live_slots ≡ live_count p
-    pub retired : retired_slots ≡ retired_count p
+pub record IsKept {B : Type 0} (frame : ℕ) (b : Block B) (live_slots retired_slots : ℕ) : Type 0 where
+  pub block : IsSound b
+  pub page : IsPage (page_of frame b)
+  pub live : live_slots ≡ live_count (page_of frame b)
+  pub retired : retired_slots ≡ retired_count (page_of frame b)

@@ -1,55 +1,38 @@
 // A page of slots.
 ghost use Rattle.std.specs.Prelude.{◌≡◌, ◌<◌, ◌≤◌, IfNone, IfOk, IsSome, OnSome, Some, option_copied};
 ghost use Rattle.std.specs.Option.{option_copied_mut};
-ghost use Rattle.std.specs.Option.Follows.{option_follows_value};
 ghost use Rattle.std.specs.Borrow.{sem};
+ghost use Rattle.std.specs.Mem.{type_size};
 ghost use Rattle.vale_page.specs.PageState.{body_at, body_of, generation_at, live_count, retired_count, free_count, base_of, IsBlank, IsFree, with_body, after_death, IsLater, IsBlankAt, IsBatch};
 
+use crate::block::Block;
 use std::alloc::Global;
 use std::marker::Model;
-use std::mem;
-use vale_base::{Memory, SLOTS};
+use vale_base::Memory;
 
 // The last generation that a slot can have.
 const LAST: u64 = u64::MAX;
 
 /// A page of 64 slots, numbered from 0, for bodies of one type. Contracts see its frame, and of each slot the generation,
 /// the body if it has one, and whether it is retired. Only `batch` takes memory.
-#[derive(Drop)]
 pub struct Page<B> {
     frame: u32,
-    generations: Vec<u64>,
-    bodies: Vec<Option<B>>,
-    retired: Vec<bool>,
-    // Bit s is set where slot s has no body and isn't retired.
-    free: u64,
+    block: Block<B>,
     live_slots: u32,
     retired_slots: u32,
 }
 
 impl<B> Model for Page<B> {
     ghost use Rattle.vale_page.specs.PageState.{PageState, page_code};
-    ghost use Rattle.vale_page.specs.PageSound.{IsSound};
+    ghost use Rattle.vale_page.specs.PageSound.{page_of, IsKept};
 
     ghost Value = { PageState B };
 
     ghost coded = { page_code B.code };
 
-    ghost view = { λ p. record { frame = p.frame; generations = p.generations.items; bodies = p.bodies.items; retired = p.retired.items } };
+    ghost view = { λ p. page_of p.frame p.block };
 
-    ghost invariant = { λ p. IsSound (record { frame = p.frame; generations = p.generations.items; bodies = p.bodies.items; retired = p.retired.items }) p.free p.live_slots p.retired_slots };
-}
-
-// The value of an option that has one, for writing.
-fn value_mut<B>(slot: &mut Option<B>) -> &mut B
-    requires { IsSome slot.old }
-    ensures* writes_back { sem 𝓛 (option_follows_value B.row slot.entry result) }
-    ensures value { slot.old ≡ Some result.now }
-{
-    match slot {
-        Some(body) => body,
-        None => unreachable!(),
-    }
+    ghost invariant = { λ p. IsKept p.frame p.block p.live_slots p.retired_slots };
 }
 
 impl<B> Page<B> {
@@ -67,7 +50,7 @@ impl<B> Page<B> {
         requires { slot < 64 }
         ensures { result ≡ generation_at self.now slot }
     {
-        self.generations[slot as usize]
+        self.block.generation(slot)
     }
 
     /// How many slots have a body.
@@ -96,8 +79,8 @@ impl<B> Page<B> {
         requires { slot < 64 }
         ensures { option_copied result ≡ body_at self.now slot generation }
     {
-        if self.generations[slot as usize] == generation {
-            self.bodies[slot as usize].as_ref()
+        if self.block.has_body(slot) && self.block.generation(slot) == generation {
+            Some(self.block.body(slot))
         } else {
             None
         }
@@ -109,7 +92,7 @@ impl<B> Page<B> {
         ensures* writes_back { sem 𝓛 (lends_body B.row self.entry slot result) }
         ensures value { option_copied_mut result ≡ body_at self.old slot generation }
     {
-        if self.generations[slot as usize] == generation && self.bodies[slot as usize].is_some() {
+        if self.block.generation(slot) == generation && self.block.has_body(slot) {
             Some(self.body_mut(slot))
         } else {
             None
@@ -123,7 +106,8 @@ impl<B> Page<B> {
         ensures* writes_back { sem 𝓛 (lends_live_body B.row self.entry slot result) }
         ensures value { body_of self.old slot ≡ Some result.now }
     {
-        value_mut(&mut self.bodies[slot as usize])
+        let bodies_at = self.block.bodies_at;
+        self.block.bodies.get_mut(bodies_at, slot as usize)
     }
 
     /// The greatest generation of the slots.
@@ -131,9 +115,10 @@ impl<B> Page<B> {
         ensures { result ≡ base_of self.now }
     {
         let mut base = 0;
-        for generation in &self.generations {
-            if *generation > base {
-                base = *generation;
+        for slot in 0..64 {
+            let generation = self.block.generation(slot);
+            if generation > base {
+                base = generation;
             }
         }
         base
@@ -147,7 +132,7 @@ impl<B> Page<B> {
         ensures blank { IsBlankAt self.new self.old.frame base }
         ensures later { IsLater self.old self.new }
     {
-        self.generations.fill(base);
+        self.block.reset(base);
     }
 }
 
@@ -159,12 +144,9 @@ impl<B: Drop> Page<B> {
         ensures generation { result.1 ≡ generation_at self.old result.0 }
         ensures after { self.new ≡ with_body self.old result.0 body }
     {
-        let slot = self.free.trailing_zeros();
-        self.free &= !(1 << slot);
-        // The slot is empty, so there is nothing to drop.
-        mem::forget(mem::replace(&mut self.bodies[slot as usize], Some(body)));
+        let slot = self.block.put(body);
         self.live_slots += 1;
-        (slot as u8, self.generations[slot as usize])
+        (slot, self.block.generation(slot))
     }
 
     /// Takes the body at a place out. The slot's generation rises by one, and a slot at the last generation is retired.
@@ -176,23 +158,22 @@ impl<B: Drop> Page<B> {
         ensures some { OnSome result (self.new ≡ after_death self.old slot) }
         ensures later { IsLater self.old self.new }
     {
-        if self.generations[slot as usize] != generation {
+        if !self.block.has_body(slot) || self.block.generation(slot) != generation {
             return None;
         }
-        let body = self.bodies[slot as usize].take()?;
+        let body = self.block.take(slot);
         self.live_slots -= 1;
         if generation == LAST {
-            self.retired[slot as usize] = true;
             self.retired_slots += 1;
         } else {
-            self.generations[slot as usize] = generation + 1;
-            self.free |= 1 << slot;
+            self.block.free(slot, generation + 1);
         }
         Some(body)
     }
 
     /// One empty page for each frame below `frames`, in order, with each generation at `first`.
     pub fn batch(alloc: Global, frames: u32, first: u64) -> Result<Vec<Page<B>>, Memory>
+        requires { 0 < type_size B.row }
         ensures { IfOk result (λ pages. IsBatch pages.items frames first) }
     {
         let mut pages = Vec::with_capacity(alloc, frames as usize)?;
@@ -204,21 +185,28 @@ impl<B: Drop> Page<B> {
 
     // An empty page of the frame, with each generation at `base`.
     fn blank(alloc: Global, frame: u32, base: u64) -> Result<Page<B>, Memory>
+        requires { 0 < type_size B.row }
         ensures { IfOk result (λ page. IsBlankAt page frame base) }
     {
-        let mut bodies = Vec::with_capacity(alloc, SLOTS)?;
-        for _slot in 0..SLOTS {
-            bodies.push(None)?;
-        }
+        let block = Block::open(alloc, base)?;
         Ok(Page {
             frame,
-            generations: vec![in alloc; base; SLOTS]?,
-            bodies,
-            retired: vec![in alloc; false; SLOTS]?,
-            free: u64::MAX,
+            block,
             live_slots: 0,
             retired_slots: 0,
         })
+    }
+}
+
+impl<B: Drop> Drop for Page<B> {
+    fn drop(self) {
+        let Page {
+            frame: _,
+            block,
+            live_slots: _,
+            retired_slots: _,
+        } = self;
+        block.destroy();
     }
 }
 

@@ -1,5 +1,6 @@
 // The table of one thread.
 ghost use Rattle.std.specs.Prelude.{◌≡◌, ℕ, ◌<◌, ◌≤◌, length, None, IfOk, IsSome, slice_index_or};
+ghost use Rattle.std.specs.Mem.{type_size};
 ghost use Rattle.vale_table.specs.Lending.{IsAlone, CanGive, IsGiven, own_post};
 ghost use Rattle.vale_table.specs.Plain.{frames_of, out_of, floor_of, hand_of, OpensAt, sound_hand};
 
@@ -50,6 +51,7 @@ fn first_home<B>(pages: &[Option<Page<B>>], from: usize) -> usize
 impl<B: Drop> PlainTable<B> {
     /// A table whose frames are all free, at the base `first`.
     pub fn open(alloc: Global, frames: u32, first: u64) -> Result<PlainTable<B>, Memory>
+        requires { 0 < type_size B.row }
         ensures { IfOk result (λ table. OpensAt table frames first) }
     {
         let mut pages = Vec::with_capacity(alloc, frames as usize)?;

@@ -1,5 +1,6 @@
 // The table that all workers of a run draw from.
 ghost use Rattle.std.specs.Prelude.{◌≡◌, ◌≢◌, ◌<◌, ◌≤◌, ◌+◌, [], ◌∷◌, IfOk, MatchOption, false, ℕ, None, true};
+ghost use Rattle.std.specs.Mem.{type_size};
 ghost use Rattle.vale_page.specs.PageState.{IsBlankAt};
 ghost use Rattle.vale_table.specs.Lending.{IsAlone, CanGive};
 ghost use Rattle.vale_table.specs.Marks.{mark, knows_out, saw, given_at};
@@ -179,6 +180,7 @@ impl<B: Drop> SharedTable<B> {
     pub fn open(alloc: Global, frames: u32, first: u64) -> Result<(SharedTable<B>, Seat<B>), Memory>
         requires frames { 0 < frames }
         requires first { 0 < first }
+        requires body { 0 < type_size B.row }
         ensures { IfOk result (λ t. IsAt t.1 t.0 × (frames_of t.0 ≡ frames) × IsOpened frames first (seat_means t.1)) }
     {
         let mut words = Vec::with_capacity(alloc, frames as usize)?;

@@ -1,6 +1,6 @@
-use Rattle.std.proofs.Common.{◌≡◌, drop, max}
+use Rattle.std.proofs.Common.{◌≡◌, take}
 use Rattle.vale_page.specs.PageState.{greatest}
 use Rattle.vale_page.proofs.page.Page.base.Given as goal
 
-abbrev pub invariant-loop-generation : goal.invariant-loop-generation
-invariant-loop-generation g l = max l.base (greatest (drop l.generation-index l.generation-items)) ≡ greatest l.generation-items
+abbrev pub invariant-loop-slot : goal.invariant-loop-slot
+invariant-loop-slot g l = l.base ≡ greatest (take l.slot l.self.generations)

@@ -1,38 +1,14 @@
-use Rattle.std.proofs.Common.{◌<◌, ◌^◌, arith}
-use Rattle.std.proofs.lemmas.List.{get_or_read}
-use Rattle.vale_page.proofs.SoundLemmas.{lowest_is_free, sound_put}
+use Rattle.vale_page.proofs.PageLemmas.{kept_put, put_shown, free_shown, room_left}
 use Rattle.vale_page.proofs.page.Page.put.Goals as goal
 
-pub overflow_shl-self : goal.overflow_shl-self
-overflow_shl-self g c =
-    let small : c.self.inside.free < 2 ^ 64 = omega arith in
-    (lowest_is_free _ _ _ _ c.self.invariant small (rw (← c.self.view_is) at c.requires)).within
-
-pub index_mut-requires : goal.index_mut-requires
-index_mut-requires g c =
-    let small : c.self.inside.free < 2 ^ 64 = omega arith in
-    let within = (lowest_is_free _ _ _ _ c.self.invariant small (rw (← c.self.view_is) at c.requires)).within in
-    omega (arith, within, c.self.invariant.page.bodies)
-
-pub index-requires : goal.index-requires
-index-requires g c =
-    let small : c.self.inside.free < 2 ^ 64 = omega arith in
-    let within = (lowest_is_free _ _ _ _ c.self.invariant small (rw (← c.self.view_is) at c.requires)).within in
-    omega (arith, within, c.self.invariant.page.generations)
+pub put-slot-requires : goal.put-slot-requires
+put-slot-requires g c = (c.self.invariant.block, room_left _ _ _ c.self.inside.block c.self.invariant (rw (← c.self.view_is) at c.requires))
 
 pub invariant_of-self : goal.invariant_of-self
-invariant_of-self g c =
-    let small : c.self.inside.free < 2 ^ 64 = omega arith in
-    let free = lowest_is_free _ _ _ _ c.self.invariant small (rw (← c.self.view_is) at c.requires) in
-    rw c.replace.ensures.after (sound_put _ _ _ _ _ c.args.body c.self.invariant small free)
+invariant_of-self g c = kept_put _ _ _ c.self.inside.block c.self.invariant c.put-slot.new.self c.put-slot.result c.args.body c.put-slot.ensures.0 c.put-slot.ensures.1
 
 pub returns-clause-slot : goal.returns-clause-slot
-returns-clause-slot g c =
-    let small : c.self.inside.free < 2 ^ 64 = omega arith in
-    rw (← c.self.view_is) (lowest_is_free _ _ _ _ c.self.invariant small (rw (← c.self.view_is) at c.requires))
+returns-clause-slot g c = rw (← c.self.view_is) (free_shown _ c.self.inside.block c.self.invariant.block.slots c.put-slot.new.self c.put-slot.result c.args.body c.put-slot.ensures.1)
 
-pub returns-clause-generation : goal.returns-clause-generation
-returns-clause-generation g c =
-    let small : c.self.inside.free < 2 ^ 64 = omega arith in
-    let within = (lowest_is_free _ _ _ _ c.self.invariant small (rw (← c.self.view_is) at c.requires)).within in
-    rw (← c.self.view_is) (get_or_read c.self.inside.generations.items _ c.index.result.now (omega (arith, within, c.self.invariant.page.generations)) c.index.ensures 0)
+pub returns-clause-after : goal.returns-clause-after
+returns-clause-after g c = rw (← c.self.view_is) (put_shown _ c.self.inside.block c.self.invariant.block.slots c.put-slot.new.self c.put-slot.result c.args.body c.put-slot.ensures.1)
