@@ -13,7 +13,7 @@ use Rattle.vale_syntax.specs.declared.tree.NameAt.{NameAt}
 use Rattle.vale_rules_spec.specs.Judged.{Judged, fine, faulty}
 use Rattle.vale_rules_spec.specs.Typed.{Typed}
 use Rattle.vale_rules_spec.specs.Typing.{typed}
-use Rattle.vale_syntax.specs.Tree.{int_type, set, chain, number, quote, truth, name, call, paren, no_exprs, more_exprs, link, no_links, more_links, branch, no_else, block, declare, return_value, while, foreach, form_stmt, express, no_stmts, more_stmts, param, head, function, function_item, Tree, tree}
+use Rattle.vale_syntax.specs.Tree.{int_type, set, chain, number, quote, truth, name, call, paren, form, no_exprs, more_exprs, link, no_links, more_links, branch, no_else, block, declare, return_value, while, foreach, form_stmt, express, no_stmts, last, more_stmts, param, head, function, function_item, Tree, tree}
 use Rattle.vale_code.specs.Run.{run_code}
 use Rattle.vale_lowering.specs.Lowered.{lowered}
 
@@ -102,7 +102,7 @@ two_functions = tree (codes "f" ∷ codes "k" ∷ codes "main" ∷ codes "x" ∷
     (more_stmts (return_value (at 1 44) (chain (call (n 0 1 51) (more_exprs (chain (name (n 1 1 53)) (more_links (link (at 1 55) Sub (number (at 1 57) (pos 1))) no_links)) no_exprs)) (more_links (link (at 1 60) Add (call (n 0 1 62) (more_exprs (chain (name (n 1 1 64)) (more_links (link (at 1 66) Sub (number (at 1 68) (pos 2))) no_links)) no_exprs))) no_links))) no_stmts))))
     ∷ function_item (function (head false (n 2 2 6) [] None) (block (at 2 13) (at 7 1)
     (more_stmts (declare (n 3 3 3) (number (at 3 7) (pos 0)))
-    (more_stmts (while (at 4 3) (chain (name (n 3 4 9)) (more_links (link (at 4 11) Less (number (at 4 13) (pos 3))) no_links)) (block (at 4 15) (at 4 62) (more_stmts (express (set (at 4 17) (name (n 3 4 21)) (chain (name (n 3 4 25)) (more_links (link (at 4 27) Add (number (at 4 29) (pos 1))) no_links)))) (more_stmts (form_stmt (branch (at 4 32) (chain (name (n 3 4 35)) (more_links (link (at 4 37) Equal (number (at 4 40) (pos 2))) no_links)) (block (at 4 42) (at 4 60) (more_stmts (express (call (n 4 4 44) (more_exprs (quote (at 4 52) (codes "two")) no_exprs))) no_stmts)) no_else)) no_stmts))))
+    (more_stmts (while (at 4 3) (chain (name (n 3 4 9)) (more_links (link (at 4 11) Less (number (at 4 13) (pos 3))) no_links)) (block (at 4 15) (at 4 62) (more_stmts (express (set (at 4 17) (name (n 3 4 21)) (chain (name (n 3 4 25)) (more_links (link (at 4 27) Add (number (at 4 29) (pos 1))) no_links)))) (last (form (branch (at 4 32) (chain (name (n 3 4 35)) (more_links (link (at 4 37) Equal (number (at 4 40) (pos 2))) no_links)) (block (at 4 42) (at 4 60) (more_stmts (express (call (n 4 4 44) (more_exprs (quote (at 4 52) (codes "two")) no_exprs))) no_stmts)) no_else))))))
     (more_stmts (express (call (n 4 5 3) (more_exprs (call (n 0 5 11) (more_exprs (number (at 5 13) (pos 3)) no_exprs)) no_exprs)))
     (more_stmts (express (call (n 4 6 3) (more_exprs (chain (number (at 6 11) (pos 1)) (more_links (link (at 6 13) Div (paren (at 6 15) (chain (name (n 3 6 16)) (more_links (link (at 6 18) Sub (number (at 6 20) (pos 3))) no_links)))) no_links)) no_exprs))) no_stmts))))))
     ∷ [])

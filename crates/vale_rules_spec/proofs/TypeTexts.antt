@@ -345,6 +345,10 @@ a_method_with_a_wrong_argument = refl
 a_method_of_a_struct : text (codes "S" ∷ codes "I" ∷ codes "m" ∷ codes "self" ∷ codes "x" ∷ codes "up" ∷ codes "r" ∷ codes "main" ∷ codes "s" ∷ codes "println" ∷ []) (struct_item (n 0 8) [] ∷ interface_item (n 1 24) (head false (n 2 33) (param (n 3 35) (ref_type (at 40) (named_type (n 1 41))) ∷ param (n 4 44) (int_type (at 46)) ∷ []) (Some (int_type (at 51))) ∷ []) ∷ impl_item (at 58) (n 1 63) (n 0 69) (function (head false (n 2 78) (param (n 3 80) (ref_type (at 85) (named_type (n 0 86))) ∷ param (n 4 89) (int_type (at 91)) ∷ []) (Some (int_type (at 96)))) (block (at 100) (at 112) (more_stmts (return_value (at 102) (name (n 4 109))) no_stmts)) ∷ []) ∷ function_item (function (head false (n 5 121) (param (n 6 124) (ref_type (at 126) (named_type (n 1 127))) ∷ []) (Some (ref_type (at 130) (named_type (n 1 131))))) (block (at 133) (at 145) (more_stmts (return_value (at 135) (name (n 6 142))) no_stmts))) ∷ function_item (function (head false (n 7 152) [] None) (block (at 159) (at 187) (more_stmts (declare (n 8 161) (call (n 0 165) no_exprs)) (more_stmts (express (call (n 9 170) (more_exprs (steps (name (n 8 178)) (more_steps (method (at 179) (record { 0 = 2 }) (more_exprs (number (at 182) (pos 1)) no_exprs)) no_steps)) no_exprs))) no_stmts)))) ∷ []) ≡ fault 20 179
 a_method_of_a_struct = refl
 
+-- struct S { } func main() { s = S(); s.m(); }
+a_method_of_a_struct_without_interface : text (codes "S" ∷ codes "main" ∷ codes "s" ∷ codes "m" ∷ []) (struct_item (n 0 8) [] ∷ function_item (function (head false (n 1 19) [] None) (block (at 26) (at 44) (more_stmts (declare (n 2 28) (call (n 0 32) no_exprs)) (more_stmts (express (steps (name (n 2 37)) (more_steps (method (at 38) (record { 0 = 3 }) no_exprs) no_steps))) no_stmts)))) ∷ []) ≡ fault 20 38
+a_method_of_a_struct_without_interface = refl
+
 -- struct S { } interface I { func m(self &I, x int) int; } impl I for S { func m(self &S, x int) int { return x; } } func up(r &I) &I { return r; } func f(i I) { } func main() { f(S()); }
 a_struct_s_owner_for_an_interface_s : text (codes "S" ∷ codes "I" ∷ codes "m" ∷ codes "self" ∷ codes "x" ∷ codes "up" ∷ codes "r" ∷ codes "f" ∷ codes "i" ∷ codes "main" ∷ []) (struct_item (n 0 8) [] ∷ interface_item (n 1 24) (head false (n 2 33) (param (n 3 35) (ref_type (at 40) (named_type (n 1 41))) ∷ param (n 4 44) (int_type (at 46)) ∷ []) (Some (int_type (at 51))) ∷ []) ∷ impl_item (at 58) (n 1 63) (n 0 69) (function (head false (n 2 78) (param (n 3 80) (ref_type (at 85) (named_type (n 0 86))) ∷ param (n 4 89) (int_type (at 91)) ∷ []) (Some (int_type (at 96)))) (block (at 100) (at 112) (more_stmts (return_value (at 102) (name (n 4 109))) no_stmts)) ∷ []) ∷ function_item (function (head false (n 5 121) (param (n 6 124) (ref_type (at 126) (named_type (n 1 127))) ∷ []) (Some (ref_type (at 130) (named_type (n 1 131))))) (block (at 133) (at 145) (more_stmts (return_value (at 135) (name (n 6 142))) no_stmts))) ∷ function_item (function (head false (n 7 152) (param (n 8 154) (named_type (n 1 156)) ∷ []) None) (block (at 159) (at 161) no_stmts)) ∷ function_item (function (head false (n 9 168) [] None) (block (at 175) (at 185) (more_stmts (express (call (n 7 177) (more_exprs (call (n 0 179) no_exprs) no_exprs))) no_stmts))) ∷ []) ≡ None
 a_struct_s_owner_for_an_interface_s = refl
