@@ -3,7 +3,7 @@ use Rattle.std.specs.Prelude.{ℕ, ◌≤◌, ◌≡◌, ◌≢◌, ⊤, List, O
 use Rattle.std.specs.Option.{option_map}
 use Rattle.vale_ports.specs.Faults.{Rose}
 use Rattle.vale_ports.specs.declared.shelf.ShelfFault.{ShelfFault}
-use Rattle.vale_ports.specs.declared.shelf.ShelfFault.TheVariants.{Failed}
+use Rattle.vale_ports.specs.declared.shelf.ShelfFault.TheVariants.{Failed, Memory}
 use Rattle.vale_ports.specs.declared.shelf.ShelfCall.{ShelfCall}
 
 -- a file's bytes by its name, or that no file has the name
@@ -42,9 +42,11 @@ abbrev pub HasFile : Option Files → List ℕ → List ℕ → Type 0
 HasFile None name bytes = ⊤
 HasFile (Some files) name bytes = files name ≡ Some bytes
 
--- `Failed` comes only where the count rose, and the last fault is then this call; no other answer changes it
+-- `Failed` comes only where the count rose, and the last fault is then this call; no other answer changes it, and want of
+-- memory leaves the count as it was
 pub record HasShelfCause {T : Type 0} (old new : ShelfState) (call : ShelfCall) (result : Result T ShelfFault) : Type 0 where
   pub later : old.faults ≤ new.faults
   pub rose : result ≡ Err Failed → Rose old.faults new.faults
   pub last : result ≡ Err Failed → new.last_fault ≡ Some call
   pub kept : result ≢ Err Failed → new.last_fault ≡ old.last_fault
+  pub still : result ≡ Err Memory → new.faults ≡ old.faults

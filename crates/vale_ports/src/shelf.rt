@@ -59,7 +59,7 @@ pub trait Shelf {
     ghost state: { Self → ShelfState };
 
     /// The first `limit` bytes of a file, or all where there are fewer. A name that isn't there is a fault. `Failed`
-    /// comes only where the count of faults rose; the last fault is then this call.
+    /// comes only where the count of faults rose; the last fault is then this call. `Memory` leaves both as they were.
     fn read(&mut self, alloc: Global, name: &str, limit: u64) -> Result<Vec<u8>, ShelfFault>
         ensures bytes { IfOk result (λ bytes. ReadsFile (state self.old).files name.now limit bytes.items) }
         ensures bound { IfOk result (λ bytes. length bytes.items ≤ limit) }
