@@ -1,4 +1,5 @@
-pub mod ByteLaws
 mod FaultLaws
-mod MissingLaws
+mod InterfaceLaws
 mod Rules
+pub mod ByteLaws
+pub mod ServedLaws

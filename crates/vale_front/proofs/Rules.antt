@@ -1,6 +1,6 @@
--- The laws by which the walk is proved.
+-- The laws by which the walks are proved.
 use Rattle.vale_syntax.proofs.ViewLaws as v
-use Rattle.vale_front.proofs.MissingLaws.{in_turn, nothing_first, nothing_last, link_by_parts, else_if_by_parts, block_by_parts, if_by_parts}
+use Rattle.vale_front.proofs.InterfaceLaws.{in_turn, nothing_first, nothing_last, link_by_parts, else_if_by_parts, block_by_parts, if_by_parts}
 
 pub ruleset exprs = (v.of_set, v.of_chain, v.of_unary, v.of_steps, v.of_number, v.of_quote, v.of_truth, v.of_name, v.of_call, v.of_paren, v.of_array, v.of_iso, v.of_form)
 

@@ -2,7 +2,8 @@
 use Rattle.std.specs.Prelude.{ℕ, ◌≡◌, ◌≤◌, ◌<◌, true, false, List, length}
 use Rattle.vale_base.specs.Limits.{program_limit}
 use Rattle.vale_base.specs.declared.spot.Spot.{Spot}
-use Rattle.vale_front.specs.Missing.{missing_in}
+use Rattle.vale_front.specs.Interfaces.{has_interfaces}
+use Rattle.vale_served_spec.specs.Served.{is_served}
 use Rattle.vale_rules_spec.specs.Owned.{owned}
 use Rattle.vale_reading.specs.ItemReading.{all_of}
 use Rattle.vale_parser.specs.Refusal.{IsRefusal}
@@ -31,28 +32,28 @@ pub data Unread (text : List ℕ) (code : ℕ) (at : Spot) : Type 0 where
       → Unread text code at
 
 -- The tree is refused with this code at this spot: the first faulty node of the first phase that finds one; or, before
--- the phases, what they don't judge yet, and, after them, what isn't compiled yet.
+-- the phases, interfaces, which they don't judge yet, and, after them, what isn't served yet.
 pub data Unsound (tree : Tree) (code : ℕ) (at : Spot) : Type 0 where
-  not_judged : (missing_in tree).unjudged ≡ true → code ≡ 5 → at ≡ start → Unsound tree code at
-  ill_declared : (missing_in tree).unjudged ≡ false → (f : Fault) → IsFirstFault (declared tree) f → code ≡ f.code → at ≡ f.at
+  with_interfaces : has_interfaces tree ≡ true → code ≡ 5 → at ≡ start → Unsound tree code at
+  ill_declared : has_interfaces tree ≡ false → (f : Fault) → IsFirstFault (declared tree) f → code ≡ f.code → at ≡ f.at
       → Unsound tree code at
-  ill_typed : (missing_in tree).unjudged ≡ false → (decls : Decls) → IsFine (declared tree) decls
+  ill_typed : has_interfaces tree ≡ false → (decls : Decls) → IsFine (declared tree) decls
       → (f : Fault) → IsFirstFault (typed tree) f → code ≡ f.code → at ≡ f.at
       → Unsound tree code at
-  ill_owned : (missing_in tree).unjudged ≡ false → (decls : Decls) (program : Typed) → IsFine (declared tree) decls
+  ill_owned : has_interfaces tree ≡ false → (decls : Decls) (program : Typed) → IsFine (declared tree) decls
       → IsFine (typed tree) program → (f : Fault) → IsFirstFault (owned program) f → code ≡ f.code → at ≡ f.at
       → Unsound tree code at
-  not_served : (missing_in tree).unjudged ≡ false → (decls : Decls) (program : Typed) → IsFine (declared tree) decls
-      → IsFine (typed tree) program → IsFine (owned program) program → (missing_in tree).unserved ≡ true → code ≡ 5 → at ≡ start
+  not_served : has_interfaces tree ≡ false → (decls : Decls) (program : Typed) → IsFine (declared tree) decls
+      → IsFine (typed tree) program → IsFine (owned program) program → is_served program ≡ false → code ≡ 5 → at ≡ start
       → Unsound tree code at
 
--- the tree breaks no rule, has this typed tree, and all of it is compiled
+-- the tree breaks no rule, has this typed tree, and all of it is served
 pub record Serves (tree : Tree) (decls : Decls) (program : Typed) : Type 0 where
-  pub judged : (missing_in tree).unjudged ≡ false
+  pub plain : has_interfaces tree ≡ false
   pub declares : IsFine (declared tree) decls
   pub types : IsFine (typed tree) program
   pub owns : IsFine (owned program) program
-  pub served : (missing_in tree).unserved ≡ false
+  pub served : is_served program ≡ true
 
 -- the text is refused with this code at this spot
 pub data Refused (text : List ℕ) (code : ℕ) (at : Spot) : Type 0 where

@@ -10,8 +10,9 @@ ghost use Rattle.vale_syntax.specs.View.{view_tree};
 ghost use Rattle.vale_rules_spec.specs.WellFormed.{Reads};
 ghost use Rattle.vale_syntax.specs.declared.decls.Decls.{Decls};
 
-use crate::missing::missing_in;
+use crate::interfaces::has_interfaces;
 use crate::refusal::Refusal;
+use crate::served::is_served;
 use std::alloc::Global;
 use vale_base::{Fail, Spot};
 use vale_core::Sound;
@@ -38,8 +39,7 @@ pub fn judge(alloc: Global, tree: Tree) -> Result<Sound, Fail<Refusal>>
     // a refusal is that of the first phase that refuses
     ensures refused { IfFault result (λ f. Unsound (view_tree tree) f.code f.at) }
 {
-    let missing = missing_in(&tree);
-    if missing.unjudged {
+    if has_interfaces(&tree) {
         return Err(Fail::Is(NOT_SERVED));
     }
     let decls = match declare(alloc, &tree) {
@@ -57,7 +57,7 @@ pub fn judge(alloc: Global, tree: Tree) -> Result<Sound, Fail<Refusal>>
         Err(Fail::Is(fault)) => return Err(Fail::Is(Refusal::of(fault))),
         Err(Fail::Memory) => return Err(Fail::Memory),
     };
-    if missing.unserved {
+    if !is_served(&core) {
         return Err(Fail::Is(NOT_SERVED));
     }
     Ok(Sound { core })

@@ -1,7 +1,7 @@
 // The code of a program with its facts.
 ghost use Rattle.std.specs.Prelude.{◌≡◌, IfOk, true};
 ghost use Rattle.vale_core.specs.View.{view_core};
-ghost use Rattle.vale_lowering.specs.Covered.{is_covered};
+ghost use Rattle.vale_served_spec.specs.Served.{is_served};
 ghost use Rattle.vale_lowering.specs.Lowered.{lowered};
 ghost use Rattle.vale_lower_facts.specs.Marks.{lowered_facts};
 ghost use Rattle.vale_sound.specs.Runs.{Runs};
@@ -20,8 +20,8 @@ use vale_sound::well_formed_programs_run;
 pub fn lower(alloc: Global, sound: &Sound) -> Result<(Code, Facts), Memory>
     ensures code { IfOk result (λ both. both.0 ≡ lowered (view_core sound.now.core)) }
     ensures facts { IfOk result (λ both. both.1 ≡ lowered_facts (view_core sound.now.core)) }
-    // Where all of the program is lowered, these facts certify this code, and it does what the program means.
-    ensures runs { is_covered (view_core sound.now.core) ≡ true → ∥ Runs (view_core sound.now.core) ∥₁ }
+    // Where all of the program is served, these facts certify this code, and it does what the program means.
+    ensures runs { is_served (view_core sound.now.core) ≡ true → ∥ Runs (view_core sound.now.core) ∥₁ }
 {
     well_formed_programs_run();
     let code = lower_code(alloc, &sound.core)?;

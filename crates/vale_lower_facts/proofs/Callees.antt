@@ -23,7 +23,7 @@ use Rattle.vale_code.specs.declared.ty.Ty.TheVariants as t
 use Rattle.vale_cert.specs.Known.{Known, fact_of}
 use Rattle.vale_cert.specs.Rules.{Row, gets, passes_all, comes_back, all_fine, calls, call_by_form}
 use Rattle.vale_cert.specs.declared.facts.RegFact.TheVariants.{Held}
-use Rattle.vale_lowering.specs.Covered.{type_is_covered, built_in_is_covered}
+use Rattle.vale_served_spec.specs.Served.{type_is_served, built_in_is_served}
 use Rattle.vale_lowering.specs.Instructions.{registers_from, built_in_code}
 use Rattle.vale_lowering.specs.Lowered.{count, call_code}
 use Rattle.vale_lowering.specs.Scopes.{code_type, agree, may_be_called, number_of_function, result_type}
@@ -42,7 +42,7 @@ str_type : (x : Ty) → y.same x y.str ≡ true → x ≡ y.str
 str_type y.str e = refl
 str_type _ e = let f : ⊥ = cc in absurd f
 
-measured : (x : Ty) → (y.same x y.str || is_array_ref x) ≡ true → type_is_covered x ≡ true → x ≡ y.str
+measured : (x : Ty) → (y.same x y.str || is_array_ref x) ≡ true → type_is_served x ≡ true → x ≡ y.str
 measured y.str e c = refl
 measured y.void e c = absurd (cc)
 measured y.int e c = absurd (cc)
@@ -79,7 +79,7 @@ module _ (k : Site) where
     third_arg : (e f g : Expr) (es : Exprs) (ty : CodeTy) → code_type (type g) ≡ ty → type_at k.last (with_args (more_exprs e (more_exprs f (more_exprs g es))) h s) (h + 1 + 1) ≡ Some ty
     third_arg e f g es ty q = arg_here k g es (h + 1 + 1) (below_slot k (waits (h + 1) (type f)) (below_slot k (waits h (type e)) below)) ∙ ap Some q
 
-    built_in_typed : (f : BuiltIn) (es : Exprs) → built_in_is_covered f ≡ true → list_all type_is_covered (types es) ≡ true → takes_arguments [] f (types es) ≡ true → BuiltInRuns f es (built_in_gives f (types es)) at p h s due
+    built_in_typed : (f : BuiltIn) (es : Exprs) → built_in_is_served f ≡ true → list_all type_is_served (types es) ≡ true → takes_arguments [] f (types es) ≡ true → BuiltInRuns f es (built_in_gives f (types es)) at p h s due
     built_in_typed b.Print (more_exprs e no_exprs) c cs ok = print_runs k h 0 (code_type (type e)) (omega arith) (copies_too (type e) ok) (first_arg e no_exprs (code_type (type e)) refl) (says_args k (more_exprs e no_exprs) h below)
     built_in_typed b.Print no_exprs c cs ok = absurd (cc)
     built_in_typed b.Print (more_exprs e (more_exprs f es)) c cs ok = absurd (cc)
@@ -87,7 +87,7 @@ module _ (k : Site) where
     built_in_typed b.Println no_exprs c cs ok = absurd (cc)
     built_in_typed b.Println (more_exprs e (more_exprs f es)) c cs ok = absurd (cc)
     built_in_typed b.Len (more_exprs e no_exprs) c cs ok =
-        len_runs k h h (first_arg e no_exprs t.Text (ap code_type (measured (type e) ok (and_parts (type_is_covered (type e)) true cs).0))) (says_args k (more_exprs e no_exprs) h below)
+        len_runs k h h (first_arg e no_exprs t.Text (ap code_type (measured (type e) ok (and_parts (type_is_served (type e)) true cs).0))) (says_args k (more_exprs e no_exprs) h below)
     built_in_typed b.Len no_exprs c cs ok = absurd (cc)
     built_in_typed b.Len (more_exprs e (more_exprs f es)) c cs ok = absurd (cc)
     built_in_typed b.Text (more_exprs e no_exprs) c cs ok = text_of_runs k h h (first_arg e no_exprs t.Int (ap code_type (int_type (type e) ok))) (says_args k (more_exprs e no_exprs) h below)
@@ -124,7 +124,7 @@ module _ (k : Site) where
     built_in_typed b.Push es c cs ok = absurd (cc)
     built_in_typed b.Pop es c cs ok = absurd (cc)
 
-    pub built_in_runs : (f : BuiltIn) (es : Exprs) (x : Ty) → built_in_is_covered f ≡ true → list_all type_is_covered (types es) ≡ true → IsBuiltIn f (types es) x → BuiltInRuns f es x at p h s due
+    pub built_in_runs : (f : BuiltIn) (es : Exprs) (x : Ty) → built_in_is_served f ≡ true → list_all type_is_served (types es) ≡ true → IsBuiltIn f (types es) x → BuiltInRuns f es x at p h s due
     built_in_runs f es x c cs su = subst (λ x. BuiltInRuns f es x at p h s due) (sym su.given) (built_in_typed f es c cs su.taken)
 
   -- ---- functions of the program
@@ -151,7 +151,7 @@ module _ (k : Site) where
             (subst (λ r. Covers k (record { depth = known.depth; regs = slice_set r to (Held (code_type x) known.depth false) }) (with_slot (holds to x) s)) (sym same) (covers_write k (holds to x) (copies_too x copy) c));
       })
 
-  comes_does : (to : ℕ) (x : Ty) (known : Known) (s : Stand) (row : Row) → type_is_covered x ≡ true → Fine row.kept → row.after ≡ known.regs → Covers k known s → Back to x known s (comes_back known.depth (code_type x) to row)
+  comes_does : (to : ℕ) (x : Ty) (known : Known) (s : Stand) (row : Row) → type_is_served x ≡ true → Fine row.kept → row.after ≡ known.regs → Covers k known s → Back to x known s (comes_back known.depth (code_type x) to row)
   comes_does to y.int known s row cov f same c = gets_back to y.int known s row refl refl f same c
   comes_does to y.bool known s row cov f same c = gets_back to y.bool known s row refl refl f same c
   comes_does to y.str known s row cov f same c = gets_back to y.str known s row refl refl f same c
@@ -221,10 +221,10 @@ copy_str x e = ap y.is_copy (str_type x e)
 copy_int : (x : Ty) → is_int x ≡ true → y.is_copy x ≡ true
 copy_int x e = ap y.is_copy (int_type x e)
 
-pub built_in_copies : (f : BuiltIn) (tys : List Ty) → built_in_is_covered f ≡ true → list_all type_is_covered tys ≡ true → takes_arguments [] f tys ≡ true → list_all y.is_copy tys ≡ true
+pub built_in_copies : (f : BuiltIn) (tys : List Ty) → built_in_is_served f ≡ true → list_all type_is_served tys ≡ true → takes_arguments [] f tys ≡ true → list_all y.is_copy tys ≡ true
 built_in_copies b.Print (x ∷ []) c cs ok = and_from _ _ ok refl
 built_in_copies b.Println (x ∷ []) c cs ok = and_from _ _ ok refl
-built_in_copies b.Len (x ∷ []) c cs ok = and_from _ _ (ap y.is_copy (measured x ok (and_parts (type_is_covered x) true cs).0)) refl
+built_in_copies b.Len (x ∷ []) c cs ok = and_from _ _ (ap y.is_copy (measured x ok (and_parts (type_is_served x) true cs).0)) refl
 built_in_copies b.Text (x ∷ []) c cs ok = and_from _ _ (copy_int x ok) refl
 built_in_copies b.Slice (x ∷ z ∷ w ∷ []) c cs ok =
     let two = and_parts (y.same x y.str && is_int z) (is_int w) ok in

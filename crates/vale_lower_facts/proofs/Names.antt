@@ -13,7 +13,7 @@ use Rattle.vale_model.specs.Kinds.{head_of}
 use Rattle.vale_model.specs.Parts.{first_function, has_name, is_pure}
 use Rattle.vale_code.specs.declared.func.Func.{Func}
 use Rattle.vale_cert.specs.Types.{is_copy}
-use Rattle.vale_lowering.specs.Covered.{type_is_covered}
+use Rattle.vale_served_spec.specs.Served.{type_is_served}
 use Rattle.vale_lowering.specs.Scopes.{Around, place_of, code_type, result_type, number_of_function}
 use Rattle.vale_lowering.proofs.Lookups.{in_front}
 use Rattle.vale_lower_facts.specs.Slots.{local, waits, holds, Stand, scope_at, with_slot, behind, type_at}
@@ -34,7 +34,7 @@ copies_too (y.imm x) e = absurd (cc)
 copies_too (y.iso x) e = absurd (cc)
 
 -- what is lowered and gives a value gives a copy value
-pub covered_copy : (x : Ty) → type_is_covered x ≡ true → y.is_void x ≡ false → y.is_copy x ≡ true
+pub covered_copy : (x : Ty) → type_is_served x ≡ true → y.is_void x ≡ false → y.is_copy x ≡ true
 covered_copy y.int c e = refl
 covered_copy y.bool c e = refl
 covered_copy y.str c e = refl
@@ -56,7 +56,7 @@ pub record IsFunc (found : Option Func) (f : Function) : Type 0 where
   pub result : func.result ≡ code_type (result_type f)
   pub plain : is_pure f ≡ false
   pub copies : list_all y.is_copy (param_types (head_params (head_of f))) ≡ true
-  pub covered : type_is_covered (result_type f) ≡ true
+  pub covered : type_is_served (result_type f) ≡ true
 
 -- each text of one list is one of another
 pub record Among (some all : List (List ℕ)) : Type 0 where
@@ -81,7 +81,7 @@ module _ (k : Site) where
     pub around : Around
     pub gives : around.gives ≡ y.is_copy k.result
     pub result_is : k.func.result ≡ code_type k.result
-    pub covered : type_is_covered k.result ≡ true
+    pub covered : type_is_served k.result ≡ true
     pub texts : around.texts ≡ k.code.texts
     pub called : (n : ℕ) (f : Function) → first_function (has_name n) around.functions ≡ Some f → IsFunc (slice_get k.code.funcs (number_of_function (has_name n) around.functions)) f
 

@@ -16,7 +16,7 @@ use Rattle.vale_code.specs.declared.instr.Instr.TheVariants as i
 use Rattle.vale_code.specs.declared.ty.Ty.{Ty as CodeTy}
 use Rattle.vale_code.specs.declared.ty.Ty.TheVariants as t
 use Rattle.vale_cert.specs.Rules.{is_ordered}
-use Rattle.vale_lowering.specs.Covered.{unary_is_covered}
+use Rattle.vale_served_spec.specs.Served.{unary_is_served}
 use Rattle.vale_lowering.specs.Instructions.{only_if, link_code, unary_code}
 use Rattle.vale_lowering.specs.Lowered.{value_code}
 use Rattle.vale_lowering.specs.Scopes.{Around, code_type}
@@ -237,7 +237,7 @@ module _ (k : Site) where
 
   -- ---- one operand
 
-  pub unary_runs : {p h : ℕ} {due : Bool} {s : Stand} (o : UnaryOp) (ty x : Ty) (at : Spot) → unary_is_covered o ≡ true → unary_is_well_typed o ty x → Below k h s
+  pub unary_runs : {p h : ℕ} {due : Bool} {s : Stand} (o : UnaryOp) (ty x : Ty) (at : Spot) → unary_is_served o ≡ true → unary_is_well_typed o ty x → Below k h s
       → Runs k p (unary_code o at h) (marked due (with_slot (holds h ty) s) (unary_code o at h)) due (with_slot (holds h ty) s) false (with_slot (holds h x) s)
   unary_runs {p} {h} {due} {s} unary.Minus ty x at c su b =
       subst (λ x. Runs k p (unary_code unary.Minus at h) (marked due (with_slot (holds h ty) s) (unary_code unary.Minus at h)) due (with_slot (holds h ty) s) false (with_slot (holds h x) s)) (sym su.1)

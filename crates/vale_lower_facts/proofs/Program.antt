@@ -9,7 +9,7 @@ use Rattle.std.proofs.lemmas.Option.{slice_get_within}
 use Rattle.vale_state_spec.specs.State.{no_input}
 use Rattle.vale_syntax.specs.Tree.{Head, head, Param}
 use Rattle.vale_rules_spec.specs.Declarations.{head_params, param_type}
-use Rattle.vale_rules_spec.specs.Types.{Ty, type_of}
+use Rattle.vale_rules_spec.specs.Types.{Ty, type_of, result_of}
 use Rattle.vale_rules_spec.specs.Types as y
 use Rattle.vale_rules_spec.specs.TypeRules.{head_gives, param_types}
 use Rattle.vale_rules_spec.specs.Typed.{Function, function_body, Item, struct_item, interface_item, impl_item, function_item, Typed, typed}
@@ -31,7 +31,7 @@ use Rattle.vale_cert.specs.Shape.{counted_after, funcs_fault, func_is_lawful, he
 use Rattle.vale_cert.specs.Types.{is_copy, is_type, is_result, is_void, reaches_isolate, ◌⇒◌}
 use Rattle.vale_cert.specs.Walk.{or_else, walk, function_fault, functions_fault}
 use Rattle.vale_cert.specs.declared.facts.FuncFacts.{FuncFacts}
-use Rattle.vale_lowering.specs.Covered.{type_is_covered, function_is_covered, item_is_covered, block_is_covered, is_covered}
+use Rattle.vale_served_spec.specs.Served.{type_is_served, function_is_served, item_is_served, block_is_served, is_served}
 use Rattle.vale_lowering.specs.Lowered.{registers_in, end_code, form_of, around_of, names_in, block_code, lowered_function, functions_in, texts_in, lowered_parts, lowered}
 use Rattle.vale_lowering.specs.Scopes.{Around, code_type, head_result, result_type, parameters, number_of_function}
 use Rattle.vale_lowering.specs.Texts.{function_quotes, block_quotes}
@@ -78,22 +78,22 @@ suits_at functions (g ∷ fs) (suc i) f s h = suits_at functions fs i f s.1 h
 
 -- ---- functions
 
-record CoveredParts (f : Function) : Type 0 where
+record ServedParts (f : Function) : Type 0 where
   plain : is_pure f ≡ false
   copies : all_copy (head_params (head_of f)) ≡ true
-  result : type_is_covered (result_type f) ≡ true
-  body : block_is_covered (body_of f) ≡ true
+  result : type_is_served (result_type f) ≡ true
+  body : block_is_served (body_of f) ≡ true
 
 not_false : (b : Bool) → not b ≡ true → b ≡ false
 not_false true e = absurd (cc)
 not_false false e = refl
 
-covered_parts : (f : Function) → function_is_covered f ≡ true → CoveredParts f
-covered_parts f e =
-    let a = and_parts (not (is_pure f) && all_copy (head_params (head_of f)) && type_is_covered (result_type f)) (block_is_covered (body_of f)) e in
-    let b = and_parts (not (is_pure f) && all_copy (head_params (head_of f))) (type_is_covered (result_type f)) a.0 in
-    let c = and_parts (not (is_pure f)) (all_copy (head_params (head_of f))) b.0 in
-    record { plain = not_false (is_pure f) c.0; copies = c.1; result = b.1; body = a.1 }
+served_parts : (f : Function) → function_is_served f ≡ true → ServedParts f
+served_parts (function_body (head is_pure n ps x) b) e =
+    let a = and_parts (not is_pure && all_copy ps && type_is_served (result_of x)) (block_is_served b) e in
+    let c = and_parts (not is_pure && all_copy ps) (type_is_served (result_of x)) a.0 in
+    let d = and_parts (not is_pure) (all_copy ps) c.0 in
+    record { plain = not_false is_pure d.0; copies = d.1; result = c.1; body = a.1 }
 
 types_mapped : (ps : List Param) → map code_param ps ≡ map code_type (param_types ps)
 types_mapped [] = refl
@@ -127,7 +127,7 @@ copy_some (y.ref x) e = absurd (cc)
 copy_some (y.imm x) e = absurd (cc)
 copy_some (y.iso x) e = absurd (cc)
 
-covered_void : (x : Ty) → type_is_covered x ≡ true → y.is_copy x ≡ false → code_type x ≡ t.Void
+covered_void : (x : Ty) → type_is_served x ≡ true → y.is_copy x ≡ false → code_type x ≡ t.Void
 covered_void y.void c e = refl
 covered_void y.int c e = absurd (cc)
 covered_void y.bool c e = absurd (cc)
@@ -142,7 +142,7 @@ one_end : (b : Bool) (n : ℕ) → length (end_code b n) ≡ 1
 one_end true n = refl
 one_end false n = refl
 
-module _ (p : Parts) (covered : list_all function_is_covered (functions_in p) ≡ true) (suits : PartsSuit p) where
+module _ (p : Parts) (covered : list_all function_is_served (functions_in p) ≡ true) (suits : PartsSuit p) where
   abbrev fs : List Function
   fs = functions_in p
 
@@ -158,8 +158,8 @@ module _ (p : Parts) (covered : list_all function_is_covered (functions_in p) �
   abbrev facts_for : Function → FuncFacts
   facts_for f = function_facts p texts fs f
 
-  parts_at : (n : ℕ) (f : Function) → slice_get fs n ≡ Some f → CoveredParts f
-  parts_at n f at = covered_parts f (all_at function_is_covered fs n f covered at)
+  parts_at : (n : ℕ) (f : Function) → slice_get fs n ≡ Some f → ServedParts f
+  parts_at n f at = served_parts f (all_at function_is_served fs n f covered at)
 
   code_function : (n : ℕ) (f : Function) → slice_get fs n ≡ Some f → IsFunc (slice_get code.funcs n) f
   code_function n f at =
@@ -211,7 +211,7 @@ module _ (p : Parts) (covered : list_all function_is_covered (functions_in p) �
     abbrev last_mark : Marks
     last_mark = mark due behind_all ∷ []
 
-    c : CoveredParts f
+    c : ServedParts f
     c = parts_at n f at
 
     su : function_is_well_typed fs f
@@ -336,7 +336,7 @@ module _ (p : Parts) (covered : list_all function_is_covered (functions_in p) �
       params_lawful [] e = refl
       params_lawful (q ∷ ps) e = let w = and_parts (y.is_copy (type_of (param_type q))) (all_copy ps) e in and_from _ _ (copy_lawful k reaches (code_param q) (copies_too (type_of (param_type q)) w.0)) (params_lawful ps w.1)
 
-      result_lawful : (x : Ty) → type_is_covered x ≡ true → is_result code reaches (code_type x) ≡ true
+      result_lawful : (x : Ty) → type_is_served x ≡ true → is_result code reaches (code_type x) ≡ true
       result_lawful y.int e = refl
       result_lawful y.bool e = refl
       result_lawful y.str e = refl
@@ -420,12 +420,12 @@ module _ (p : Parts) (suits : PartsSuit p) where
 pub takes_no_input : (program : Typed) → WellTyped program → takes_input (lowered program) no_input ≡ true
 takes_no_input program su = main_takes_nothing (parts_of program) su
 
-functions_covered : (items : List Item) → list_all item_is_covered items ≡ true → list_all function_is_covered (flat_map functions_of items) ≡ true
+functions_covered : (items : List Item) → list_all item_is_served items ≡ true → list_all function_is_served (flat_map functions_of items) ≡ true
 functions_covered [] e = refl
-functions_covered (function_item f ∷ items) e = let w = and_parts (function_is_covered f) (list_all item_is_covered items) e in and_from _ _ w.0 (functions_covered items w.1)
+functions_covered (function_item f ∷ items) e = let w = and_parts (function_is_served f) (list_all item_is_served items) e in and_from _ _ w.0 (functions_covered items w.1)
 functions_covered (struct_item n fs ∷ items) e = absurd (cc)
 functions_covered (interface_item n hs ∷ items) e = absurd (cc)
 functions_covered (impl_item at i s fs ∷ items) e = absurd (cc)
 
-pub lowered_is_certified : (program : Typed) → is_covered program ≡ true → WellTyped program → Certified (lowered program) (lowered_facts program)
+pub lowered_is_certified : (program : Typed) → is_served program ≡ true → WellTyped program → Certified (lowered program) (lowered_facts program)
 lowered_is_certified (typed names items) cov su = parts_certified (parts_of (typed names items)) (functions_covered items cov) su

@@ -18,7 +18,7 @@ use Rattle.vale_code.specs.declared.instr.Instr.{Instr}
 use Rattle.vale_code.specs.declared.instr.Instr.TheVariants as i
 use Rattle.vale_code.specs.declared.ty.Ty.TheVariants as t
 use Rattle.vale_cert.specs.Rules.{is_short}
-use Rattle.vale_lowering.specs.Covered.{type_is_covered, unary_is_covered, callee_is_covered, is_local, expr_is_covered, node_is_covered, exprs_are_covered, links_are_covered, form_is_covered, elses_are_covered, block_is_covered, stmts_are_covered, stmt_is_covered}
+use Rattle.vale_served_spec.specs.Served.{type_is_served, unary_is_served, callee_is_served, is_local, expr_is_served, node_is_served, exprs_are_served, links_are_served, form_is_served, elses_are_served, block_is_served, stmts_are_served, stmt_is_served}
 use Rattle.vale_lowering.specs.Instructions.{only_if, load, store, exchange, link_code, count_code}
 use Rattle.vale_lowering.specs.Lowered.{truth_number, set_code, store_code, expr_code, value_code, node_code, args_code, links_code, form_code, elses_code, block_code, stmts_code, stmt_code, unused_code}
 use Rattle.vale_lowering.specs.Scopes.{Around, place_of, code_type, agree, number_of_text}
@@ -37,7 +37,7 @@ use Rattle.vale_lower_facts.proofs.Names.{copies_too, covered_copy, Among, among
 use Rattle.vale_lower_facts.proofs.Operators.{operands_copy, gives_copy, chosen, chosen_too, runs_due, as_given, two, below_two, says_two, first_of, second_of, link_runs, unary_runs}
 use Rattle.vale_lower_facts.proofs.Callees.{agree_with_itself, built_in_runs, call_runs, args_copy, built_in_copies}
 
-unary_copy : (o : UnaryOp) (ty x : Ty) → unary_is_covered o ≡ true → unary_is_well_typed o ty x → (y.is_copy ty ≡ true) × (y.is_copy x ≡ true)
+unary_copy : (o : UnaryOp) (ty x : Ty) → unary_is_served o ≡ true → unary_is_well_typed o ty x → (y.is_copy ty ≡ true) × (y.is_copy x ≡ true)
 unary_copy unary_op.Minus ty x cov su = (ap y.is_copy su.0, ap y.is_copy su.1)
 unary_copy unary_op.Not ty x cov su = (ap y.is_copy su.0, ap y.is_copy su.1)
 unary_copy unary_op.Borrow ty x cov su = absurd (cc)
@@ -201,16 +201,16 @@ module _ (k : Site) (c : Context k) where
 
   -- ---- parts of the mutual induction
 
-  expr_type_covered : (e : Expr) → expr_is_covered e ≡ true → type_is_covered (type e) ≡ true
-  expr_type_covered (expr x node) cov = (and_parts (type_is_covered x.value) (node_is_covered node) cov).0
+  expr_type_covered : (e : Expr) → expr_is_served e ≡ true → type_is_served (type e) ≡ true
+  expr_type_covered (expr x node) cov = (and_parts (type_is_served x.value) (node_is_served node) cov).0
 
-  types_covered : (es : Exprs) → exprs_are_covered es ≡ true → list_all type_is_covered (types es) ≡ true
+  types_covered : (es : Exprs) → exprs_are_served es ≡ true → list_all type_is_served (types es) ≡ true
   types_covered no_exprs cov = refl
   types_covered (more_exprs e es) cov =
-      let w = and_parts (expr_is_covered e) (exprs_are_covered es) cov in
+      let w = and_parts (expr_is_served e) (exprs_are_served es) cov in
       and_from _ _ (expr_type_covered e w.0) (types_covered es w.1)
 
-  first_copy : (env : Env) (ty x : Ty) (ls : Links) → links_are_well_typed fs env ty x ls → type_is_covered ty ≡ true → y.is_copy ty ≡ true
+  first_copy : (env : Env) (ty x : Ty) (ls : Links) → links_are_well_typed fs env ty x ls → type_is_served ty ≡ true → y.is_copy ty ≡ true
   first_copy env ty x no_links su cov = covered_copy ty cov su.1
   first_copy env ty x (more_links (link sn at op e) ls) su cov = (operands_copy op ty (type e) su.0).first_copy
 
@@ -334,16 +334,16 @@ module _ (k : Site) (c : Context k) where
   among_three a1 b1 c1 q = let f = among_front (a1 ++ b1) c1 q in (among_front a1 b1 f, among_back a1 b1 f, among_back (a1 ++ b1) c1 q)
 
   mutual
-    pub expr_runs : (env : Env) (e : Expr) (p h : ℕ) (s : Stand) (due : Bool) → expr_is_well_typed fs env e → expr_is_covered e ≡ true → Among (expr_quotes e) a.texts → Stands k env h s
+    pub expr_runs : (env : Env) (e : Expr) (p h : ℕ) (s : Stand) (due : Bool) → expr_is_well_typed fs env e → expr_is_served e ≡ true → Among (expr_quotes e) a.texts → Stands k env h s
         → Runs k p (expr_code a e p h (scope_at s)) (expr_marks a e h s due) due s (expr_due e) (given (y.is_copy (type e)) h (type e) (behind (expr_returns e) s))
     expr_runs env (expr x node) p h s due su cov q st =
-        let w = and_parts (type_is_covered x.value) (node_is_covered node) cov in node_runs env x.value node p h s due su w.0 w.1 q st
+        let w = and_parts (type_is_served x.value) (node_is_served node) cov in node_runs env x.value node p h s due su w.0 w.1 q st
 
-    pub value_runs : (env : Env) (e : Expr) (p h : ℕ) (s : Stand) (due : Bool) → y.is_copy (type e) ≡ true → expr_is_well_typed fs env e → expr_is_covered e ≡ true → Among (expr_quotes e) a.texts → Stands k env h s → ValueRuns e p h s due
+    pub value_runs : (env : Env) (e : Expr) (p h : ℕ) (s : Stand) (due : Bool) → y.is_copy (type e) ≡ true → expr_is_well_typed fs env e → expr_is_served e ≡ true → Among (expr_quotes e) a.texts → Stands k env h s → ValueRuns e p h s due
     value_runs env (expr x node) p h s due copy su cov q st =
-        let w = and_parts (type_is_covered x.value) (node_is_covered node) cov in as_value x node p h s due copy (node_runs env x.value node p h s due su w.0 w.1 q st)
+        let w = and_parts (type_is_served x.value) (node_is_served node) cov in as_value x node p h s due copy (node_runs env x.value node p h s due su w.0 w.1 q st)
 
-    node_runs : (env : Env) (x : Ty) (node : Node) (p h : ℕ) (s : Stand) (due : Bool) → node_is_well_typed fs env x node → type_is_covered x ≡ true → node_is_covered node ≡ true → Among (node_quotes node) a.texts → Stands k env h s → NodeRuns x node p h s due
+    node_runs : (env : Env) (x : Ty) (node : Node) (p h : ℕ) (s : Stand) (due : Bool) → node_is_well_typed fs env x node → type_is_served x ≡ true → node_is_served node ≡ true → Among (node_quotes node) a.texts → Stands k env h s → NodeRuns x node p h s due
     node_runs env x (number at n) p h s due su cx cov q st = subst (λ x. NodeRuns x (number at n) p h s due) (sym su.0) (chosen k (is_int n) h su.1 (int_runs k h n))
     node_runs env x (quote at text) p h s due su cx cov q st = subst (λ x. NodeRuns x (quote at text) p h s due) (sym su.0) (chosen k (is_lawful_text text) h su.1 (quote_runs text su.1 q))
     node_runs env x (truth at b) p h s due su cx cov q st = subst (λ x. NodeRuns x (truth at b) p h s due) (sym su) (truth_runs k h (truth_number b) (below_truth b))
@@ -356,7 +356,7 @@ module _ (k : Site) (c : Context k) where
         (chosen_too k (agree (y.is_copy (type e)) (y.is_copy (type e))) h same
         (runs_less k (expr_runs env e p h s due su.1 cov q st) (given_behind (y.is_copy (type e)) h (type e) s (expr_returns e)))))
     node_runs env x (chain e ls) p h s due su cx cov q st =
-        let w = and_parts (expr_is_covered e) (links_are_covered ls) cov in
+        let w = and_parts (expr_is_served e) (links_are_served ls) cov in
         let copy = first_copy env (type e) x ls su.1 (expr_type_covered e w.0) in
         let gives = last_copy env (type e) x ls su.1 copy in
         as_given k (y.is_copy x) h x gives
@@ -365,26 +365,26 @@ module _ (k : Site) (c : Context k) where
         (both k (plain_value e (value_runs env e p h s due copy su.0 w.0 (among_front (expr_quotes e) (links_quotes ls) q) st))
         (links_runs env (type e) x ls (p + length (value_code a e p h (scope_at s))) h s (value_due e) su.1 w.1 copy (among_back (expr_quotes e) (links_quotes ls) q) st))))
     node_runs env x (unary at op e) p h s due su cx cov q st =
-        let w = and_parts (unary_is_covered op) (expr_is_covered e) cov in
+        let w = and_parts (unary_is_served op) (expr_is_served e) cov in
         let copy = unary_copy op (type e) x w.0 su.0 in
         as_given k (y.is_copy x) h x copy.1
         (chosen_too k (y.is_copy x) h copy.1
         (both k (plain_value e (value_runs env e p h s due copy.0 su.1 w.1 q st)) (unary_runs k op (type e) x at w.0 su.0 st.below)))
     node_runs env x (set at l e) p h s due su cx cov q st =
-        let w = and_parts (is_local l) (expr_is_covered e) cov in
+        let w = and_parts (is_local l) (expr_is_served e) cov in
         let copy = set_copy l (type e) x w.0 su.0 st in
         subst (λ x. NodeRuns x (set at l e) p h s due) (sym copy.1)
         (as_given k (y.is_copy (type e)) h (type e) copy.0
         (chosen_too k (y.is_copy (type e)) h copy.0
         (both k (plain_value e (value_runs env e p h s due copy.0 su.1 w.1 q st)) (set_code_runs l (type e) x w.0 su.0 copy.0 st))))
     node_runs env x (call n (built_in f) es) p h s due su cx cov q st =
-        let w = and_parts (callee_is_covered (built_in f)) (exprs_are_covered es) cov in
+        let w = and_parts (callee_is_served (built_in f)) (exprs_are_served es) cov in
         let tys = types_covered es w.1 in
         both k (args_runs env es p h s due su.1 w.1 (built_in_copies f (types es) w.0 tys su.0.taken) q st)
         (built_in_runs k n.at (p + length (args_code a es p h (scope_at s))) h s (args_due es due) st.below f es x w.0 tys su.0)
     node_runs env x (call n constructor es) p h s due su cx cov q st = absurd (cc)
     node_runs env x (call n (function is_pure) es) p h s due su cx cov q st =
-        let w = and_parts (callee_is_covered (function is_pure)) (exprs_are_covered es) cov in
+        let w = and_parts (callee_is_served (function is_pure)) (exprs_are_served es) cov in
         both k (args_runs env es p h s due su.1 w.1 (args_copy k c n es x su.0) q st)
         (call_runs k c n es x (p + length (args_code a es p h (scope_at s))) h s (args_due es due) su.0 st.below)
     node_runs env x (form f) p h s due su cx cov q st = form_runs env x f p h s due su cov q st
@@ -392,34 +392,34 @@ module _ (k : Site) (c : Context k) where
     node_runs env x (array at z es) p h s due su cx cov q st = absurd (cc)
     node_runs env x (iso at b) p h s due su cx cov q st = absurd (cc)
 
-    args_runs : (env : Env) (es : Exprs) (p h : ℕ) (s : Stand) (due : Bool) → exprs_are_well_typed fs env es → exprs_are_covered es ≡ true → list_all y.is_copy (types es) ≡ true → Among (exprs_quotes es) a.texts → Stands k env h s
+    args_runs : (env : Env) (es : Exprs) (p h : ℕ) (s : Stand) (due : Bool) → exprs_are_well_typed fs env es → exprs_are_served es ≡ true → list_all y.is_copy (types es) ≡ true → Among (exprs_quotes es) a.texts → Stands k env h s
         → Runs k p (args_code a es p h (scope_at s)) (args_marks a es h s due) due s (args_due es due) (with_args es h s)
     args_runs env no_exprs p h s due su cov copy q st = nothing k p due s
     args_runs env (more_exprs e es) p h s due su cov copy q st =
-        let w = and_parts (expr_is_covered e) (exprs_are_covered es) cov in
+        let w = and_parts (expr_is_served e) (exprs_are_served es) cov in
         let o = and_parts (y.is_copy (type e)) (list_all y.is_copy (types es)) copy in
         both k
         (runs_less k (value_runs env e p h s due o.0 su.0 w.0 (among_front (expr_quotes e) (exprs_quotes es) q) st)
         (says_with k (holds h (type e)) (waits h (type e)) refl refl (says_behind k s (expr_returns e))))
         (args_runs env es (p + length (value_code a e p h (scope_at s))) (h + 1) (with_slot (waits h (type e)) s) (value_due e) su.1 w.1 o.1 (among_back (expr_quotes e) (exprs_quotes es) q) (stands_waits k (type e) st))
 
-    links_runs : (env : Env) (ty x : Ty) (ls : Links) (p h : ℕ) (s : Stand) (due : Bool) → links_are_well_typed fs env ty x ls → links_are_covered ls ≡ true → y.is_copy ty ≡ true → Among (links_quotes ls) a.texts → Stands k env h s
+    links_runs : (env : Env) (ty x : Ty) (ls : Links) (p h : ℕ) (s : Stand) (due : Bool) → links_are_well_typed fs env ty x ls → links_are_served ls ≡ true → y.is_copy ty ≡ true → Among (links_quotes ls) a.texts → Stands k env h s
         → Runs k p (links_code a ls p h (scope_at s)) (links_marks a ty ls h s due) due (with_slot (holds h ty) s) (links_due ls due) (with_slot (holds h x) s)
     links_runs env ty x no_links p h s due su cov copy q st =
         subst (λ x. Runs k p [] [] due (with_slot (holds h ty) s) due (with_slot (holds h x) s)) (sym su.0) (nothing k p due (with_slot (holds h ty) s))
     links_runs env ty x (more_links (link sn at op e) ls) p h s due su cov copy q st =
-        let w = and_parts (expr_is_covered e) (links_are_covered ls) cov in
+        let w = and_parts (expr_is_served e) (links_are_served ls) cov in
         let second = (operands_copy op ty (type e) su.0).second_copy in
         let qe = among_front (expr_quotes e) (links_quotes ls) q in
         both k
         (link_runs k a env e (λ p h s due st. value_runs env e p h s due second su.2 w.0 qe st) p h s due st op ty sn.value at su.0 su.1)
         (links_runs env sn.value x ls (p + length (link_code op sn.value at (λ place h. value_code a e place h (scope_at s)) p h)) h s (link_due op) su.3 w.1 (ap y.is_copy su.1 ∙ gives_copy op ty copy) (among_back (expr_quotes e) (links_quotes ls) q) st)
 
-    form_runs : (env : Env) (x : Ty) (f : Form) (p h : ℕ) (s : Stand) (due : Bool) → form_is_well_typed fs env x f → form_is_covered f ≡ true → Among (form_quotes f) a.texts → Stands k env h s
+    form_runs : (env : Env) (x : Ty) (f : Form) (p h : ℕ) (s : Stand) (due : Bool) → form_is_well_typed fs env x f → form_is_served f ≡ true → Among (form_quotes f) a.texts → Stands k env h s
         → Runs k p (form_code a (y.is_copy x) f p h (scope_at s)) (form_marks a (y.is_copy x) f h s due) due s (form_due f) (given (y.is_copy x) h x (behind (form_returns f) s))
     form_runs env x (branch at e b es) p h s due su cov q st =
-        let w = and_parts (expr_is_covered e && block_is_covered b) (elses_are_covered es) cov in
-        let v = and_parts (expr_is_covered e) (block_is_covered b) w.0 in
+        let w = and_parts (expr_is_served e && block_is_served b) (elses_are_served es) cov in
+        let v = and_parts (expr_is_served e) (block_is_served b) w.0 in
         let qs = among_three (expr_quotes e) (block_quotes b) (elses_quotes es) q in
         let p1 = p + length (value_code a e p h (scope_at s)) + 1 in
         let p2 = p1 + length (block_code a (y.is_copy x) b p1 h (h + 1) (scope_at s)) + 1 in
@@ -431,14 +431,14 @@ module _ (k : Site) (c : Context k) where
     form_runs env x (parallel_range at n e f b) p h s due su cov q st = absurd (cc)
     form_runs env x (parallel_each at n e b) p h s due su cov q st = absurd (cc)
 
-    elses_runs : (env : Env) (x : Ty) (es : Elses) (p h : ℕ) (s : Stand) (due : Bool) → elses_are_well_typed fs env x es → elses_are_covered es ≡ true → Among (elses_quotes es) a.texts → Stands k env h s
+    elses_runs : (env : Env) (x : Ty) (es : Elses) (p h : ℕ) (s : Stand) (due : Bool) → elses_are_well_typed fs env x es → elses_are_served es ≡ true → Among (elses_quotes es) a.texts → Stands k env h s
         → Runs k p (elses_code a (y.is_copy x) es p h (scope_at s)) (elses_marks a (y.is_copy x) es h s due) due s (elses_due (y.is_copy x) es due) (given (y.is_copy x) h x (behind (elses_return es) s))
     elses_runs env x no_else p h s due su cov q st =
         subst (λ x. Runs k p (elses_code a (y.is_copy x) no_else p h (scope_at s)) (elses_marks a (y.is_copy x) no_else h s due) due s due (given (y.is_copy x) h x s)) (sym su) (nothing k p due s)
     elses_runs env x (otherwise b) p h s due su cov q st = block_runs env x b p h (h + 1) s due su cov q (stands_up k (omega arith) st)
     elses_runs env x (more_elses (else_if at e b) es) p h s due su cov q st =
-        let w = and_parts (expr_is_covered e && block_is_covered b) (elses_are_covered es) cov in
-        let v = and_parts (expr_is_covered e) (block_is_covered b) w.0 in
+        let w = and_parts (expr_is_served e && block_is_served b) (elses_are_served es) cov in
+        let v = and_parts (expr_is_served e) (block_is_served b) w.0 in
         let qs = among_three (expr_quotes e) (block_quotes b) (elses_quotes es) q in
         let p1 = p + length (value_code a e p h (scope_at s)) + 1 in
         let p2 = p1 + length (block_code a (y.is_copy x) b p1 h (h + 1) (scope_at s)) + 1 in
@@ -447,10 +447,10 @@ module _ (k : Site) (c : Context k) where
         (block_runs env x b p1 h (h + 1) s false su.2 v.1 qs.1 (stands_up k (omega arith) st))
         (elses_runs env x es p2 h s true su.3 w.1 qs.2 st)
 
-    pub block_runs : (env : Env) (x : Ty) (b : Block) (p to h : ℕ) (s : Stand) (due : Bool) → block_is_well_typed fs env x b → block_is_covered b ≡ true → Among (block_quotes b) a.texts → Stands k env h s → BlockRuns (y.is_copy x) x b p to h s due
+    pub block_runs : (env : Env) (x : Ty) (b : Block) (p to h : ℕ) (s : Stand) (due : Bool) → block_is_well_typed fs env x b → block_is_served b ≡ true → Among (block_quotes b) a.texts → Stands k env h s → BlockRuns (y.is_copy x) x b p to h s due
     block_runs env x (block at end z ss) p to h s due su cov q st = stmts_runs env x ss p to h s s due su.1 cov q (within_same k st.below) st
 
-    stmts_runs : (env : Env) (x : Ty) (ss : Stmts) (p to h : ℕ) (s o : Stand) (due : Bool) → stmts_are_well_typed fs env x ss → stmts_are_covered ss ≡ true → Among (stmts_quotes ss) a.texts → Within k s o → Stands k env h s
+    stmts_runs : (env : Env) (x : Ty) (ss : Stmts) (p to h : ℕ) (s o : Stand) (due : Bool) → stmts_are_well_typed fs env x ss → stmts_are_served ss ≡ true → Among (stmts_quotes ss) a.texts → Within k s o → Stands k env h s
         → Runs k p (stmts_code a (y.is_copy x) ss p to h (scope_at s)) (stmts_marks a (y.is_copy x) ss h s due) due s (stmts_due a.gives (y.is_copy x) ss due) (given (y.is_copy x) to x (behind (stmts_return ss) o))
     stmts_runs env x no_stmts p to h s o due su cov q w st =
         subst (λ x. Runs k p (stmts_code a (y.is_copy x) no_stmts p to h (scope_at s)) (stmts_marks a (y.is_copy x) no_stmts h s due) due s (stmts_due a.gives (y.is_copy x) no_stmts due) (given (y.is_copy x) to x o)) (sym su)
@@ -458,7 +458,7 @@ module _ (k : Site) (c : Context k) where
     stmts_runs env x (last e) p to h s o due su cov q w st =
         last_runs (y.is_copy x) x e p to h s o due refl su.0 w st.below (λ copy. value_runs env e p h s due copy su.1 cov q st) (expr_runs env e p h s due su.1 cov q st)
     stmts_runs env x (more_stmts (declare n z e) ss) p to h s o due su cov q w st =
-        let v = and_parts (expr_is_covered e) (stmts_are_covered ss) cov in
+        let v = and_parts (expr_is_served e) (stmts_are_served ss) cov in
         let copy : y.is_copy (type e) ≡ true = covered_copy (type e) (expr_type_covered e v.0) (ap y.is_void (sym su.0.0) ∙ su.0.1) in
         both k
         (runs_less k (value_runs env e p h s due copy su.0.2 v.0 (among_front (expr_quotes e) (stmts_quotes ss) q) st)
@@ -467,31 +467,31 @@ module _ (k : Site) (c : Context k) where
         (within_slot k (local n.name.0 h z) st.below w) (stands_local k n z (ap y.is_copy su.0.0 ∙ copy) st))
     stmts_runs env x (more_stmts (destructure at ns zs e) ss) p to h s o due su cov q w st = absurd (cc)
     stmts_runs env x (more_stmts (return_nothing at) ss) p to h s o due su cov q w st =
-        let v = and_parts (stmt_is_covered (return_nothing at)) (stmts_are_covered ss) cov in
+        let v = and_parts (stmt_is_served (return_nothing at)) (stmts_are_served ss) cov in
         step_then o (y.is_copy x) to x true (stmts_return ss) (stmt_runs env (return_nothing at) p h s due refl su.0 v.0 (among_front (stmt_quotes (return_nothing at)) (stmts_quotes ss) q) st)
         (stmts_runs env x ss (p + length (stmt_code a (return_nothing at) p h (scope_at s))) to h (behind true s) (behind true o) (stmt_due a.gives (return_nothing at)) su.1 v.1 (among_back (stmt_quotes (return_nothing at)) (stmts_quotes ss) q) (within_behind k true w) (stands_behind k true st))
     stmts_runs env x (more_stmts (return_value at e) ss) p to h s o due su cov q w st =
-        let v = and_parts (stmt_is_covered (return_value at e)) (stmts_are_covered ss) cov in
+        let v = and_parts (stmt_is_served (return_value at e)) (stmts_are_served ss) cov in
         step_then o (y.is_copy x) to x true (stmts_return ss) (stmt_runs env (return_value at e) p h s due refl su.0 v.0 (among_front (stmt_quotes (return_value at e)) (stmts_quotes ss) q) st)
         (stmts_runs env x ss (p + length (stmt_code a (return_value at e) p h (scope_at s))) to h (behind true s) (behind true o) (stmt_due a.gives (return_value at e)) su.1 v.1 (among_back (stmt_quotes (return_value at e)) (stmts_quotes ss) q) (within_behind k true w) (stands_behind k true st))
     stmts_runs env x (more_stmts (while at e b) ss) p to h s o due su cov q w st =
-        let v = and_parts (stmt_is_covered (while at e b)) (stmts_are_covered ss) cov in
+        let v = and_parts (stmt_is_served (while at e b)) (stmts_are_served ss) cov in
         step_then o (y.is_copy x) to x false (stmts_return ss) (stmt_runs env (while at e b) p h s due refl su.0 v.0 (among_front (stmt_quotes (while at e b)) (stmts_quotes ss) q) st)
         (stmts_runs env x ss (p + length (stmt_code a (while at e b) p h (scope_at s))) to h (behind false s) (behind false o) true su.1 v.1 (among_back (stmt_quotes (while at e b)) (stmts_quotes ss) q) (within_behind k false w) (stands_behind k false st))
     stmts_runs env x (more_stmts (foreach at n e f b) ss) p to h s o due su cov q w st =
-        let v = and_parts (stmt_is_covered (foreach at n e f b)) (stmts_are_covered ss) cov in
+        let v = and_parts (stmt_is_served (foreach at n e f b)) (stmts_are_served ss) cov in
         step_then o (y.is_copy x) to x false (stmts_return ss) (stmt_runs env (foreach at n e f b) p h s due refl su.0 v.0 (among_front (stmt_quotes (foreach at n e f b)) (stmts_quotes ss) q) st)
         (stmts_runs env x ss (p + length (stmt_code a (foreach at n e f b) p h (scope_at s))) to h (behind false s) (behind false o) true su.1 v.1 (among_back (stmt_quotes (foreach at n e f b)) (stmts_quotes ss) q) (within_behind k false w) (stands_behind k false st))
     stmts_runs env x (more_stmts (form_stmt f) ss) p to h s o due su cov q w st =
-        let v = and_parts (stmt_is_covered (form_stmt f)) (stmts_are_covered ss) cov in
+        let v = and_parts (stmt_is_served (form_stmt f)) (stmts_are_served ss) cov in
         step_then o (y.is_copy x) to x (form_returns f) (stmts_return ss) (stmt_runs env (form_stmt f) p h s due refl su.0 v.0 (among_front (stmt_quotes (form_stmt f)) (stmts_quotes ss) q) st)
         (stmts_runs env x ss (p + length (stmt_code a (form_stmt f) p h (scope_at s))) to h (behind (form_returns f) s) (behind (form_returns f) o) (form_due f) su.1 v.1 (among_back (stmt_quotes (form_stmt f)) (stmts_quotes ss) q) (within_behind k (form_returns f) w) (stands_behind k (form_returns f) st))
     stmts_runs env x (more_stmts (express e) ss) p to h s o due su cov q w st =
-        let v = and_parts (stmt_is_covered (express e)) (stmts_are_covered ss) cov in
+        let v = and_parts (stmt_is_served (express e)) (stmts_are_served ss) cov in
         step_then o (y.is_copy x) to x (expr_returns e) (stmts_return ss) (stmt_runs env (express e) p h s due refl su.0 v.0 (among_front (stmt_quotes (express e)) (stmts_quotes ss) q) st)
         (stmts_runs env x ss (p + length (stmt_code a (express e) p h (scope_at s))) to h (behind (expr_returns e) s) (behind (expr_returns e) o) (unused_due e) su.1 v.1 (among_back (stmt_quotes (express e)) (stmts_quotes ss) q) (within_behind k (expr_returns e) w) (stands_behind k (expr_returns e) st))
 
-    stmt_runs : (env : Env) (x : Stmt) (p h : ℕ) (s : Stand) (due : Bool) → simple x ≡ true → stmt_is_well_typed fs env x → stmt_is_covered x ≡ true → Among (stmt_quotes x) a.texts → Stands k env h s
+    stmt_runs : (env : Env) (x : Stmt) (p h : ℕ) (s : Stand) (due : Bool) → simple x ≡ true → stmt_is_well_typed fs env x → stmt_is_served x ≡ true → Among (stmt_quotes x) a.texts → Stands k env h s
         → Runs k p (stmt_code a x p h (scope_at s)) (stmt_marks a x h s due) due s (stmt_due a.gives x) (behind (stmt_returns x) s)
     stmt_runs env (declare n x e) p h s due si su cov q st = absurd (cc)
     stmt_runs env (destructure at ns xs e) p h s due si su cov q st = absurd (cc)
@@ -501,15 +501,15 @@ module _ (k : Site) (c : Context k) where
         let some = ap y.is_void (sym st.gives) ∙ su.1 in
         returns_value e same some st.below (value_runs env e p h s due (ap y.is_copy same ∙ covered_copy k.result c.covered some) su.2 cov q st)
     stmt_runs env (while at e b) p h s due si su cov q st =
-        let w = and_parts (expr_is_covered e) (block_is_covered b) cov in
+        let w = and_parts (expr_is_served e) (block_is_served b) cov in
         let body = block_code a false b (p + 2) h (h + 1) (scope_at s) in
         loop_runs k h due
         (block_runs env y.void b (p + 2) h (h + 1) s false su.2 w.1 (among_back (expr_quotes e) (block_quotes b) q) (stands_up k (omega arith) st))
         (plain_value e (value_runs env e (p + 2 + length body) h s true (ap y.is_copy su.0) su.1 w.0 (among_front (expr_quotes e) (block_quotes b) q) st))
         (type_here k (holds h (type e)) s h refl ∙ ap (λ z. Some (code_type z)) su.0) (says_behind k s (block_returns b)) (says_slot k (holds h (type e)) st.below)
     stmt_runs env (foreach at n e f b) p h s due si su cov q st =
-        let w = and_parts (expr_is_covered e && expr_is_covered f) (block_is_covered b) cov in
-        let v = and_parts (expr_is_covered e) (expr_is_covered f) w.0 in
+        let w = and_parts (expr_is_served e && expr_is_served f) (block_is_served b) cov in
+        let v = and_parts (expr_is_served e) (expr_is_served f) w.0 in
         let qs = among_three (expr_quotes e) (expr_quotes f) (block_quotes b) q in
         let p1 = p + length (value_code a e p h (scope_at s)) in
         let p2 = p1 + length (value_code a f p1 (h + 1) (scope_at s)) in
@@ -521,22 +521,22 @@ module _ (k : Site) (c : Context k) where
     stmt_runs env (form_stmt f) p h s due si su cov q st = form_runs env y.void f p h s due su cov q st
     stmt_runs env (express e) p h s due si su cov q st = unused_runs env e p h s due su cov q st
 
-    unused_runs : (env : Env) (e : Expr) (p h : ℕ) (s : Stand) (due : Bool) → expr_is_well_typed fs env e → expr_is_covered e ≡ true → Among (expr_quotes e) a.texts → Stands k env h s
+    unused_runs : (env : Env) (e : Expr) (p h : ℕ) (s : Stand) (due : Bool) → expr_is_well_typed fs env e → expr_is_served e ≡ true → Among (expr_quotes e) a.texts → Stands k env h s
         → Runs k p (unused_code a e p h (scope_at s)) (unused_marks a e h s due) due s (unused_due e) (behind (expr_returns e) s)
     unused_runs env (expr x (set at l e)) p h s due su cov q st =
-        let o = and_parts (type_is_covered x.value) (is_local l && expr_is_covered e) cov in
-        let w = and_parts (is_local l) (expr_is_covered e) o.1 in
+        let o = and_parts (type_is_served x.value) (is_local l && expr_is_served e) cov in
+        let w = and_parts (is_local l) (expr_is_served e) o.1 in
         let copy = set_copy l (type e) x.value w.0 su.0 st in
         both k (plain_value e (value_runs env e p h s due copy.0 su.1 w.1 q st)) (store_code_runs l (type e) x.value w.0 su.0 copy.0 st)
-    unused_runs env (expr x (number at n)) p h s due su cov q st = let w = and_parts (type_is_covered x.value) true cov in unuse (node_returns (number at n)) x.value st.below (node_runs env x.value (number at n) p h s due su w.0 refl q st)
-    unused_runs env (expr x (quote at text)) p h s due su cov q st = let w = and_parts (type_is_covered x.value) true cov in unuse (node_returns (quote at text)) x.value st.below (node_runs env x.value (quote at text) p h s due su w.0 refl q st)
-    unused_runs env (expr x (truth at b)) p h s due su cov q st = let w = and_parts (type_is_covered x.value) true cov in unuse (node_returns (truth at b)) x.value st.below (node_runs env x.value (truth at b) p h s due su w.0 refl q st)
-    unused_runs env (expr x (name n is_outer moved)) p h s due su cov q st = let w = and_parts (type_is_covered x.value) (node_is_covered (name n is_outer moved)) cov in unuse (node_returns (name n is_outer moved)) x.value st.below (node_runs env x.value (name n is_outer moved) p h s due su w.0 w.1 q st)
-    unused_runs env (expr x (paren at e)) p h s due su cov q st = let w = and_parts (type_is_covered x.value) (node_is_covered (paren at e)) cov in unuse (node_returns (paren at e)) x.value st.below (node_runs env x.value (paren at e) p h s due su w.0 w.1 q st)
-    unused_runs env (expr x (chain e ls)) p h s due su cov q st = let w = and_parts (type_is_covered x.value) (node_is_covered (chain e ls)) cov in unuse (node_returns (chain e ls)) x.value st.below (node_runs env x.value (chain e ls) p h s due su w.0 w.1 q st)
-    unused_runs env (expr x (unary at op e)) p h s due su cov q st = let w = and_parts (type_is_covered x.value) (node_is_covered (unary at op e)) cov in unuse (node_returns (unary at op e)) x.value st.below (node_runs env x.value (unary at op e) p h s due su w.0 w.1 q st)
-    unused_runs env (expr x (call n f es)) p h s due su cov q st = let w = and_parts (type_is_covered x.value) (node_is_covered (call n f es)) cov in unuse (node_returns (call n f es)) x.value st.below (node_runs env x.value (call n f es) p h s due su w.0 w.1 q st)
-    unused_runs env (expr x (form f)) p h s due su cov q st = let w = and_parts (type_is_covered x.value) (node_is_covered (form f)) cov in unuse (node_returns (form f)) x.value st.below (node_runs env x.value (form f) p h s due su w.0 w.1 q st)
-    unused_runs env (expr x (steps e ss)) p h s due su cov q st = let w = and_parts (type_is_covered x.value) false cov in absurd (let z = w.1 in cc)
-    unused_runs env (expr x (array at z es)) p h s due su cov q st = let w = and_parts (type_is_covered x.value) false cov in absurd (let z = w.1 in cc)
-    unused_runs env (expr x (iso at b)) p h s due su cov q st = let w = and_parts (type_is_covered x.value) false cov in absurd (let z = w.1 in cc)
+    unused_runs env (expr x (number at n)) p h s due su cov q st = let w = and_parts (type_is_served x.value) true cov in unuse (node_returns (number at n)) x.value st.below (node_runs env x.value (number at n) p h s due su w.0 refl q st)
+    unused_runs env (expr x (quote at text)) p h s due su cov q st = let w = and_parts (type_is_served x.value) true cov in unuse (node_returns (quote at text)) x.value st.below (node_runs env x.value (quote at text) p h s due su w.0 refl q st)
+    unused_runs env (expr x (truth at b)) p h s due su cov q st = let w = and_parts (type_is_served x.value) true cov in unuse (node_returns (truth at b)) x.value st.below (node_runs env x.value (truth at b) p h s due su w.0 refl q st)
+    unused_runs env (expr x (name n is_outer moved)) p h s due su cov q st = let w = and_parts (type_is_served x.value) (node_is_served (name n is_outer moved)) cov in unuse (node_returns (name n is_outer moved)) x.value st.below (node_runs env x.value (name n is_outer moved) p h s due su w.0 w.1 q st)
+    unused_runs env (expr x (paren at e)) p h s due su cov q st = let w = and_parts (type_is_served x.value) (node_is_served (paren at e)) cov in unuse (node_returns (paren at e)) x.value st.below (node_runs env x.value (paren at e) p h s due su w.0 w.1 q st)
+    unused_runs env (expr x (chain e ls)) p h s due su cov q st = let w = and_parts (type_is_served x.value) (node_is_served (chain e ls)) cov in unuse (node_returns (chain e ls)) x.value st.below (node_runs env x.value (chain e ls) p h s due su w.0 w.1 q st)
+    unused_runs env (expr x (unary at op e)) p h s due su cov q st = let w = and_parts (type_is_served x.value) (node_is_served (unary at op e)) cov in unuse (node_returns (unary at op e)) x.value st.below (node_runs env x.value (unary at op e) p h s due su w.0 w.1 q st)
+    unused_runs env (expr x (call n f es)) p h s due su cov q st = let w = and_parts (type_is_served x.value) (node_is_served (call n f es)) cov in unuse (node_returns (call n f es)) x.value st.below (node_runs env x.value (call n f es) p h s due su w.0 w.1 q st)
+    unused_runs env (expr x (form f)) p h s due su cov q st = let w = and_parts (type_is_served x.value) (node_is_served (form f)) cov in unuse (node_returns (form f)) x.value st.below (node_runs env x.value (form f) p h s due su w.0 w.1 q st)
+    unused_runs env (expr x (steps e ss)) p h s due su cov q st = let w = and_parts (type_is_served x.value) false cov in absurd (let z = w.1 in cc)
+    unused_runs env (expr x (array at z es)) p h s due su cov q st = let w = and_parts (type_is_served x.value) false cov in absurd (let z = w.1 in cc)
+    unused_runs env (expr x (iso at b)) p h s due su cov q st = let w = and_parts (type_is_served x.value) false cov in absurd (let z = w.1 in cc)

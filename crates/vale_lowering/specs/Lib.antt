@@ -1,4 +1,3 @@
-pub mod Covered
 pub mod Instructions
 pub mod Lowered
 pub mod Scopes

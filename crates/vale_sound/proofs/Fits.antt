@@ -9,7 +9,7 @@ use Rattle.vale_syntax.specs.Tree.{Item, Head, head}
 use Rattle.vale_rules_spec.specs.Types.{Ty, void, int, bool, str, kind, array, ref, imm, iso, same, is_void, object_of, Local, view_here, as_frozen, local_seen, fits}
 use Rattle.vale_rules_spec.specs.Typed as t
 use Rattle.vale_rules_spec.specs.TypeRules.{all_fit, takes_operands, link_gives, takes_arguments, head_gives}
-use Rattle.vale_lowering.specs.Covered.{type_is_covered, expr_is_covered, node_is_covered, exprs_are_covered, built_in_is_covered}
+use Rattle.vale_served_spec.specs.Served.{type_is_served, expr_is_served, node_is_served, exprs_are_served, built_in_is_served}
 use Rattle.vale_lowering.specs.Scopes.{head_result}
 
 pub impossible : {A : Type 0} → false ≡ true → A
@@ -38,7 +38,7 @@ void_is void e = refl
 void_is _ e = impossible e
 
 -- a type that fits is the one that is asked for
-pub covered_fits : (items : List Item) (x y : Ty) → type_is_covered x ≡ true → fits items x y ≡ true → x ≡ y
+pub covered_fits : (items : List Item) (x y : Ty) → type_is_served x ≡ true → fits items x y ≡ true → x ≡ y
 covered_fits items void y c e = same_is void y e
 covered_fits items int y c e = same_is int y e
 covered_fits items bool y c e = same_is bool y e
@@ -51,15 +51,15 @@ covered_fits items (iso x) y c e = impossible c
 
 -- ---- expressions
 
-pub covered_type : (e : t.Expr) → expr_is_covered e ≡ true → type_is_covered (t.type e) ≡ true
-covered_type (t.expr s node) c = (and_parts (type_is_covered s.value) (node_is_covered node) c).0
+pub covered_type : (e : t.Expr) → expr_is_served e ≡ true → type_is_served (t.type e) ≡ true
+covered_type (t.expr s node) c = (and_parts (type_is_served s.value) (node_is_served node) c).0
 
-pub args_fit : (items : List Item) (es : t.Exprs) (takes : List Ty) → exprs_are_covered es ≡ true → all_fit items false (t.types es) takes ≡ true → t.types es ≡ takes
+pub args_fit : (items : List Item) (es : t.Exprs) (takes : List Ty) → exprs_are_served es ≡ true → all_fit items false (t.types es) takes ≡ true → t.types es ≡ takes
 args_fit items t.no_exprs [] c e = refl
 args_fit items t.no_exprs (x ∷ xs) c e = impossible e
 args_fit items (t.more_exprs a es) [] c e = impossible e
 args_fit items (t.more_exprs a es) (x ∷ xs) c e =
-    let p = and_parts (expr_is_covered a) (exprs_are_covered es) c in
+    let p = and_parts (expr_is_served a) (exprs_are_served es) c in
     let q = and_parts (fits items (t.type a) x) (all_fit items false (t.types es) xs) e in
     ap (λ y. y ∷ t.types es) (covered_fits items (t.type a) x (covered_type a p.0) q.0) ∙ ap (λ ys. x ∷ ys) (args_fit items es xs p.1 q.1)
 
@@ -89,7 +89,7 @@ gives_value o.Rem x y e = refl
 
 -- ---- locals
 
-frozen_type : (x : Ty) → type_is_covered (as_frozen x (object_of x)).value ≡ true → x ≡ (as_frozen x (object_of x)).value
+frozen_type : (x : Ty) → type_is_served (as_frozen x (object_of x)).value ≡ true → x ≡ (as_frozen x (object_of x)).value
 frozen_type void c = refl
 frozen_type int c = refl
 frozen_type bool c = refl
@@ -101,10 +101,10 @@ frozen_type (imm x) c = impossible c
 frozen_type (iso x) c = impossible c
 
 -- as it is seen, its type is its own
-pub seen_type : (depth : ℕ) (l : Local) → type_is_covered (local_seen depth l).value ≡ true → l.ty ≡ (local_seen depth l).value
+pub seen_type : (depth : ℕ) (l : Local) → type_is_served (local_seen depth l).value ≡ true → l.ty ≡ (local_seen depth l).value
 seen_type depth l = by (l.depth == depth)
   where
-    by : (here : Bool) → type_is_covered (if here then record { value = l.ty; view = view_here l.ty; place = Some l.ty } else as_frozen l.ty (object_of l.ty)).value ≡ true
+    by : (here : Bool) → type_is_served (if here then record { value = l.ty; view = view_here l.ty; place = Some l.ty } else as_frozen l.ty (object_of l.ty)).value ≡ true
         → l.ty ≡ (if here then record { value = l.ty; view = view_here l.ty; place = Some l.ty } else as_frozen l.ty (object_of l.ty)).value
     by true c = refl
     by false c = frozen_type l.ty c
@@ -126,7 +126,7 @@ pub same_gives : (h : Head) → head_gives h ≡ head_result h
 same_gives (head is_pure n ps x) = refl
 
 -- what it takes doesn't depend on the items
-pub same_takes : (items : List Item) (f : BuiltIn) (xs : List Ty) → built_in_is_covered f ≡ true → takes_arguments items f xs ≡ true → takes_arguments [] f xs ≡ true
+pub same_takes : (items : List Item) (f : BuiltIn) (xs : List Ty) → built_in_is_served f ≡ true → takes_arguments items f xs ≡ true → takes_arguments [] f xs ≡ true
 same_takes items b.Print xs c e = e
 same_takes items b.Println xs c e = e
 same_takes items b.Drop xs c e = impossible c

@@ -12,7 +12,7 @@ use Rattle.vale_rules_spec.specs.TypeRules.{head_gives, function_rules}
 use Rattle.vale_rules_spec.specs.Returns.{block_returns}
 use Rattle.vale_rules_spec.specs.Typing.{entry, void_block, in_function, in_functions, in_item, in_items}
 use Rattle.vale_model.specs.Parts.{first_function, functions_of, has_name, is_pure}
-use Rattle.vale_lowering.specs.Covered.{type_is_covered, block_is_covered, function_is_covered, item_is_covered}
+use Rattle.vale_served_spec.specs.Served.{type_is_served, block_is_served, function_is_served, item_is_served}
 use Rattle.vale_lowering.specs.Scopes.{head_result}
 use Rattle.vale_lower_facts.specs.WellTyped.{function_is_well_typed, all_are_well_typed}
 use Rattle.vale_sound.proofs.Fine.{one_rule, asked, of_node, of_plain, of_fine, of_both}
@@ -24,33 +24,33 @@ use Rattle.vale_sound.proofs.Parts.{IsFound, Finds, void_meets}
 
 module _ (names : List (List ℕ)) (items : List Item) (functions : List t.Function) (finds : Finds items functions) where
   abbrev FunctionMeets : t.Function → Type 0
-  FunctionMeets f = function_is_covered f ≡ true → function_is_well_typed functions f
+  FunctionMeets f = function_is_served f ≡ true → function_is_well_typed functions f
 
   function_meets : (f : Function) (v : t.Function) → LawfulFunction f → in_function names items f ≡ fine v → FunctionMeets v
   function_meets (function h b) v law is =
       of_node FunctionMeets (head_name h).at (λ v. function_rules (head_gives h) (block_returns v)) (λ v. t.function_body h v) (void_block names items (entry h) b) v is
       (λ w each kept cov.
-      let front = not (is_pure (t.function_body h w)) && list_all (λ p. is_copy (type_of (param_type p))) (head_params h) && type_is_covered (head_result h) in (
-        void_meets names items functions finds (entry h) b w law each (and_parts front (block_is_covered w) cov).1,
+      let front = not (is_pure (t.function_body h w)) && list_all (λ p. is_copy (type_of (param_type p))) (head_params h) && type_is_served (head_result h) in (
+        void_meets names items functions finds (entry h) b w law each (and_parts front (block_is_served w) cov).1,
         λ some. asked (not (is_void (head_gives h))) (block_returns w) (one_rule 26 (not (is_void (head_gives h)) ⇒ block_returns w) kept)
             (ap (λ x. not (is_void x)) (same_gives h) ∙ ap not some),
       ))
 
   abbrev AllMeet : List t.Item → Type 0
-  AllMeet ys = list_all item_is_covered ys ≡ true → all_are_well_typed functions (flat_map functions_of ys)
+  AllMeet ys = list_all item_is_served ys ≡ true → all_are_well_typed functions (flat_map functions_of ys)
 
   abbrev ItemMeets : t.Item → Type 0
   ItemMeets y = (ys : List t.Item) → AllMeet ys → AllMeet (y ∷ ys)
 
   item_meets : (x : Item) (v : t.Item) → LawfulItem x → in_item names items x ≡ fine v → ItemMeets v
-  item_meets (struct_item n fs) v law is = of_fine ItemMeets (t.struct_item n fs) v is (λ ys rest cov. impossible (and_parts false (list_all item_is_covered ys) cov).0)
-  item_meets (interface_item n hs) v law is = of_fine ItemMeets (t.interface_item n hs) v is (λ ys rest cov. impossible (and_parts false (list_all item_is_covered ys) cov).0)
+  item_meets (struct_item n fs) v law is = of_fine ItemMeets (t.struct_item n fs) v is (λ ys rest cov. impossible (and_parts false (list_all item_is_served ys) cov).0)
+  item_meets (interface_item n hs) v law is = of_fine ItemMeets (t.interface_item n hs) v is (λ ys rest cov. impossible (and_parts false (list_all item_is_served ys) cov).0)
   item_meets (impl_item at i s fs) v law is =
-      of_plain ItemMeets (λ v. t.impl_item at i s v) (in_functions names items fs) v is (λ w each ys rest cov. impossible (and_parts false (list_all item_is_covered ys) cov).0)
+      of_plain ItemMeets (λ v. t.impl_item at i s v) (in_functions names items fs) v is (λ w each ys rest cov. impossible (and_parts false (list_all item_is_served ys) cov).0)
   item_meets (function_item f) v law is =
       of_plain ItemMeets (λ v. t.function_item v) (in_function names items f) v is
       (λ w each ys rest cov.
-      let c = and_parts (function_is_covered w) (list_all item_is_covered ys) cov in
+      let c = and_parts (function_is_served w) (list_all item_is_served ys) cov in
       (function_meets f w law each c.0, rest c.1))
 
   pub items_meet : (xs : List Item) (ys : List t.Item) → AllByRecursion LawfulItem xs → in_items names items xs ≡ fine ys → AllMeet ys

@@ -1,4 +1,3 @@
-mod Copies
 mod Fine
 mod Fits
 mod Functions
@@ -6,5 +5,4 @@ mod Lexed
 mod Literals
 mod Main
 mod Parts
-mod Served
 mod Sound

@@ -24,7 +24,7 @@ use Rattle.vale_rules_spec.specs.TypeRules as rules
 use Rattle.vale_rules_spec.specs.Returns.{block_returns}
 use Rattle.vale_model.specs.Kinds.{head_of}
 use Rattle.vale_model.specs.Parts.{first_function, functions_of, is_pure}
-use Rattle.vale_lowering.specs.Covered.{type_is_covered, block_is_covered, function_is_covered, item_is_covered}
+use Rattle.vale_served_spec.specs.Served.{type_is_served, block_is_served, function_is_served, item_is_served}
 use Rattle.vale_lowering.specs.Scopes.{head_result, result_type}
 use Rattle.vale_sound.proofs.Fine.{rule_kept, one_rule, asked, of_node, of_plain, of_fine, of_both}
 use Rattle.vale_sound.proofs.Fits.{impossible, not_true}
@@ -184,7 +184,7 @@ module _ (names : List (List ℕ)) where
       main : any_main xs ≡ true
 
     abbrev RestFound : List t.Item → List Item → List Item → Type 0
-    RestFound ys before xs = list_all item_is_covered ys ≡ true → Rest before xs → MainIn (flat_map functions_of ys)
+    RestFound ys before xs = list_all item_is_served ys ≡ true → Rest before xs → MainIn (flat_map functions_of ys)
 
     function_first : (before xs : List Item) (h : Head) (b : Block) (v : t.Block) (ys : List t.Item) (main : Bool) → is_main names h ≡ main → RestFound ys (function_item (function h b) ∷ before) xs
         → RestFound (t.function_item (t.function_body h v) ∷ ys) before (function_item (function h b) ∷ xs)
@@ -202,9 +202,9 @@ module _ (names : List (List ℕ)) where
         (λ n e. or_left (same_name n (head_name h)) (list_any (λ item. option_map_or (same_name n) (item_name item) false) before) (eq-eqb n.name.0 (head_name h).name.0 e))
         number r.numbered.1 p.1 in
         let lawful = or_first (is_lawful_main names h) (any_lawful xs) some others in
-        let c = and_parts (function_is_covered f) (list_all item_is_covered ys) cov in
-        let front = and_parts (not (is_pure f) && list_all (λ p. is_copy (type_of (param_type p))) (head_params h) && type_is_covered (head_result h)) (block_is_covered v) c.0 in
-        let copies = and_parts (not (is_pure f)) (list_all (λ p. is_copy (type_of (param_type p))) (head_params h)) (and_parts (not (is_pure f) && list_all (λ p. is_copy (type_of (param_type p))) (head_params h)) (type_is_covered (head_result h)) front.0).0 in
+        let c = and_parts (function_is_served f) (list_all item_is_served ys) cov in
+        let front = and_parts (not (is_pure f) && list_all (λ p. is_copy (type_of (param_type p))) (head_params h) && type_is_served (head_result h)) (block_is_served v) c.0 in
+        let copies = and_parts (not (is_pure f)) (list_all (λ p. is_copy (type_of (param_type p))) (head_params h)) (and_parts (not (is_pure f) && list_all (λ p. is_copy (type_of (param_type p))) (head_params h)) (type_is_served (head_result h)) front.0).0 in
         record {
           is = f;
           found = ap (λ c. if c then Some f else first_function is_main_function (flat_map functions_of ys)) is;
@@ -216,7 +216,7 @@ module _ (names : List (List ℕ)) where
         let f = t.function_body h v in
         let p = no_parts (item_faults names items before x) (one_by_one (item_faults names items) (x ∷ before) xs) r.faultless in
         let not_lawful = lawful_by h (is_lawful_main names h) refl (λ e. sym is ∙ lawful_is_main h e) in
-        let m = rest (and_parts (function_is_covered f) (list_all item_is_covered ys) cov).1 (record {
+        let m = rest (and_parts (function_is_served f) (list_all item_is_served ys) cov).1 (record {
           none_before = or_from (is_main names h) (any_main before) is r.none_before;
           numbered = r.numbered.1;
           faultless = p.1;
@@ -239,10 +239,10 @@ module _ (names : List (List ℕ)) where
         (λ w each kept ys rest. function_first before xs h b w ys (is_main names h) refl rest)
 
     item_at : (before xs : List Item) (x : Item) (v : t.Item) → in_item names items x ≡ fine v → FirstAt before xs x v
-    item_at before xs (struct_item n fs) v is = of_fine (FirstAt before xs (struct_item n fs)) (t.struct_item n fs) v is (λ ys rest cov r. impossible (and_parts false (list_all item_is_covered ys) cov).0)
-    item_at before xs (interface_item n hs) v is = of_fine (FirstAt before xs (interface_item n hs)) (t.interface_item n hs) v is (λ ys rest cov r. impossible (and_parts false (list_all item_is_covered ys) cov).0)
+    item_at before xs (struct_item n fs) v is = of_fine (FirstAt before xs (struct_item n fs)) (t.struct_item n fs) v is (λ ys rest cov r. impossible (and_parts false (list_all item_is_served ys) cov).0)
+    item_at before xs (interface_item n hs) v is = of_fine (FirstAt before xs (interface_item n hs)) (t.interface_item n hs) v is (λ ys rest cov r. impossible (and_parts false (list_all item_is_served ys) cov).0)
     item_at before xs (impl_item at i s fs) v is =
-        of_plain (FirstAt before xs (impl_item at i s fs)) (λ v. t.impl_item at i s v) (in_functions names items fs) v is (λ w each ys rest cov r. impossible (and_parts false (list_all item_is_covered ys) cov).0)
+        of_plain (FirstAt before xs (impl_item at i s fs)) (λ v. t.impl_item at i s v) (in_functions names items fs) v is (λ w each ys rest cov r. impossible (and_parts false (list_all item_is_served ys) cov).0)
     item_at before xs (function_item f) v is =
         of_plain (FirstAt before xs (function_item f)) (λ v. t.function_item v) (in_function names items f) v is (λ w each. function_at before xs f w each)
 
@@ -255,7 +255,7 @@ module _ (names : List (List ℕ)) where
         item_at before xs x w.0 parts.0 w.1 (first_main (x ∷ before) xs w.1 parts.1))
 
     pub has_main : (ys : List t.Item) → AllByRecursion Numbered items → one_by_one (item_faults names items) [] items ++ own program_spot (program_rules names items) ≡ [] → in_items names items items ≡ fine ys
-        → list_all item_is_covered ys ≡ true → MainIn (flat_map functions_of ys)
+        → list_all item_is_served ys ≡ true → MainIn (flat_map functions_of ys)
     has_main ys numbered none is cov =
         let p = no_parts (one_by_one (item_faults names items) [] items) (own program_spot (program_rules names items)) none in
         let main = one_rule 13 (any_main items) (no_code program_spot (broken (program_rules names items)) p.1) in

@@ -19,7 +19,7 @@ use Rattle.vale_rules_spec.specs.Takes.{is_value_under}
 use Rattle.vale_rules_spec.specs.Typing.{Env, with_local, after, deeper, named, form_spot, expr, exprs, operand, links, in_form, in_else_if, elses, in_block, void_block, stmts, stmt, new_name, new_names}
 use Rattle.vale_model.specs.Kinds.{head_of}
 use Rattle.vale_model.specs.Parts.{first_function, has_name}
-use Rattle.vale_lowering.specs.Covered.{type_is_covered, unary_is_covered, callee_is_covered, is_local, expr_is_covered, exprs_are_covered, links_are_covered, form_is_covered, elses_are_covered, block_is_covered, stmts_are_covered, stmt_is_covered}
+use Rattle.vale_served_spec.specs.Served.{type_is_served, unary_is_served, callee_is_served, is_local, expr_is_served, exprs_are_served, links_are_served, form_is_served, elses_are_served, block_is_served, stmts_are_served, stmt_is_served}
 use Rattle.vale_lowering.specs.Scopes.{head_result}
 use Rattle.vale_lower_facts.specs.WellTyped.{unary_is_well_typed, callee_is_well_typed, set_is_well_typed, expr_is_well_typed, exprs_are_well_typed, links_are_well_typed, form_is_well_typed, elses_are_well_typed, block_is_well_typed, stmts_are_well_typed, stmt_is_well_typed}
 use Rattle.vale_sound.proofs.Fine.{rule_kept, one_rule, asked, of_leaf, of_node, of_plain, of_fine, of_both, of_scoped}
@@ -42,11 +42,11 @@ is_there : (n : NameAt) (env : Env) (o : Option Local) → local_of n.name.0 env
 is_there n env o e kept = subst (λ x. is_some x ≡ true) e (one_rule 21 (is_visible n env.scope) kept)
 
 module _ (functions : List t.Function) where
-  name_is_well_typed : (env : Env) (as_value : Bool) (n : NameAt) (o : Option Local) → local_of n.name.0 env.scope ≡ o → is_some o ≡ true → expr_is_covered (named env as_value n o) ≡ true → expr_is_well_typed functions env (named env as_value n o)
+  name_is_well_typed : (env : Env) (as_value : Bool) (n : NameAt) (o : Option Local) → local_of n.name.0 env.scope ≡ o → is_some o ≡ true → expr_is_served (named env as_value n o) ≡ true → expr_is_well_typed functions env (named env as_value n o)
   name_is_well_typed env as_value n None e there cov = impossible there
   name_is_well_typed env as_value n (Some l) e there cov = record { is = l; found = e; typed = seen_type env.depth l (covered_type (named env as_value n (Some l)) cov) }
 
-  place_is_well_typed : (items : List Item) (env : Env) (as_value : Bool) (n : NameAt) (o : Option Local) → local_of n.name.0 env.scope ≡ o → is_some o ≡ true → (ty : Ty) → type_is_covered ty ≡ true
+  place_is_well_typed : (items : List Item) (env : Env) (as_value : Bool) (n : NameAt) (o : Option Local) → local_of n.name.0 env.scope ≡ o → is_some o ≡ true → (ty : Ty) → type_is_served ty ≡ true
       → option_map_or (fits items ty) (t.seen (named env as_value n o)).place true ≡ true
       → set_is_well_typed functions env (named env as_value n o) ty (set_gives (t.seen (named env as_value n o)).place)
   place_is_well_typed items env as_value n None e there ty cov fit = impossible there
@@ -79,7 +79,7 @@ called_program None None (Some g) h e = let same : g ≡ h = cc in ap Some same
 called_program None None None h e = absurd (cc)
 
 module _ (names : List (List ℕ)) (items : List Item) (functions : List t.Function) (finds : Finds items functions) where
-  call_is_well_typed : (n : NameAt) (c : Called) → called names items n ≡ c → (v : t.Exprs) → callee_is_covered (callee c) ≡ true → exprs_are_covered v ≡ true → broken (called_rules items c (t.types v)) ≡ None → callee_is_well_typed functions n (callee c) (t.types v) (called_gives n c (t.types v))
+  call_is_well_typed : (n : NameAt) (c : Called) → called names items n ≡ c → (v : t.Exprs) → callee_is_served (callee c) ≡ true → exprs_are_served v ≡ true → broken (called_rules items c (t.types v)) ≡ None → callee_is_well_typed functions n (callee c) (t.types v) (called_gives n c (t.types v))
   call_is_well_typed n nothing e v cov args kept = impossible (one_rule 21 false kept)
   call_is_well_typed n (language f) e v cov args kept =
       let many = length (t.types v) == arity f in
@@ -104,55 +104,55 @@ module _ (names : List (List ℕ)) (items : List Item) (functions : List t.Funct
   -- ---- what is shown of the parts
 
   abbrev PlaceMeets : Env → t.Expr → Type 0
-  PlaceMeets env x = is_local x ≡ true → (ty : Ty) → type_is_covered ty ≡ true → option_map_or (fits items ty) (t.seen x).place true ≡ true → set_is_well_typed functions env x ty (set_gives (t.seen x).place)
+  PlaceMeets env x = is_local x ≡ true → (ty : Ty) → type_is_served ty ≡ true → option_map_or (fits items ty) (t.seen x).place true ≡ true → set_is_well_typed functions env x ty (set_gives (t.seen x).place)
 
   abbrev Meets : Env → t.Expr → Type 0
-  Meets env x = (expr_is_covered x ≡ true → expr_is_well_typed functions env x) × PlaceMeets env x
+  Meets env x = (expr_is_served x ≡ true → expr_is_well_typed functions env x) × PlaceMeets env x
 
   abbrev ExprsMeet : Env → t.Exprs → Type 0
-  ExprsMeet env v = exprs_are_covered v ≡ true → exprs_are_well_typed functions env v
+  ExprsMeet env v = exprs_are_served v ≡ true → exprs_are_well_typed functions env v
 
   abbrev LinksMeet : Env → Seen → t.Links → Type 0
-  LinksMeet env s v = links_are_covered v ≡ true → links_are_well_typed functions env s.value (t.chain_seen s v).value v
+  LinksMeet env s v = links_are_served v ≡ true → links_are_well_typed functions env s.value (t.chain_seen s v).value v
 
   -- the operator gives a value
   abbrev LinkMeets : Env → Seen → t.Link → Type 0
   LinkMeets env s l = (is_void (t.link_seen l).value ≡ false) × ((ls : t.Links) → LinksMeet env (t.link_seen l) ls → LinksMeet env s (t.more_links l ls))
 
   abbrev FormMeets : Env → Ty × t.Form → Type 0
-  FormMeets env v = form_is_covered v.1 ≡ true → form_is_well_typed functions env v.0 v.1
+  FormMeets env v = form_is_served v.1 ≡ true → form_is_well_typed functions env v.0 v.1
 
   -- all blocks have this type, and without an `else` it is void
   abbrev ElsesMeet : Env → t.Elses → Type 0
-  ElsesMeet env v = elses_are_covered v ≡ true → (x : Ty) → list_all is_bool (t.condition_types v) ≡ true → list_all (same x) (t.block_types v) ≡ true → (t.has_else v || is_void x) ≡ true → elses_are_well_typed functions env x v
+  ElsesMeet env v = elses_are_served v ≡ true → (x : Ty) → list_all is_bool (t.condition_types v) ≡ true → list_all (same x) (t.block_types v) ≡ true → (t.has_else v || is_void x) ≡ true → elses_are_well_typed functions env x v
 
   abbrev ElseIfMeets : Env → t.ElseIf → Type 0
   ElseIfMeets env e = (es : t.Elses) → ElsesMeet env es → ElsesMeet env (t.more_elses e es)
 
   abbrev BlockMeets : Env → t.Block → Type 0
-  BlockMeets env b = block_is_covered b ≡ true → block_is_well_typed functions env (t.block_type b) b
+  BlockMeets env b = block_is_served b ≡ true → block_is_well_typed functions env (t.block_type b) b
 
   abbrev VoidMeets : Env → t.Block → Type 0
-  VoidMeets env b = block_is_covered b ≡ true → block_is_well_typed functions env void b
+  VoidMeets env b = block_is_served b ≡ true → block_is_well_typed functions env void b
 
   abbrev StmtsMeet : Env → t.Stmts → Type 0
-  StmtsMeet env v = stmts_are_covered v ≡ true → stmts_are_well_typed functions env (t.stmts_type v) v
+  StmtsMeet env v = stmts_are_served v ≡ true → stmts_are_well_typed functions env (t.stmts_type v) v
 
   abbrev StmtMeets : Env → t.Stmt → Type 0
-  StmtMeets env s = stmt_is_covered s ≡ true → stmt_is_well_typed functions env s
+  StmtMeets env s = stmt_is_served s ≡ true → stmt_is_well_typed functions env s
 
   -- ---- single nodes
 
-  unary_meets : (op : UnaryOp) (s : Seen) → unary_is_covered op ≡ true → broken (unary_rules op s) ≡ None → unary_is_well_typed op s.value (unary_gives op s)
+  unary_meets : (op : UnaryOp) (s : Seen) → unary_is_served op ≡ true → broken (unary_rules op s) ≡ None → unary_is_well_typed op s.value (unary_gives op s)
   unary_meets u.Minus s cov kept = (same_is s.value int (one_rule 20 (is_int s.value) kept), refl)
   unary_meets u.Not s cov kept = (same_is s.value bool (one_rule 20 (is_bool s.value) kept), refl)
   unary_meets u.Borrow s cov kept = tt
   unary_meets u.Merge s cov kept = tt
 
-  else_if_meets : (env : Env) (at : Spot) (c : t.Expr) (b : t.Block) → (expr_is_covered c ≡ true → expr_is_well_typed functions env c) → BlockMeets env b → ElseIfMeets env (t.else_if at c b)
+  else_if_meets : (env : Env) (at : Spot) (c : t.Expr) (b : t.Block) → (expr_is_served c ≡ true → expr_is_well_typed functions env c) → BlockMeets env b → ElseIfMeets env (t.else_if at c b)
   else_if_meets env at c b meets meets_block es rest cov x bools alike ends =
-      let p = and_parts (expr_is_covered c && block_is_covered b) (elses_are_covered es) cov in
-      let q = and_parts (expr_is_covered c) (block_is_covered b) p.0 in
+      let p = and_parts (expr_is_served c && block_is_served b) (elses_are_served es) cov in
+      let q = and_parts (expr_is_served c) (block_is_served b) p.0 in
       let bs = and_parts (is_bool (t.type c)) (list_all is_bool (t.condition_types es)) bools in
       let ss = and_parts (same x (t.block_type b)) (list_all (same x) (t.block_types es)) alike in (
         same_is (t.type c) bool bs.0,
@@ -161,12 +161,12 @@ module _ (names : List (List ℕ)) (items : List Item) (functions : List t.Funct
         rest p.1 x bs.1 ss.1 ends,
       )
 
-  branch_meets : (env : Env) (at : Spot) (c : t.Expr) (b : t.Block) (es : t.Elses) → (expr_is_covered c ≡ true → expr_is_well_typed functions env c) → BlockMeets env b → ElsesMeet env es
+  branch_meets : (env : Env) (at : Spot) (c : t.Expr) (b : t.Block) (es : t.Elses) → (expr_is_served c ≡ true → expr_is_well_typed functions env c) → BlockMeets env b → ElsesMeet env es
       → broken (branch_rules (t.type c ∷ t.condition_types es) (t.block_type b) (t.block_types es) (t.has_else es)) ≡ None → FormMeets env (t.block_type b, t.branch at c b es)
   branch_meets env at c b es meets meets_block rest kept cov =
       let x = t.block_type b in
-      let p = and_parts (expr_is_covered c && block_is_covered b) (elses_are_covered es) cov in
-      let q = and_parts (expr_is_covered c) (block_is_covered b) p.0 in
+      let p = and_parts (expr_is_served c && block_is_served b) (elses_are_served es) cov in
+      let q = and_parts (expr_is_served c) (block_is_served b) p.0 in
       let bools = list_all is_bool (t.type c ∷ t.condition_types es) in
       let alike = list_all (same x) (t.block_types es) in
       let ends = t.has_else es || is_void x in
@@ -187,7 +187,7 @@ module _ (names : List (List ℕ)) (items : List Item) (functions : List t.Funct
         let place = expr_meets env false p v.0 law.0 parts.0 in
         let value = expr_meets env true e v.1 law.1 parts.1 in (
           (λ cov.
-              let c = and_parts (is_local v.0) (expr_is_covered v.1) (and_parts (type_is_covered (set_gives (t.seen v.0).place)) (is_local v.0 && expr_is_covered v.1) cov).1 in
+              let c = and_parts (is_local v.0) (expr_is_served v.1) (and_parts (type_is_served (set_gives (t.seen v.0).place)) (is_local v.0 && expr_is_served v.1) cov).1 in
               let fit = option_map_or (fits items (t.type v.1)) (t.seen v.0).place true in
               (place.1 c.0 (t.type v.1) (covered_type v.1 c.1) (rule_kept 20 fit ((23, is_some (t.seen v.0).place) ∷ (24, t.may_be_set v.0) ∷ []) kept).0, value.0 c.1)),
           (λ local ty cov fit. impossible local),
@@ -199,7 +199,7 @@ module _ (names : List (List ℕ)) (items : List Item) (functions : List t.Funct
         let first = expr_meets env true e v.0 law.1.0 parts.0 in
         let rest = links_meet env (t.seen v.0) ls v.1 (begins (t.seen v.0) ls law.0) law.1.1 parts.1 in (
           (λ cov.
-              let c = and_parts (expr_is_covered v.0) (links_are_covered v.1) (and_parts (type_is_covered (t.chain_seen (t.seen v.0) v.1).value) (expr_is_covered v.0 && links_are_covered v.1) cov).1 in
+              let c = and_parts (expr_is_served v.0) (links_are_served v.1) (and_parts (type_is_served (t.chain_seen (t.seen v.0) v.1).value) (expr_is_served v.0 && links_are_served v.1) cov).1 in
               (first.0 c.0, rest c.1)),
           (λ local ty cov fit. impossible local),
         ))
@@ -208,7 +208,7 @@ module _ (names : List (List ℕ)) (items : List Item) (functions : List t.Funct
         (λ a each kept.
         let under = expr_meets env (is_value_under op) e a law each in (
           (λ cov.
-              let c = and_parts (unary_is_covered op) (expr_is_covered a) (and_parts (type_is_covered (unary_gives op (t.seen a))) (unary_is_covered op && expr_is_covered a) cov).1 in
+              let c = and_parts (unary_is_served op) (expr_is_served a) (and_parts (type_is_served (unary_gives op (t.seen a))) (unary_is_served op && expr_is_served a) cov).1 in
               (unary_meets op (t.seen a) c.0 kept, under.0 c.1)),
           (λ local ty cov fit. impossible local),
         ))
@@ -231,7 +231,7 @@ module _ (names : List (List ℕ)) (items : List Item) (functions : List t.Funct
         let args = exprs_meet env es v law each in
         let c = called names items n in (
           (λ cov.
-              let d = and_parts (callee_is_covered (callee c)) (exprs_are_covered v) (and_parts (type_is_covered (called_gives n c (t.types v))) (callee_is_covered (callee c) && exprs_are_covered v) cov).1 in
+              let d = and_parts (callee_is_served (callee c)) (exprs_are_served v) (and_parts (type_is_served (called_gives n c (t.types v))) (callee_is_served (callee c) && exprs_are_served v) cov).1 in
               (call_is_well_typed n c refl v d.0 d.1 kept, args d.1)),
           (λ local ty cov fit. impossible local),
         ))
@@ -239,7 +239,7 @@ module _ (names : List (List ℕ)) (items : List Item) (functions : List t.Funct
         of_plain (Meets env) (λ a. t.expr (a_value (t.type a)) (t.paren at a)) (expr names items env true e) x is
         (λ a each.
         let inside = expr_meets env true e a law each in
-        (λ cov. (refl, inside.0 (and_parts (type_is_covered (t.type a)) (expr_is_covered a) cov).1), λ local ty cov fit. impossible local))
+        (λ cov. (refl, inside.0 (and_parts (type_is_served (t.type a)) (expr_is_served a) cov).1), λ local ty cov fit. impossible local))
     expr_meets env as_value (array at z es) x law is =
         of_node (Meets env) at (λ v. array_rules items (type_of z) (t.types v)) (λ v. t.expr (a_value (y.array (type_of z))) (t.array at (type_of z) v)) (exprs names items env es) x is
         (λ v each kept. (λ cov. tt, λ local ty cov fit. impossible local))
@@ -250,7 +250,7 @@ module _ (names : List (List ℕ)) (items : List Item) (functions : List t.Funct
         of_plain (Meets env) (λ v. t.expr (a_value v.0) (t.form v.1)) (in_form names items env f) x is
         (λ v each.
         let inside = form_meets env f v law each in
-        (λ cov. inside (and_parts (type_is_covered v.0) (form_is_covered v.1) cov).1, λ local ty cov fit. impossible local))
+        (λ cov. inside (and_parts (type_is_served v.0) (form_is_served v.1) cov).1, λ local ty cov fit. impossible local))
 
     exprs_meet : (env : Env) (es : Exprs) (v : t.Exprs) → LawfulExprs es → exprs names items env es ≡ fine v → ExprsMeet env v
     exprs_meet env no_exprs v law is = of_fine (ExprsMeet env) t.no_exprs v is (λ cov. tt)
@@ -260,7 +260,7 @@ module _ (names : List (List ℕ)) (items : List Item) (functions : List t.Funct
         let parts = of_both (expr names items env true e) (exprs names items env es) w each in
         let one = expr_meets env true e w.0 law.0 parts.0 in
         let more = exprs_meet env es w.1 law.1 parts.1 in
-        λ cov. let c = and_parts (expr_is_covered w.0) (exprs_are_covered w.1) cov in (one.0 c.0, more c.1))
+        λ cov. let c = and_parts (expr_is_served w.0) (exprs_are_served w.1) cov in (one.0 c.0, more c.1))
 
     link_meets : (env : Env) (s : Seen) (l : Link) (v : t.Link) → LawfulLink l → operand names items env s l ≡ fine v → LinkMeets env s v
     link_meets env s (link at op e) v law is =
@@ -270,7 +270,7 @@ module _ (names : List (List ℕ)) (items : List Item) (functions : List t.Funct
         let takes = one_rule 20 (takes_operands op s.value (t.type a)) kept in (
           gives_value op s.value (t.type a) takes,
           (λ ls rest cov.
-              let c = and_parts (expr_is_covered a) (links_are_covered ls) cov in
+              let c = and_parts (expr_is_served a) (links_are_served ls) cov in
               (takes, refl, one.0 c.0, rest c.1)),
         ))
 
@@ -348,7 +348,7 @@ module _ (names : List (List ℕ)) (items : List Item) (functions : List t.Funct
         let parts = of_scoped (stmt names items env s) (λ a. stmts names items (after a env) ss) w each in
         let one = stmt_meets env s w.0 law.0 parts.0 in
         let more = stmts_meet (after w.0 env) ss w.1 law.1 parts.1 in
-        λ cov. let c = and_parts (stmt_is_covered w.0) (stmts_are_covered w.1) cov in (one c.0, more c.1))
+        λ cov. let c = and_parts (stmt_is_served w.0) (stmts_are_served w.1) cov in (one c.0, more c.1))
 
     stmt_meets : (env : Env) (s : Stmt) (v : t.Stmt) → LawfulStmt s → stmt names items env s ≡ fine v → StmtMeets env v
     stmt_meets env (declare n e) v law is =
@@ -377,7 +377,7 @@ module _ (names : List (List ℕ)) (items : List Item) (functions : List t.Funct
         let test = expr_meets env true c w.0 law.0 parts.0 in
         let body = void_meets env b w.1 law.1 parts.1 in
         λ cov.
-        let d = and_parts (expr_is_covered w.0) (block_is_covered w.1) cov in
+        let d = and_parts (expr_is_served w.0) (block_is_served w.1) cov in
         (same_is (t.type w.0) bool (one_rule 20 (is_bool (t.type w.0)) kept), test.0 d.0, body d.1))
     stmt_meets env (foreach at n a e b) v law is =
         of_node (StmtMeets env) at (λ v. bounds_rules (t.type v.1.0) (t.type v.1.1.0)) (λ v. t.foreach at n v.1.0 v.1.1.0 v.1.1.1)
@@ -391,8 +391,8 @@ module _ (names : List (List ℕ)) (items : List Item) (functions : List t.Funct
         let body = void_meets (with_local n int env) b w.1.1.1 law.1.1 r.1 in
         let k = and_parts (is_int (t.type w.1.0)) (is_int (t.type w.1.1.0)) (one_rule 20 (is_int (t.type w.1.0) && is_int (t.type w.1.1.0)) kept) in
         λ cov.
-        let c = and_parts (expr_is_covered w.1.0 && expr_is_covered w.1.1.0) (block_is_covered w.1.1.1) cov in
-        let d = and_parts (expr_is_covered w.1.0) (expr_is_covered w.1.1.0) c.0 in
+        let c = and_parts (expr_is_served w.1.0 && expr_is_served w.1.1.0) (block_is_served w.1.1.1) cov in
+        let d = and_parts (expr_is_served w.1.0) (expr_is_served w.1.1.0) c.0 in
         (same_is (t.type w.1.0) int k.0, same_is (t.type w.1.1.0) int k.1, low.0 d.0, high.0 d.1, body c.1))
     stmt_meets env (form_stmt f) v law is =
         of_node (StmtMeets env) (form_spot f) (λ v. void_rules v.0) (λ v. t.form_stmt v.1) (in_form names items env f) v is

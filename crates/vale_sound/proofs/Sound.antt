@@ -11,7 +11,7 @@ use Rattle.vale_rules_spec.specs.Typing.{in_items}
 use Rattle.vale_rules_spec.specs.WellFormed.{WellFormed}
 use Rattle.vale_syntax.specs.declared.decls.Decls.{Decls}
 use Rattle.vale_model.specs.Parts.{functions_of}
-use Rattle.vale_lowering.specs.Covered.{is_covered}
+use Rattle.vale_served_spec.specs.Served.{is_served}
 use Rattle.vale_syntax.specs.Bytes.{is_byte}
 use Rattle.vale_lower_facts.specs.WellTyped.{WellTyped}
 use Rattle.vale_sound.proofs.Fine.{of_plain}
@@ -21,9 +21,9 @@ use Rattle.vale_sound.proofs.Literals.{literals_lawful}
 use Rattle.vale_sound.proofs.Parts.{Finds}
 use Rattle.vale_sound.proofs.Main.{no_faults, items_numbered, has_main}
 
-pub well_formed_is_well_typed : (text : List ℕ) (source : Tree) (decls : Decls) (program : t.Typed) → list_all is_byte text ≡ true → WellFormed text source decls program → is_covered program ≡ true → WellTyped program
+pub well_formed_is_well_typed : (text : List ℕ) (source : Tree) (decls : Decls) (program : t.Typed) → list_all is_byte text ≡ true → WellFormed text source decls program → is_served program ≡ true → WellTyped program
 well_formed_is_well_typed text (tree names items) decls program bytes w =
-    of_plain (λ p. is_covered p ≡ true → WellTyped p) (λ v. t.typed names v) (in_items names items items) program w.types
+    of_plain (λ p. is_served p ≡ true → WellTyped p) (λ v. t.typed names v) (in_items names items items) program w.types
     (λ ys each cov.
     let functions = flat_map functions_of ys in
     let tokens = w.reads.tokens.list in

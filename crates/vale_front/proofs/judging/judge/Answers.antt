@@ -2,44 +2,43 @@ use Rattle.std.proofs.Common.{sym, ap, ◌∙◌, refl}
 use Rattle.std.specs.Prelude.{map}
 use Rattle.vale_core.specs.View.{view_core}
 use Rattle.vale_front.specs.Front.{ill_declared, ill_typed, ill_owned, not_served}
-use Rattle.vale_front.specs.declared.missing.Missing.{Missing}
-use Rattle.vale_front.proofs.MissingLaws.{plain_where_judged}
+use Rattle.vale_front.proofs.InterfaceLaws.{plain_without}
 use Rattle.vale_syntax.specs.View.{view_item, view_tree}
 use Rattle.vale_front.proofs.judging.judge.Goals as goal
 
 pub declare-requires : goal.declare-requires
 declare-requires c =
-    plain_where_judged (map view_item c.args.tree.items) (ap (λ (z : Missing). z.unjudged) (sym c.missing_in-missing.ensures) ∙ c.if-missing.false)
+    plain_without (map view_item c.args.tree.items) (sym c.has_interfaces.ensures ∙ c.if-has_interfaces.false)
 
 pub type_all-requires-clause-plain : goal.type_all-requires-clause-plain
 type_all-requires-clause-plain c =
-    plain_where_judged (map view_item c.args.tree.items) (ap (λ (z : Missing). z.unjudged) (sym c.missing_in-missing.ensures) ∙ c.if-missing.false)
+    plain_without (map view_item c.args.tree.items) (sym c.has_interfaces.ensures ∙ c.if-has_interfaces.false)
 
 pub returns-in-Err-Is-clause-refused : goal.returns-in-Err-Is-clause-refused
 returns-in-Err-Is-clause-refused c =
-    let judged = ap (λ (z : Missing). z.unjudged) (sym c.missing_in-missing.ensures) ∙ c.if-missing.false in
+    let judged = sym c.has_interfaces.ensures ∙ c.if-has_interfaces.false in
     let why = rw c.in-Err-Is.field-0-is at c.in-Err-Is.ensures.fault in
     ill_declared judged c.in-Err-Is.fault why
     (rw c.in-Err-Is.field-0-is at c.of.ensures.code) (rw c.in-Err-Is.field-0-is at c.of.ensures.at)
 
 pub returns-in-Err-Is-type_all-clause-refused : goal.returns-in-Err-Is-type_all-clause-refused
 returns-in-Err-Is-type_all-clause-refused c =
-    let judged = ap (λ (z : Missing). z.unjudged) (sym c.missing_in-missing.ensures) ∙ c.if-missing.false in
+    let judged = sym c.has_interfaces.ensures ∙ c.if-has_interfaces.false in
     let why = rw c.in-Err-Is-type_all.field-0-is at c.in-Err-Is-type_all.ensures.fault in
     ill_typed judged c.in-Ok.decls c.in-Ok.ensures.declared c.in-Err-Is-type_all.fault why
     (rw c.in-Err-Is-type_all.field-0-is at c.of-in-Err-Is-type_all.ensures.code) (rw c.in-Err-Is-type_all.field-0-is at c.of-in-Err-Is-type_all.ensures.at)
 
 pub returns-in-Err-Is-own-clause-refused : goal.returns-in-Err-Is-own-clause-refused
 returns-in-Err-Is-own-clause-refused c =
-    let judged = ap (λ (z : Missing). z.unjudged) (sym c.missing_in-missing.ensures) ∙ c.if-missing.false in
+    let judged = sym c.has_interfaces.ensures ∙ c.if-has_interfaces.false in
     let why = rw c.in-Err-Is-own.field-0-is at c.in-Err-Is-own.ensures.fault in
     ill_owned judged c.in-Ok.decls (view_core c.in-Ok-type_all.core) c.in-Ok.ensures.declared c.in-Ok-type_all.ensures.typed c.in-Err-Is-own.fault why
     (rw c.in-Err-Is-own.field-0-is at c.of-in-Err-Is-own.ensures.code) (rw c.in-Err-Is-own.field-0-is at c.of-in-Err-Is-own.ensures.at)
 
 pub returns-then-missing-2-clause-refused : goal.returns-then-missing-2-clause-refused
 returns-then-missing-2-clause-refused c =
-    let judged = ap (λ (z : Missing). z.unjudged) (sym c.missing_in-missing.ensures) ∙ c.if-missing.false in
-    let unserved = ap (λ (z : Missing). z.unserved) (sym c.missing_in-missing.ensures) ∙ c.if-missing-2.true in
+    let judged = sym c.has_interfaces.ensures ∙ c.if-has_interfaces.false in
+    let unserved = sym c.is_served.ensures ∙ c.if-is_served.true in
     not_served judged c.in-Ok.decls (view_core c.in-Ok-type_all.core) c.in-Ok.ensures.declared c.in-Ok-type_all.ensures.typed (rw c.in-Ok-own.ensures.same at c.in-Ok-own.ensures.owned) unserved refl refl
 
 pub invariant_of-result : goal.invariant_of-result

@@ -4,4 +4,4 @@ pub returns : goal.returns
 returns c = λ text tree decls program bytes accepts.
     c.well_formed_programs_run.ensures text tree decls program bytes
     (record { reads = accepts.reads; declares = accepts.serves.declares; types = accepts.serves.types; owns = accepts.serves.owns })
-    (c.served_programs_are_covered.ensures tree decls program accepts.serves)
+    accepts.serves.served
