@@ -420,12 +420,12 @@ module _ (p : Parts) (suits : PartsSuit p) where
 pub takes_no_input : (program : Typed) → WellTyped program → takes_input (lowered program) no_input ≡ true
 takes_no_input program su = main_takes_nothing (parts_of program) su
 
-functions_covered : (items : List Item) → list_all item_is_served items ≡ true → list_all function_is_served (flat_map functions_of items) ≡ true
-functions_covered [] e = refl
-functions_covered (function_item f ∷ items) e = let w = and_parts (function_is_served f) (list_all item_is_served items) e in and_from _ _ w.0 (functions_covered items w.1)
-functions_covered (struct_item n fs ∷ items) e = absurd (cc)
-functions_covered (interface_item n hs ∷ items) e = absurd (cc)
-functions_covered (impl_item at i s fs ∷ items) e = absurd (cc)
+functions_served : (items : List Item) → list_all item_is_served items ≡ true → list_all function_is_served (flat_map functions_of items) ≡ true
+functions_served [] e = refl
+functions_served (function_item f ∷ items) e = let w = and_parts (function_is_served f) (list_all item_is_served items) e in and_from _ _ w.0 (functions_served items w.1)
+functions_served (struct_item n fs ∷ items) e = absurd (cc)
+functions_served (interface_item n hs ∷ items) e = absurd (cc)
+functions_served (impl_item at i s fs ∷ items) e = absurd (cc)
 
 pub lowered_is_certified : (program : Typed) → is_served program ≡ true → WellTyped program → Certified (lowered program) (lowered_facts program)
-lowered_is_certified (typed names items) cov su = parts_certified (parts_of (typed names items)) (functions_covered items cov) su
+lowered_is_certified (typed names items) cov su = parts_certified (parts_of (typed names items)) (functions_served items cov) su

@@ -201,14 +201,14 @@ module _ (k : Site) (c : Context k) where
 
   -- ---- parts of the mutual induction
 
-  expr_type_covered : (e : Expr) → expr_is_served e ≡ true → type_is_served (type e) ≡ true
-  expr_type_covered (expr x node) cov = (and_parts (type_is_served x.value) (node_is_served node) cov).0
+  expr_type_served : (e : Expr) → expr_is_served e ≡ true → type_is_served (type e) ≡ true
+  expr_type_served (expr x node) cov = (and_parts (type_is_served x.value) (node_is_served node) cov).0
 
-  types_covered : (es : Exprs) → exprs_are_served es ≡ true → list_all type_is_served (types es) ≡ true
-  types_covered no_exprs cov = refl
-  types_covered (more_exprs e es) cov =
+  types_served : (es : Exprs) → exprs_are_served es ≡ true → list_all type_is_served (types es) ≡ true
+  types_served no_exprs cov = refl
+  types_served (more_exprs e es) cov =
       let w = and_parts (expr_is_served e) (exprs_are_served es) cov in
-      and_from _ _ (expr_type_covered e w.0) (types_covered es w.1)
+      and_from _ _ (expr_type_served e w.0) (types_served es w.1)
 
   first_copy : (env : Env) (ty x : Ty) (ls : Links) → links_are_well_typed fs env ty x ls → type_is_served ty ≡ true → y.is_copy ty ≡ true
   first_copy env ty x no_links su cov = covered_copy ty cov su.1
@@ -357,7 +357,7 @@ module _ (k : Site) (c : Context k) where
         (runs_less k (expr_runs env e p h s due su.1 cov q st) (given_behind (y.is_copy (type e)) h (type e) s (expr_returns e)))))
     node_runs env x (chain e ls) p h s due su cx cov q st =
         let w = and_parts (expr_is_served e) (links_are_served ls) cov in
-        let copy = first_copy env (type e) x ls su.1 (expr_type_covered e w.0) in
+        let copy = first_copy env (type e) x ls su.1 (expr_type_served e w.0) in
         let gives = last_copy env (type e) x ls su.1 copy in
         as_given k (y.is_copy x) h x gives
         (runs_due k (ap (λ b. b && links_due ls (value_due e)) (sym gives))
@@ -379,7 +379,7 @@ module _ (k : Site) (c : Context k) where
         (both k (plain_value e (value_runs env e p h s due copy.0 su.1 w.1 q st)) (set_code_runs l (type e) x w.0 su.0 copy.0 st))))
     node_runs env x (call n (built_in f) es) p h s due su cx cov q st =
         let w = and_parts (callee_is_served (built_in f)) (exprs_are_served es) cov in
-        let tys = types_covered es w.1 in
+        let tys = types_served es w.1 in
         both k (args_runs env es p h s due su.1 w.1 (built_in_copies f (types es) w.0 tys su.0.taken) q st)
         (built_in_runs k n.at (p + length (args_code a es p h (scope_at s))) h s (args_due es due) st.below f es x w.0 tys su.0)
     node_runs env x (call n constructor es) p h s due su cx cov q st = absurd (cc)
@@ -459,7 +459,7 @@ module _ (k : Site) (c : Context k) where
         last_runs (y.is_copy x) x e p to h s o due refl su.0 w st.below (λ copy. value_runs env e p h s due copy su.1 cov q st) (expr_runs env e p h s due su.1 cov q st)
     stmts_runs env x (more_stmts (declare n z e) ss) p to h s o due su cov q w st =
         let v = and_parts (expr_is_served e) (stmts_are_served ss) cov in
-        let copy : y.is_copy (type e) ≡ true = covered_copy (type e) (expr_type_covered e v.0) (ap y.is_void (sym su.0.0) ∙ su.0.1) in
+        let copy : y.is_copy (type e) ≡ true = covered_copy (type e) (expr_type_served e v.0) (ap y.is_void (sym su.0.0) ∙ su.0.1) in
         both k
         (runs_less k (value_runs env e p h s due copy su.0.2 v.0 (among_front (expr_quotes e) (stmts_quotes ss) q) st)
         (says_with k (holds h (type e)) (local n.name.0 h z) refl (sym su.0.0) (says_behind k s (expr_returns e))))
