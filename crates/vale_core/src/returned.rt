@@ -4,8 +4,8 @@ ghost use Rattle.vale_core.specs.View.{view_expr, view_node, view_form, view_stm
 ghost use Rattle.vale_rules_spec.specs.Returns as r;
 ghost use Rattle.vale_rules_spec.specs.Sides.{else_if_returns, each_returns};
 
-use sqlite_items::Boxed;
 use crate::tree::{Block, ElseIf, Expr, Form, Node, Stmt};
+use sqlite_items::Boxed;
 
 /// Whether the block always returns.
 #[cycle(returned)]
