@@ -13,7 +13,7 @@ use std::alloc::Global;
 use vale_base::{Memory, Name, Text};
 use vale_code::Sequence;
 use vale_core::Function;
-use vale_types::is_called;
+use vale_names::is_called;
 
 /// The text of a name, or none where the name has no text.
 pub fn text_of<'n>(names: &'n [Text], name: Name) -> &'n [u8]

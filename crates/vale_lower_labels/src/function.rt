@@ -23,7 +23,7 @@ use vale_code::{Sequence, Ty as CodeTy};
 use vale_core::{Block, Function};
 use vale_core::block_returns;
 use vale_syntax::{Param, TypeExpr};
-use vale_type_rules::type_of;
+use vale_seen::type_of;
 
 // The code's type of what a function with this result gives, where it gives a value.
 fn value_type(ty: &Option<TypeExpr>) -> Option<CodeTy>

@@ -1,0 +1,4 @@
+pub mod EdgeLaws
+pub mod IsoLaws
+pub mod SpreadLaws
+pub mod TestLaws

@@ -1,0 +1,4 @@
+pub mod Isos
+pub mod Mentions
+pub mod Names
+pub mod Spread
