@@ -6,17 +6,16 @@ ghost use Rattle.vale_syntax.specs.View.{view_type};
 ghost use Rattle.vale_rules_spec.specs.Types.{type_of};
 ghost use Rattle.vale_rules_spec.specs.TypeRules.{called, called_rules, called_gives, callee, built_in_rules, call_rules, array_rules};
 ghost use Rattle.vale_core.specs.View.{view_ty, view_callee};
-ghost use Rattle.vale_type_rules.specs.Table.{names_of, items_of};
+ghost use Rattle.vale_lookup.specs.Table.{names_of, items_of};
 ghost use Rattle.vale_type_faults.specs.Called.{view_called};
 
 use std::alloc::Global;
 use vale_base::Memory;
 use vale_core::{Callee, Ty};
+use vale_lookup::{Table, built_in_named};
+use vale_seen::{field_types, param_types, result_of};
 use vale_syntax::{BuiltIn, FieldDecl, Head, NameAt};
-use vale_type_rules::{
-    Table, all_fit, arity, built_in_gives, built_in_named, each_fits, field_types, param_types,
-    result_of, takes_arguments,
-};
+use vale_type_rules::{all_fit, arity, built_in_gives, each_fits, takes_arguments};
 
 /// What a name stands for in a call: nothing, a function of the language, a struct with its fields, or a function of the
 /// program with its head.
@@ -93,7 +92,7 @@ pub fn called_fault(
 }
 
 /// What the call gives.
-#[tactic(auto, using(vale_type_rules::proofs::TyLaws::types))]
+#[tactic(auto, using(vale_seen::proofs::TyLaws::types))]
 pub fn called_gives(
     alloc: Global,
     name: NameAt,

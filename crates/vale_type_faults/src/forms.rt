@@ -7,12 +7,14 @@ ghost use Rattle.vale_rules_spec.specs.Typed as t;
 ghost use Rattle.vale_rules_spec.specs.Typed.{type, condition_types, block_types, has_else};
 ghost use Rattle.vale_rules_spec.specs.TypeRules.{is_bool, void_rules, condition_rules, bounds_rules, branch_rules, iso_rules, consumed_rules, isolate_in, parallel_gives};
 ghost use Rattle.vale_core.specs.View.{elses_of, else_end, view_ty, view_expr, view_block, view_else_if};
-ghost use Rattle.vale_type_rules.specs.Table.{items_of};
+ghost use Rattle.vale_lookup.specs.Table.{items_of};
 
 use std::alloc::Global;
 use vale_base::Memory;
 use vale_core::{Block, ElseIf, Expr, Ty};
-use vale_type_rules::{Table, block_type, is_bool, is_int, type_in};
+use vale_lookup::Table;
+use vale_seen::{block_type, type_in};
+use vale_type_rules::{is_bool, is_int};
 
 /// A block or a form that is to give nothing.
 pub fn void_fault(ty: &Ty) -> Option<u8>
@@ -54,7 +56,7 @@ pub fn iso_fault(table: &Table, ty: &Ty) -> Option<u8>
     None
 }
 
-#[tactic(auto, using(vale_type_rules::proofs::TyLaws::types))]
+#[tactic(auto, using(vale_seen::proofs::TyLaws::types))]
 fn is_consumed(ty: &Ty) -> bool
     ensures { result ≡ is_some (isolate_in (view_ty ty.now)) }
 {
@@ -75,7 +77,7 @@ pub fn consumed_fault(ty: &Ty) -> Option<u8>
 }
 
 /// Whether the condition of each `else if` is a truth.
-#[tactic(auto, using(vale_type_rules::proofs::PartLaws::conditions))]
+#[tactic(auto, using(vale_seen::proofs::PartLaws::conditions))]
 fn have_conditions(else_ifs: &[ElseIf]) -> bool
     ensures { (o : Option t.Block) → result ≡ list_all is_bool (condition_types (elses_of (map view_else_if else_ifs.now) o)) }
 {
@@ -88,7 +90,7 @@ fn have_conditions(else_ifs: &[ElseIf]) -> bool
 }
 
 /// Whether each `else if` has a block of this type.
-#[tactic(auto, using(vale_type_rules::proofs::PartLaws::blocks))]
+#[tactic(auto, using(vale_seen::proofs::PartLaws::blocks))]
 fn have_blocks(ty: &Ty, else_ifs: &[ElseIf]) -> bool
     ensures { (o : Option t.Block) → list_all (same (view_ty ty.now)) (block_types (elses_of (map view_else_if else_ifs.now) o)) ≡ (result && list_all (same (view_ty ty.now)) (block_types (else_end o))) }
 {
@@ -111,7 +113,7 @@ fn has_end(ty: &Ty, otherwise: &Option<Block>) -> bool
 }
 
 /// An `if` whose first block gives this: its conditions are truths, and its blocks have one type, or none without `else`.
-#[tactic(auto, using(vale_type_rules::proofs::PartLaws::else_at_end))]
+#[tactic(auto, using(vale_seen::proofs::PartLaws::else_at_end))]
 pub fn branch_fault(
     condition: &Ty,
     ty: &Ty,
@@ -128,7 +130,7 @@ pub fn branch_fault(
 }
 
 /// What a parallel loop gives, by the type of its body.
-#[tactic(auto, using(vale_type_rules::proofs::TyLaws::types))]
+#[tactic(auto, using(vale_seen::proofs::TyLaws::types))]
 pub fn parallel_gives(alloc: Global, table: &Table, ty: &Ty) -> Result<Ty, Memory>
     ensures { IfOk result (λ x. view_ty x ≡ parallel_gives (items_of table.now) (view_ty ty.now)) }
 {

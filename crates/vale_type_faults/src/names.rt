@@ -3,11 +3,11 @@ ghost use Rattle.std.specs.Prelude.{◌≡◌};
 ghost use Rattle.vale_rules_spec.specs.Judged.{broken};
 ghost use Rattle.vale_rules_spec.specs.TypeRules.{name_rules, new_name_rules, declare_rules};
 ghost use Rattle.vale_core.specs.View.{view_ty};
-ghost use Rattle.vale_type_rules.specs.Scope.{locals};
+ghost use Rattle.vale_seen.specs.Scope.{locals};
 
 use vale_core::Ty;
+use vale_seen::{Scope, is_visible};
 use vale_syntax::NameAt;
-use vale_type_rules::{Scope, is_visible};
 
 /// The name of a local.
 pub fn name_fault(scope: &Scope, name: NameAt) -> Option<u8>

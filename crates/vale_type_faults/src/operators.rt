@@ -11,7 +11,7 @@ use vale_core::{Seen, Ty, View};
 use vale_syntax::{BinaryOp, UnaryOp};
 use vale_type_rules::{is_bool, is_int};
 
-#[tactic(auto, using(vale_type_rules::proofs::TyLaws::types))]
+#[tactic(auto, using(vale_seen::proofs::TyLaws::types))]
 fn have_order(ty: &Ty, other: &Ty) -> bool
     ensures { result ≡ have_order (view_ty ty.now) (view_ty other.now) }
 {
@@ -22,7 +22,7 @@ fn have_order(ty: &Ty, other: &Ty) -> bool
     }
 }
 
-#[tactic(auto, using(vale_type_rules::proofs::TyLaws::types))]
+#[tactic(auto, using(vale_seen::proofs::TyLaws::types))]
 fn have_equality(ty: &Ty, other: &Ty) -> bool
     ensures { result ≡ have_equality (view_ty ty.now) (view_ty other.now) }
 {
@@ -58,7 +58,7 @@ pub fn link_fault(op: BinaryOp, ty: &Ty, other: &Ty) -> Option<u8>
 }
 
 /// What the operator gives, from the type of its first operand.
-#[tactic(auto, using(vale_type_rules::proofs::TyLaws::types))]
+#[tactic(auto, using(vale_seen::proofs::TyLaws::types))]
 pub fn link_gives(alloc: Global, op: BinaryOp, ty: &Ty) -> Result<Ty, Memory>
     ensures { IfOk result (λ x. view_ty x ≡ link_gives op (view_ty ty.now)) }
 {
@@ -71,7 +71,7 @@ pub fn link_gives(alloc: Global, op: BinaryOp, ty: &Ty) -> Result<Ty, Memory>
     }
 }
 
-#[tactic(auto, using(vale_type_rules::proofs::TyLaws::types))]
+#[tactic(auto, using(vale_seen::proofs::TyLaws::types))]
 fn is_iso(ty: &Ty) -> bool
     ensures { result ≡ is_iso (view_ty ty.now) }
 {
@@ -107,7 +107,7 @@ pub fn unary_fault(op: UnaryOp, operand: &Seen) -> Option<u8>
 }
 
 /// What `&p` gives, by how the place is seen.
-#[tactic(auto, using(vale_type_rules::proofs::TyLaws::types))]
+#[tactic(auto, using(vale_seen::proofs::TyLaws::types))]
 fn borrow_gives(alloc: Global, view: &View) -> Result<Ty, Memory>
     ensures { IfOk result (λ x. view_ty x ≡ borrow_gives (view_view view.now)) }
 {
@@ -119,7 +119,7 @@ fn borrow_gives(alloc: Global, view: &View) -> Result<Ty, Memory>
 }
 
 /// What `merge` gives for an isolate of this type.
-#[tactic(auto, using(vale_type_rules::proofs::TyLaws::types))]
+#[tactic(auto, using(vale_seen::proofs::TyLaws::types))]
 fn merge_gives(alloc: Global, ty: &Ty) -> Result<Ty, Memory>
     ensures { IfOk result (λ x. view_ty x ≡ merge_gives (view_ty ty.now)) }
 {
@@ -130,7 +130,7 @@ fn merge_gives(alloc: Global, ty: &Ty) -> Result<Ty, Memory>
 }
 
 /// What the operator gives, from what is known of its operand.
-#[tactic(auto, using(vale_type_rules::proofs::TyLaws::types))]
+#[tactic(auto, using(vale_seen::proofs::TyLaws::types))]
 pub fn unary_gives(alloc: Global, op: UnaryOp, operand: &Seen) -> Result<Ty, Memory>
     ensures { IfOk result (λ x. view_ty x ≡ unary_gives op (view_seen operand.now)) }
 {

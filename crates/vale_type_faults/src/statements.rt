@@ -4,13 +4,14 @@ ghost use Rattle.vale_rules_spec.specs.Judged.{broken};
 ghost use Rattle.vale_syntax.specs.View.{view_field};
 ghost use Rattle.vale_rules_spec.specs.TypeRules.{set_rules, set_gives, destructure_rules, return_nothing_rules, return_value_rules, function_rules};
 ghost use Rattle.vale_core.specs.View.{view_ty};
-ghost use Rattle.vale_type_rules.specs.Table.{items_of};
+ghost use Rattle.vale_lookup.specs.Table.{items_of};
 
 use std::alloc::Global;
 use vale_base::Memory;
 use vale_core::Ty;
+use vale_lookup::Table;
 use vale_syntax::{FieldDecl, NameAt};
-use vale_type_rules::{Table, fits};
+use vale_type_rules::fits;
 
 /// `set p = e`, where the place has this type, if it is one, and the value has that.
 pub fn set_fault(table: &Table, may_be_set: bool, place: &Option<Ty>, ty: &Ty) -> Option<u8>
@@ -31,7 +32,7 @@ pub fn set_fault(table: &Table, may_be_set: bool, place: &Option<Ty>, ty: &Ty) -
 }
 
 /// What `set` gives: what was in the place.
-#[tactic(auto, using(vale_type_rules::proofs::TyLaws::types))]
+#[tactic(auto, using(vale_seen::proofs::TyLaws::types))]
 pub fn set_gives(alloc: Global, place: &Option<Ty>) -> Result<Ty, Memory>
     ensures { IfOk result (λ x. view_ty x ≡ set_gives (option_map view_ty place.now)) }
 {

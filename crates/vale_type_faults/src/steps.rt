@@ -8,18 +8,19 @@ ghost use Rattle.vale_rules_spec.specs.Types.{type_of, is_owned, method_named};
 ghost use Rattle.vale_rules_spec.specs.TypeRules.{fields_seen, methods_seen, elements_seen, field_rules, index_rules, method_rules, method_gives, part_of};
 ghost use Rattle.vale_rules_spec.specs.Typing.{type_in, is_settable};
 ghost use Rattle.vale_core.specs.View.{view_ty, view_view, view_seen};
-ghost use Rattle.vale_type_rules.specs.Table.{items_of};
+ghost use Rattle.vale_lookup.specs.Table.{items_of};
 
 use std::alloc::Global;
 use vale_base::{Memory, Name};
 use vale_core::{Seen, Ty, View};
-use vale_syntax::{FieldDecl, Head, TypeExpr};
-use vale_type_rules::{
-    Table, a_value, all_fit, elements_seen, fields_seen, is_frozen, is_int, is_loose, method_seen,
-    method_takes, methods_seen, needs_frozen, part_seen, result_of, type_of,
+use vale_lookup::Table;
+use vale_seen::{
+    a_value, is_frozen, is_loose, method_takes, needs_frozen, part_seen, result_of, type_of,
 };
+use vale_syntax::{FieldDecl, Head, TypeExpr};
+use vale_type_rules::{all_fit, elements_seen, fields_seen, is_int, method_seen, methods_seen};
 
-#[tactic(auto, using(vale_type_rules::proofs::TyLaws::types))]
+#[tactic(auto, using(vale_seen::proofs::TyLaws::types))]
 fn is_owned(ty: &TypeExpr) -> bool
     ensures { result ≡ is_owned (type_of (view_type ty.now)) }
 {
@@ -57,7 +58,7 @@ pub fn field_fault(
 }
 
 /// What the field gives, read from what is seen so.
-#[tactic(auto, using(vale_type_rules::proofs::TyLaws::types))]
+#[tactic(auto, using(vale_seen::proofs::TyLaws::types))]
 pub fn field_gives(alloc: Global, view: &View, field: Option<&FieldDecl>) -> Result<Seen, Memory>
     ensures { IfOk result (λ s. view_seen s ≡ part_of (view_view view.now) (type_in (option_map (λ f. view_field f.now) field.entry))) }
 {
@@ -99,7 +100,7 @@ pub fn index_fault(as_value: bool, base: &Seen, ty: &Ty) -> Option<u8>
 }
 
 /// What an element gives, read from what is seen so.
-#[tactic(auto, using(vale_type_rules::proofs::TyLaws::types))]
+#[tactic(auto, using(vale_seen::proofs::TyLaws::types))]
 pub fn element_gives(alloc: Global, view: &View) -> Result<Seen, Memory>
     ensures { IfOk result (λ s. view_seen s ≡ part_of (view_view view.now) (elements_seen (view_view view.now))) }
 {
@@ -165,7 +166,7 @@ pub fn method_fault(
 }
 
 /// What the method of this name gives.
-#[tactic(auto, using(vale_type_rules::proofs::TyLaws::types))]
+#[tactic(auto, using(vale_seen::proofs::TyLaws::types))]
 pub fn method_gives(alloc: Global, table: &Table, view: &View, name: Name) -> Result<Seen, Memory>
     ensures { IfOk result (λ s. view_seen s ≡ method_gives (option_and_then (λ hs. method_named hs name.0) (methods_seen (items_of table.now) (view_view view.now)))) }
 {

@@ -4,13 +4,13 @@ ghost use Rattle.vale_rules_spec.specs.Types as y;
 ghost use Rattle.vale_rules_spec.specs.Types.{same};
 ghost use Rattle.vale_rules_spec.specs.TypeRules.{arity, takes_arguments, may_push, is_array_ref, popped, built_in_gives};
 ghost use Rattle.vale_core.specs.View.{view_ty};
-ghost use Rattle.vale_type_rules.specs.Table.{items_of};
+ghost use Rattle.vale_lookup.specs.Table.{items_of};
 
 use crate::fitting::{fits, is_int};
-use crate::table::Table;
 use std::alloc::Global;
 use vale_base::Memory;
 use vale_core::Ty;
+use vale_lookup::Table;
 use vale_syntax::BuiltIn;
 
 /// How many arguments it takes.
@@ -31,7 +31,7 @@ fn is_str(ty: &Ty) -> bool
     matches!(ty, Ty::Str)
 }
 
-#[tactic(auto, using(crate::proofs::TyLaws::types))]
+#[tactic(auto, using(vale_seen::proofs::TyLaws::types))]
 fn is_array_ref(ty: &Ty) -> bool
     ensures { result ≡ is_array_ref (view_ty ty.now) }
 {
@@ -41,7 +41,7 @@ fn is_array_ref(ty: &Ty) -> bool
     }
 }
 
-#[tactic(auto, using(crate::proofs::TyLaws::types))]
+#[tactic(auto, using(vale_seen::proofs::TyLaws::types))]
 fn may_push(table: &Table, array: &Ty, ty: &Ty) -> bool
     ensures { result ≡ may_push (items_of table.now) (view_ty array.now) (view_ty ty.now) }
 {
@@ -99,7 +99,7 @@ pub fn takes_arguments(table: &Table, function: BuiltIn, args: &[Ty]) -> bool
 }
 
 /// What `pop` gives.
-#[tactic(auto, using(crate::proofs::TyLaws::types))]
+#[tactic(auto, using(vale_seen::proofs::TyLaws::types))]
 fn popped(alloc: Global, ty: &Ty) -> Result<Ty, Memory>
     ensures { IfOk result (λ x. view_ty x ≡ popped (view_ty ty.now)) }
 {
@@ -113,7 +113,7 @@ fn popped(alloc: Global, ty: &Ty) -> Result<Ty, Memory>
 }
 
 /// What it gives for arguments of these types.
-#[tactic(auto, using(crate::proofs::TyLaws::types))]
+#[tactic(auto, using(vale_seen::proofs::TyLaws::types))]
 pub fn built_in_gives(alloc: Global, function: BuiltIn, args: &[Ty]) -> Result<Ty, Memory>
     ensures { IfOk result (λ x. view_ty x ≡ built_in_gives function (map view_ty args.now)) }
 {

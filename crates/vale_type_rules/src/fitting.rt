@@ -4,10 +4,10 @@ ghost use Rattle.std.specs.List.{list_all};
 ghost use Rattle.vale_rules_spec.specs.Types.{is_object_of, fits, fits_argument};
 ghost use Rattle.vale_rules_spec.specs.TypeRules.{all_fit, is_int, is_bool};
 ghost use Rattle.vale_core.specs.View.{view_ty};
-ghost use Rattle.vale_type_rules.specs.Table.{items_of};
+ghost use Rattle.vale_lookup.specs.Table.{items_of};
 
-use crate::table::Table;
 use vale_core::Ty;
+use vale_lookup::Table;
 
 pub fn is_int(ty: &Ty) -> bool
     ensures { result ≡ is_int (view_ty ty.now) }
@@ -22,7 +22,7 @@ pub fn is_bool(ty: &Ty) -> bool
 }
 
 /// Whether an object of the first type is one of the second.
-#[tactic(auto, using(crate::proofs::TyLaws::types))]
+#[tactic(auto, using(vale_seen::proofs::TyLaws::types))]
 pub fn is_object_of(table: &Table, ty: &Ty, of: &Ty) -> bool
     ensures { result ≡ is_object_of (items_of table.now) (view_ty ty.now) (view_ty of.now) }
 {
@@ -37,7 +37,7 @@ pub fn is_object_of(table: &Table, ty: &Ty, of: &Ty) -> bool
 }
 
 /// Whether a value of the first type serves where the second is asked for.
-#[tactic(auto, using(crate::proofs::TyLaws::types))]
+#[tactic(auto, using(vale_seen::proofs::TyLaws::types))]
 pub fn fits(table: &Table, ty: &Ty, asked: &Ty) -> bool
     ensures { result ≡ fits (items_of table.now) (view_ty ty.now) (view_ty asked.now) }
 {
@@ -60,7 +60,7 @@ pub fn fits(table: &Table, ty: &Ty, asked: &Ty) -> bool
 }
 
 /// Whether a value of the first type serves as an argument, of a pure function or another, where the second is asked for.
-#[tactic(auto, using(crate::proofs::TyLaws::types))]
+#[tactic(auto, using(vale_seen::proofs::TyLaws::types))]
 pub fn fits_argument(table: &Table, is_pure: bool, ty: &Ty, asked: &Ty) -> bool
     ensures { result ≡ fits_argument (items_of table.now) is_pure (view_ty ty.now) (view_ty asked.now) }
 {

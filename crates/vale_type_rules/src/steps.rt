@@ -5,16 +5,16 @@ ghost use Rattle.vale_syntax.specs.View.{view_field, view_head};
 ghost use Rattle.vale_rules_spec.specs.Types.{field_named, method_named};
 ghost use Rattle.vale_rules_spec.specs.TypeRules.{fields_seen, methods_seen, elements_seen, struct_fields};
 ghost use Rattle.vale_core.specs.View.{view_ty, view_view};
-ghost use Rattle.vale_type_rules.specs.Table.{items_of};
+ghost use Rattle.vale_lookup.specs.Table.{items_of};
 
-use crate::seen::seen_object;
-use crate::table::Table;
 use vale_base::Name;
 use vale_core::{Ty, View};
+use vale_lookup::Table;
+use vale_seen::seen_object;
 use vale_syntax::{FieldDecl, Head};
 
 /// The fields of the struct that a step starts from.
-#[tactic(auto, using(crate::proofs::TyLaws::types))]
+#[tactic(auto, using(vale_seen::proofs::TyLaws::types))]
 pub fn fields_seen<'a>(table: &'a Table, view: &View) -> Option<&'a [FieldDecl]>
     ensures { option_map (λ fs. map view_field fs.now) result ≡ fields_seen (items_of table.now) (view_view view.now) }
 {
@@ -25,7 +25,7 @@ pub fn fields_seen<'a>(table: &'a Table, view: &View) -> Option<&'a [FieldDecl]>
 }
 
 /// The field of this name that a step leads to.
-#[tactic(auto, using(crate::proofs::TyLaws::types))]
+#[tactic(auto, using(vale_seen::proofs::TyLaws::types))]
 pub fn field_seen<'a>(table: &'a Table, view: &View, name: Name) -> Option<&'a FieldDecl>
     ensures { option_map (λ f. view_field f.now) result ≡ option_and_then (λ fs. field_named fs name.0) (fields_seen (items_of table.now) (view_view view.now)) }
 {
@@ -36,7 +36,7 @@ pub fn field_seen<'a>(table: &'a Table, view: &View, name: Name) -> Option<&'a F
 }
 
 /// The methods of the interface that a step starts from.
-#[tactic(auto, using(crate::proofs::TyLaws::types))]
+#[tactic(auto, using(vale_seen::proofs::TyLaws::types))]
 pub fn methods_seen<'a>(table: &'a Table, view: &View) -> Option<&'a [Head]>
     ensures { option_map (λ hs. map view_head hs.now) result ≡ methods_seen (items_of table.now) (view_view view.now) }
 {
@@ -47,7 +47,7 @@ pub fn methods_seen<'a>(table: &'a Table, view: &View) -> Option<&'a [Head]>
 }
 
 /// The method of this name that a step leads to.
-#[tactic(auto, using(crate::proofs::TyLaws::types))]
+#[tactic(auto, using(vale_seen::proofs::TyLaws::types))]
 pub fn method_seen<'a>(table: &'a Table, view: &View, name: Name) -> Option<&'a Head>
     ensures { option_map (λ h. view_head h.now) result ≡ option_and_then (λ hs. method_named hs name.0) (methods_seen (items_of table.now) (view_view view.now)) }
 {
@@ -58,7 +58,7 @@ pub fn method_seen<'a>(table: &'a Table, view: &View, name: Name) -> Option<&'a 
 }
 
 /// The type of the elements of the array that a step starts from.
-#[tactic(auto, using(crate::proofs::TyLaws::types))]
+#[tactic(auto, using(vale_seen::proofs::TyLaws::types))]
 pub fn elements_seen(view: &View) -> Option<&Ty>
     ensures { option_map (λ t. view_ty t.now) result ≡ elements_seen (view_view view.now) }
 {
@@ -69,7 +69,7 @@ pub fn elements_seen(view: &View) -> Option<&Ty>
 }
 
 /// The fields of the struct that a value of this type owns.
-#[tactic(auto, using(crate::proofs::TyLaws::types))]
+#[tactic(auto, using(vale_seen::proofs::TyLaws::types))]
 pub fn struct_fields<'a>(table: &'a Table, ty: &Ty) -> Option<&'a [FieldDecl]>
     ensures { option_map (λ fs. map view_field fs.now) result ≡ struct_fields (items_of table.now) (view_ty ty.now) }
 {

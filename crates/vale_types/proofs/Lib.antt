@@ -1,10 +1,6 @@
-pub mod EdgeLaws
-pub mod IsoLaws
 pub mod LoopLaws
 pub mod PartLaws
 pub mod RowLaws
 pub mod Rules
-pub mod SpreadLaws
-pub mod TestLaws
 pub mod TypeLaws
 pub mod WalkLaws

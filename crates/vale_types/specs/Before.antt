@@ -6,9 +6,9 @@ use Rattle.vale_syntax.specs.declared.tree.NameAt.{NameAt}
 use Rattle.vale_syntax.specs.Tree.{Item}
 use Rattle.vale_rules_spec.specs.Declarations.{same_name, item_name, is_function_with, is_main}
 use Rattle.vale_rules_spec.specs.DeclRules.{drops_same}
-use Rattle.vale_types.specs.declared.names.Names.{Names}
+use Rattle.vale_names.specs.declared.names.Names.{Names}
 use Rattle.vale_types.specs.declared.before.Before.{Before}
-use Rattle.vale_types.specs.Names.{has}
+use Rattle.vale_names.specs.Names.{has}
 
 -- they are the names of these parts
 abbrev pub AreNamesOf : {X : Type 0} → (X → NameAt) → Names → List X → Type 0

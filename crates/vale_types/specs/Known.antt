@@ -7,7 +7,7 @@ use Rattle.vale_rules_spec.specs.Reach.{is_reached}
 use Rattle.vale_rules_spec.specs.Declarations.{is_struct_of, leads, iso_holders}
 use Rattle.vale_rules_spec.specs.DeclRules.{is_kind}
 use Rattle.vale_types.specs.declared.known.Known.{Known}
-use Rattle.vale_types.specs.Names.{has}
+use Rattle.vale_names.specs.Names.{has}
 
 -- they have the structs and interfaces, the structs alone, and the names that reach a struct with `iso` in a field's type
 pub record Knows (items : List Item) (known : Known) : Type 0 where

@@ -1,4 +1,4 @@
-use crate::names::Names;
+use vale_names::Names;
 
 /// What is kept of the items before one.
 #[derive(Drop)]

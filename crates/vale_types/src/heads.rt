@@ -9,10 +9,10 @@ ghost use Rattle.vale_types.specs.Known.{Knows};
 ghost use Rattle.vale_types.specs.Before.{AreNamesOf};
 
 use crate::known::Known;
-use crate::names::Names;
 use crate::types::{check_type, kept};
 use std::alloc::Global;
 use vale_base::Fail;
+use vale_names::Names;
 use vale_syntax::{Fault, FieldDecl, Head, Item, Param, Position, TypeExpr};
 
 /// The first fault of a field, whose name is put among those of the fields before it.

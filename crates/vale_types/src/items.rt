@@ -15,12 +15,12 @@ use crate::before::Before;
 use crate::body::walk_block;
 use crate::heads::{check_fields, check_head};
 use crate::known::Known;
-use crate::names::Names;
 use crate::special::{drops, is_drop, is_main};
 use crate::texts::is_built_in;
 use crate::types::kept;
 use std::alloc::Global;
 use vale_base::{Fail, LOCALS_LIMIT, Memory, Text};
+use vale_names::Names;
 use vale_syntax::{Fault, FieldDecl, Function, Head, Item, NameAt};
 
 /// Whether neither an earlier item nor a built-in has the name.

@@ -5,12 +5,11 @@ ghost use Rattle.vale_syntax.specs.declared.tree.NameAt.{NameAt};
 ghost use Rattle.vale_syntax.specs.View.{view_item};
 ghost use Rattle.vale_rules_spec.specs.Declarations.{is_struct_of, is_interface_of};
 ghost use Rattle.vale_rules_spec.specs.DeclRules.{is_kind};
-ghost use Rattle.vale_types.specs.Names.{has};
+ghost use Rattle.vale_names.specs.Names.{has};
 
-use crate::names::Names;
-use crate::reach::iso_names;
 use std::alloc::Global;
 use vale_base::Memory;
+use vale_names::{Names, iso_names};
 use vale_syntax::Item;
 
 /// The names of structs and interfaces, those of structs alone, and the names that reach a struct in the type of whose

@@ -5,8 +5,8 @@ ghost use Rattle.vale_rules_spec.specs.Declarations.{is_input, is_main, is_lawfu
 ghost use Rattle.vale_types.specs.Known.{Knows};
 
 use crate::known::Known;
-use crate::texts::is_called;
 use vale_base::Text;
+use vale_names::is_called;
 use vale_syntax::{Head, Item, NameAt, Param, TypeExpr};
 
 /// Whether `main` may take these parameters.

@@ -2,13 +2,14 @@
 ghost use Rattle.std.specs.Prelude.{◌≡◌, map, [], ◌∷◌};
 ghost use Rattle.vale_rules_spec.specs.Judged.{stopped, own};
 ghost use Rattle.vale_syntax.specs.View.{view_item, view_type};
-ghost use Rattle.vale_rules_spec.specs.Declarations.{is_object, is_isolates, has_iso, base_of, reaches_iso};
+ghost use Rattle.vale_rules_spec.specs.Declarations.{is_object, is_isolates, reaches_iso};
 ghost use Rattle.vale_rules_spec.specs.DeclRules.{may_hold_frozen, may_hold_isolates, array_rules, ref_rules, imm_ref_rules, iso_rules, named_rules};
 ghost use Rattle.vale_rules_spec.specs.DeclFaults.{type_faults};
 ghost use Rattle.vale_types.specs.Known.{Knows};
 
 use crate::known::Known;
 use vale_base::{Name, Spot};
+use vale_names::{base_of, has_iso};
 use vale_syntax::{Fault, Item, NameAt, Position, TypeExpr};
 
 /// The fault of this code, where the rule is broken.
@@ -55,31 +56,6 @@ fn may_hold_isolates(position: Position) -> bool
         Position::Field => false,
         Position::Value => true,
         Position::Element => true,
-    }
-}
-
-pub fn has_iso(ty: &TypeExpr) -> bool
-    ensures { result ≡ has_iso (view_type ty.now) }
-{
-    match ty {
-        TypeExpr::Int(_) | TypeExpr::Bool(_) | TypeExpr::Str(_) | TypeExpr::Named(_) => false,
-        TypeExpr::Array(_, inner) => has_iso(inner.get()),
-        TypeExpr::Ref(_, inner) => has_iso(inner.get()),
-        TypeExpr::ImmRef(_, inner) => has_iso(inner.get()),
-        TypeExpr::Iso(..) => true,
-    }
-}
-
-pub fn base_of(ty: &TypeExpr) -> Option<u32>
-    ensures { result ≡ base_of (view_type ty.now) }
-{
-    match ty {
-        TypeExpr::Int(_) | TypeExpr::Bool(_) | TypeExpr::Str(_) => None,
-        TypeExpr::Named(name) => Some(name.name.0),
-        TypeExpr::Array(_, inner) => base_of(inner.get()),
-        TypeExpr::Ref(_, inner) => base_of(inner.get()),
-        TypeExpr::ImmRef(_, inner) => base_of(inner.get()),
-        TypeExpr::Iso(_, inner) => base_of(inner.get()),
     }
 }
 

@@ -20,7 +20,7 @@ use Rattle.vale_rules_spec.specs.Typing.{Env, expr, in_form, in_else_if, in_bloc
 use Rattle.vale_syntax.specs.View.{listed, view_expr, view_form, view_block, view_else_if, elses_of, else_end}
 use Rattle.vale_rules_spec.proofs.JudgedLaws.{◌>>=◌, meets, first_leaf}
 use Rattle.vale_syntax.proofs.ViewLaws.{of_if}
-use Rattle.vale_typing.proofs.LoopLaws.{with_parts, no_parts, first_pair}
+use Rattle.vale_typed_parts.proofs.LoopLaws.{with_parts, no_parts, first_pair}
 use Rattle.vale_typing.proofs.NodeLaws.{third_left}
 
 one_more : (z : Result t.Elses Fault) (a : t.ElseIf) (xs : List t.ElseIf) → (with_parts t.more_elses xs z >>= λ b. Ok (t.more_elses a b)) ≡ with_parts t.more_elses (a ∷ xs) z

@@ -7,7 +7,7 @@ use Rattle.vale_base.specs.declared.fault.Fail.TheVariants.{Memory, Is}
 use Rattle.vale_syntax.specs.declared.fault.Fault.{Fault}
 use Rattle.vale_rules_spec.specs.Judged.{Judged, Rules, broken, first, both, scoped, plain, node, leaf, Gives}
 use Rattle.vale_rules_spec.proofs.JudgedLaws.{◌>>=◌, meets, first_leaf, first_node, first_both}
-use Rattle.vale_typing.proofs.LoopLaws.{after_passes}
+use Rattle.vale_typed_parts.proofs.LoopLaws.{after_passes}
 
 second : {A B C : Type 0} (r : Result B Fault) (a : A) (f : A × B → Result C Fault) → ((r >>= λ b. Ok (a, b)) >>= f) ≡ (r >>= λ b. f (a, b))
 second (Ok b) a f = refl

@@ -1,4 +1,4 @@
--- What is known of a block, of an `if` and of an operator, by their parts.
+-- The first fault of a block, of an `else if` and of an operator, by their parts.
 use Rattle.std.proofs.Common.{◌≡◌, ℕ, List, ap, ◌∙◌}
 use Rattle.std.specs.Prelude.{Ok, map, option_map, true}
 use Rattle.vale_syntax.specs.declared.tree.Block.{Block, out-Block}
@@ -16,11 +16,6 @@ use Rattle.vale_syntax.specs.View as v
 use Rattle.vale_syntax.specs.View.{listed}
 use Rattle.vale_rules_spec.proofs.JudgedLaws.{◌>>=◌, meets, first_node, first_plain}
 use Rattle.vale_syntax.proofs.PartLaws.{of_out_block, of_out_else_if, of_out_link}
-
-pub of_block_spot : (b : Block) → block_spot (v.view_block b) ≡ (out-Block b).at
-of_block_spot b = ap block_spot (of_out_block b)
-
--- ---- the first fault of a part, by what it has
 
 module _ (names : List (List ℕ)) (items : List Item) (env : Env) where
   -- a block that gives nothing is a block first

@@ -1,6 +1,5 @@
 -- The laws by which the walk is proved.
 use Rattle.vale_syntax.proofs.ViewLaws as v
-use Rattle.vale_core.proofs.ViewLaws as c
 use Rattle.vale_rules_spec.proofs.JudgedLaws.{first_own, first_node, first_plain, first_both, first_scoped}
 use Rattle.vale_typing.proofs.PartLaws.{first_void, in_link, in_else_if_parts, in_block_parts}
 
@@ -10,10 +9,6 @@ pub ruleset links = (first_own, first_node, first_plain, first_both, first_scope
 
 pub ruleset steps = (first_own, first_node, first_plain, first_both, first_scoped, v.of_field, v.of_method, v.of_index)
 
-pub ruleset forms = (v.of_if, v.of_pure, v.of_parallel_range, v.of_parallel_each)
-
 pub ruleset in_forms = (first_own, first_node, first_plain, first_both, first_scoped, v.of_if, v.of_pure, v.of_parallel_range, v.of_parallel_each, in_else_if_parts)
-
-pub ruleset typed_stmts = (c.of_declare, c.of_destructure, c.of_return_nothing, c.of_return_value, c.of_while, c.of_foreach, c.of_form_stmt, c.of_express)
 
 pub ruleset stmts = (first_own, first_node, first_plain, first_both, first_scoped, first_void, in_block_parts, v.of_declare, v.of_destructure, v.of_return, v.of_while, v.of_foreach, v.of_form_stmt, v.of_express)

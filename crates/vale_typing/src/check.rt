@@ -10,23 +10,24 @@ ghost use Rattle.vale_rules_spec.specs.Typing.{with_local, name_in};
 ghost use Rattle.vale_core.specs.Plain.{number_of};
 ghost use Rattle.vale_core.specs.View as c;
 ghost use Rattle.vale_core.specs.View.{view_ty, view_seen};
-ghost use Rattle.vale_type_rules.specs.Scope.{locals};
-ghost use Rattle.vale_type_rules.specs.Table.{names_of, items_of};
-ghost use Rattle.vale_typing.specs.Valued.{view_valued, view_inside};
-ghost use Rattle.vale_typing.specs.Walk.{env_at, view_exprs, view_links, view_steps, view_elses, view_else, view_last};
+ghost use Rattle.vale_seen.specs.Scope.{locals};
+ghost use Rattle.vale_lookup.specs.Table.{names_of, items_of};
+ghost use Rattle.vale_typed_parts.specs.Valued.{view_valued, view_inside};
+ghost use Rattle.vale_typed_parts.specs.Walk.{env_at, view_exprs, view_links, view_steps, view_elses, view_else, view_last};
 
-use crate::names::{element_of, is_used, is_value_under, new_name, new_names};
-use crate::nodes;
-use crate::lists::{TypedLinks, TypedSteps, TypedStmts};
-use crate::valued::{Inside, Valued};
 use sqlite_items::{Boxed, Items};
 use std::alloc::Global;
 use vale_base::{Fail, Name, Spot};
 use vale_core as typed;
 use vale_core::{Seen, Ty};
 use vale_held::Held;
+use vale_lookup::Table;
+use vale_seen::{Local, Scope, deeper, index_view, name_in, seen_of};
 use vale_syntax::{Block, ElseIf, Expr, Fault, Form, Link, NameAt, Step, Stmt};
-use vale_type_rules::{Local, Scope, Table, deeper, index_view, name_in, seen_of};
+use vale_typed_parts::{
+    Inside, TypedLinks, TypedSteps, TypedStmts, Valued, element_of, is_used, is_value_under,
+    new_name, new_names,
+};
 
 #[cycle(check)]
 #[tactic(auto, using(crate::proofs::Rules::exprs))]
@@ -45,17 +46,17 @@ fn type_expr(
         Expr::Set(at, place, value) => {
             let place = type_expr(alloc, table, place.get(), gives, depth, scope, false)?;
             let value = type_expr(alloc, table, value.get(), gives, depth, scope, true)?;
-            nodes::set(alloc, table, *at, place, value)
+            vale_typed_exprs::set(alloc, table, *at, place, value)
         }
         Expr::Chain(first, links) => {
             let first = type_expr(alloc, table, first.get(), gives, depth, scope, true)?;
             let links = type_links(alloc, table, links, gives, depth, scope, first.get())?;
-            nodes::chain(alloc, first, links)
+            vale_typed_exprs::chain(alloc, first, links)
         }
         Expr::Unary(at, op, operand) => {
             let as_value = is_value_under(*op);
             let operand = type_expr(alloc, table, operand.get(), gives, depth, scope, as_value)?;
-            nodes::unary(alloc, *at, *op, operand)
+            vale_typed_exprs::unary(alloc, *at, *op, operand)
         }
         Expr::Steps(base, steps) => {
             let first = type_expr(alloc, table, base.get(), gives, depth, scope, false)?;
@@ -71,31 +72,31 @@ fn type_expr(
                 base,
                 first.get(),
             )?;
-            nodes::steps(alloc, first, steps)
+            vale_typed_exprs::steps(alloc, first, steps)
         }
-        Expr::Number(at, value) => nodes::number(alloc, *at, *value),
-        Expr::Quote(at, text) => nodes::quote(alloc, *at, text),
-        Expr::Truth(at, value) => nodes::truth(alloc, *at, *value),
-        Expr::Name(name) => nodes::name(alloc, gives, depth, scope, as_value, *name),
+        Expr::Number(at, value) => vale_typed_exprs::number(alloc, *at, *value),
+        Expr::Quote(at, text) => vale_typed_exprs::quote(alloc, *at, text),
+        Expr::Truth(at, value) => vale_typed_exprs::truth(alloc, *at, *value),
+        Expr::Name(name) => vale_typed_exprs::name(alloc, gives, depth, scope, as_value, *name),
         Expr::Call(name, args) => {
             let args = type_exprs(alloc, table, args.as_slice(), gives, depth, scope)?;
-            nodes::call(alloc, table, *name, args)
+            vale_typed_exprs::call(alloc, table, *name, args)
         }
         Expr::Paren(at, inner) => {
             let inner = type_expr(alloc, table, inner.get(), gives, depth, scope, true)?;
-            nodes::paren(alloc, *at, inner)
+            vale_typed_exprs::paren(alloc, *at, inner)
         }
         Expr::Array(at, element, args) => {
             let args = type_exprs(alloc, table, args.as_slice(), gives, depth, scope)?;
-            nodes::array(alloc, table, *at, element, args)
+            vale_typed_exprs::array(alloc, table, *at, element, args)
         }
         Expr::Iso(at, block) => {
             let block = type_block(alloc, table, block, gives, deeper(depth)?, scope)?;
-            nodes::iso(alloc, table, *at, block)
+            vale_typed_exprs::iso(alloc, table, *at, block)
         }
         Expr::Form(form) => {
             let form = type_form(alloc, table, form.get(), gives, depth, scope)?;
-            nodes::form(alloc, form)
+            vale_typed_exprs::form(alloc, form)
         }
     }
 }
@@ -134,7 +135,7 @@ fn type_link(
     ensures { Gives c.view_link result (first (d.operand (names_of table.now) (items_of table.now) (env_at (view_ty gives.now) depth (locals scope.now)) (view_seen before.now) (view_link link.now))) }
 {
     let operand = type_expr(alloc, table, &link.operand, gives, depth, scope, true)?;
-    nodes::operand(alloc, before, link.at, link.op, operand)
+    vale_typed_exprs::operand(alloc, before, link.at, link.op, operand)
 }
 
 #[cycle(check)]
@@ -175,15 +176,15 @@ fn type_step(
     ensures { Gives c.view_step result (first (d.step (names_of table.now) (items_of table.now) (env_at (view_ty gives.now) depth (locals scope.now)) as_value (number_of local) (view_seen base.now) (view_step step.now))) }
 {
     match step {
-        Step::Field(at, name) => nodes::field(alloc, table, as_value, base, *at, *name),
+        Step::Field(at, name) => vale_typed_exprs::field(alloc, table, as_value, base, *at, *name),
         Step::Method(at, name, args) => {
             let args = type_exprs(alloc, table, args.as_slice(), gives, depth, scope)?;
-            nodes::method(alloc, table, base, *at, *name, args)
+            vale_typed_exprs::method(alloc, table, base, *at, *name, args)
         }
         Step::Index(at, index) => {
             let view = Held::new(index_view(alloc, local, &base.view, index)?);
             let index = type_expr(alloc, table, index, gives, depth, scope, true)?;
-            nodes::index(alloc, as_value, base, view, *at, index)
+            vale_typed_exprs::index(alloc, as_value, base, view, *at, index)
         }
     }
 }
@@ -236,11 +237,11 @@ fn type_form(
             let block = type_block(alloc, table, block, gives, depth, scope)?;
             let else_ifs = type_else_ifs(alloc, table, else_ifs.as_slice(), gives, depth, scope)?;
             let otherwise = type_else(alloc, table, otherwise, gives, depth, scope)?;
-            nodes::branch(alloc, *at, condition, block, else_ifs, otherwise)
+            vale_typed_stmts::branch(alloc, *at, condition, block, else_ifs, otherwise)
         }
         Form::Pure(at, block) => {
             let block = type_block(alloc, table, block, gives, deeper(depth)?, scope)?;
-            nodes::pure(alloc, *at, block)
+            vale_typed_stmts::pure(alloc, *at, block)
         }
         Form::ParallelRange(at, name, from, to, block) => {
             new_name(scope, *name)?;
@@ -248,16 +249,16 @@ fn type_form(
             let to = type_expr(alloc, table, to, gives, depth, scope, true)?;
             let depth = deeper(depth)?;
             let block = type_loop(alloc, table, block, gives, depth, scope, *name, Ty::Int)?;
-            nodes::parallel_range(alloc, table, *at, *name, from, to, block)
+            vale_typed_stmts::parallel_range(alloc, table, *at, *name, from, to, block)
         }
         Form::ParallelEach(at, name, over, block) => {
             new_name(scope, *name)?;
             let over = type_expr(alloc, table, over, gives, depth, scope, true)?;
-            let over = nodes::consumed(*at, over)?;
+            let over = vale_typed_stmts::consumed(*at, over)?;
             let depth = deeper(depth)?;
             let ty = element_of(alloc, over.get())?;
             let block = type_loop(alloc, table, block, gives, depth, scope, *name, ty)?;
-            nodes::parallel_each(alloc, table, *at, *name, over, block)
+            vale_typed_stmts::parallel_each(alloc, table, *at, *name, over, block)
         }
     }
 }
@@ -299,7 +300,7 @@ fn type_else_if(
 {
     let condition = type_expr(alloc, table, &else_if.condition, gives, depth, scope, true)?;
     let block = type_block(alloc, table, &else_if.block, gives, depth, scope)?;
-    nodes::else_if(else_if.at, condition, block)
+    vale_typed_stmts::else_if(else_if.at, condition, block)
 }
 
 #[cycle(check)]
@@ -356,7 +357,7 @@ fn type_block(
     ensures { Gives c.view_block result (first (d.in_block (names_of table.now) (items_of table.now) (env_at (view_ty gives.now) depth (locals scope.now)) (view_block block.now))) }
 {
     let inside = type_stmts(alloc, table, block, gives, depth, scope)?;
-    nodes::block(alloc, block.at, block.end, inside)
+    vale_typed_stmts::block(alloc, block.at, block.end, inside)
 }
 
 // The block of a function or a `while`.
@@ -373,7 +374,7 @@ pub fn type_void_block(
     ensures { Gives c.view_block result (first (d.void_block (names_of table.now) (items_of table.now) (env_at (view_ty gives.now) depth (locals scope.now)) (view_block block.now))) }
 {
     let body = type_block(alloc, table, block, gives, depth, scope)?;
-    nodes::void_block(block, body)
+    vale_typed_stmts::void_block(block, body)
 }
 
 // The block of a `foreach`, inside which there is the loop's name.
@@ -392,7 +393,7 @@ fn type_void_loop(
     ensures { Gives c.view_block result (first (d.void_block (names_of table.now) (items_of table.now) (with_local name (view_ty ty) (env_at (view_ty gives.now) depth (locals scope.now))) (view_block block.now))) }
 {
     let body = type_loop(alloc, table, block, gives, depth, scope, name, ty)?;
-    nodes::void_block(block, body)
+    vale_typed_stmts::void_block(block, body)
 }
 
 #[cycle(check)]
@@ -458,7 +459,7 @@ fn type_stmt(
     match stmt {
         Stmt::Declare(name, value) => {
             let value = type_expr(alloc, table, value, gives, depth, scope, true)?;
-            nodes::declare(alloc, scope, *name, value)
+            vale_typed_stmts::declare(alloc, scope, *name, value)
         }
         Stmt::Destructure(at, names, value) => {
             let names = names.as_slice();
@@ -468,22 +469,22 @@ fn type_stmt(
         Stmt::While(at, condition, block) => {
             let condition = type_expr(alloc, table, condition, gives, depth, scope, true)?;
             let body = type_void_block(alloc, table, block, gives, depth, scope)?;
-            nodes::while_loop(*at, condition, body)
+            vale_typed_stmts::while_loop(*at, condition, body)
         }
         Stmt::Foreach(at, name, from, to, block) => {
             new_name(scope, *name)?;
             let from = type_expr(alloc, table, from, gives, depth, scope, true)?;
             let to = type_expr(alloc, table, to, gives, depth, scope, true)?;
             let body = type_void_loop(alloc, table, block, gives, depth, scope, *name, Ty::Int)?;
-            nodes::foreach(*at, *name, from, to, body)
+            vale_typed_stmts::foreach(*at, *name, from, to, body)
         }
         Stmt::Form(form) => {
             let valued = type_form(alloc, table, form, gives, depth, scope)?;
-            nodes::form_stmt(form, valued)
+            vale_typed_stmts::form_stmt(form, valued)
         }
         Stmt::Express(value) => {
             let value = type_expr(alloc, table, value, gives, depth, scope, true)?;
-            nodes::express(value)
+            vale_typed_stmts::express(value)
         }
     }
 }
@@ -504,7 +505,7 @@ fn type_destructure(
 {
     let names = new_names(alloc, depth, scope, names)?;
     let value = type_expr(alloc, table, value, gives, depth, scope, true)?;
-    nodes::destructure(alloc, table, at, names, value)
+    vale_typed_stmts::destructure(alloc, table, at, names, value)
 }
 
 #[cycle(check)]
@@ -523,8 +524,8 @@ fn type_return(
     match value {
         Some(value) => {
             let value = type_expr(alloc, table, value.get(), gives, depth, scope, true)?;
-            nodes::return_value(alloc, table, gives, at, value)
+            vale_typed_stmts::return_value(alloc, table, gives, at, value)
         }
-        None => nodes::return_nothing(gives, at),
+        None => vale_typed_stmts::return_nothing(gives, at),
     }
 }

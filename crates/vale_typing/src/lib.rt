@@ -2,11 +2,6 @@
 #![tactic(auto)]
 
 mod check;
-mod copies;
-mod names;
-mod nodes;
-mod lists;
-mod valued;
 mod typing;
 
 pub use typing::{TypeFault, type_all};

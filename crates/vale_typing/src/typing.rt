@@ -12,12 +12,11 @@ ghost use Rattle.vale_syntax.specs.View.{view_param, view_head, view_function, v
 ghost use Rattle.vale_syntax.specs.declared.fault.Fault.{Fault};
 ghost use Rattle.vale_core.specs.View as c;
 ghost use Rattle.vale_types.specs.Plain.{HasNoInterface};
-ghost use Rattle.vale_type_rules.specs.Scope.{framed};
-ghost use Rattle.vale_type_rules.specs.Table.{names_of, items_of};
-ghost use Rattle.vale_typing.specs.Walk.{env_at};
+ghost use Rattle.vale_seen.specs.Scope.{framed};
+ghost use Rattle.vale_lookup.specs.Table.{names_of, items_of};
+ghost use Rattle.vale_typed_parts.specs.Walk.{env_at};
 
 use crate::check::type_void_block;
-use crate::copies::{copy_fields, copy_head, copy_heads};
 use sqlite_items::Items;
 use std::alloc::Global;
 use vale_base::{Fail, Memory};
@@ -25,9 +24,11 @@ use vale_core::{
     Block as TypedBlock, Core, Function as TypedFunction, Item as TypedItem, block_returns,
 };
 use vale_held::Held;
+use vale_lookup::Table;
+use vale_seen::{Local, Scope, result_of, type_of};
 use vale_syntax::{Decls, Fault, Function, Head, Item, Param, Tree};
 use vale_type_faults::function_fault;
-use vale_type_rules::{Local, Scope, Table, result_of, type_of};
+use vale_typed_parts::{copy_fields, copy_head, copy_heads};
 
 /// The locals that the parameters of a function are.
 fn params_in(alloc: Global, params: &[Param]) -> Result<Vec<Local>, Memory>

@@ -1,7 +1,7 @@
 use Rattle.std.proofs.Common.{◌≡◌, map, drop}
 use Rattle.vale_rules_spec.specs.TypeRules.{all_fit}
 use Rattle.vale_core.specs.View.{view_ty}
-use Rattle.vale_type_rules.specs.Table.{items_of}
+use Rattle.vale_lookup.specs.Table.{items_of}
 use Rattle.vale_type_rules.proofs.fitting.all_fit.Given as goal
 
 -- those that are left give what all of them give

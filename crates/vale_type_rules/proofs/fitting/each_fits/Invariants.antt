@@ -2,7 +2,7 @@ use Rattle.std.proofs.Common.{◌≡◌, map, drop}
 use Rattle.std.specs.List.{list_all}
 use Rattle.vale_rules_spec.specs.Types.{fits}
 use Rattle.vale_core.specs.View.{view_ty}
-use Rattle.vale_type_rules.specs.Table.{items_of}
+use Rattle.vale_lookup.specs.Table.{items_of}
 use Rattle.vale_type_rules.proofs.fitting.each_fits.Given as goal
 
 -- those that are left give what all of them give

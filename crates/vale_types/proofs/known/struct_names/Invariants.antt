@@ -4,7 +4,7 @@ use Rattle.std.specs.List.{list_any}
 use Rattle.vale_syntax.specs.declared.tree.NameAt.{NameAt}
 use Rattle.vale_syntax.specs.View.{view_item}
 use Rattle.vale_rules_spec.specs.Declarations.{is_struct_of}
-use Rattle.vale_types.specs.Names.{has}
+use Rattle.vale_names.specs.Names.{has}
 use Rattle.vale_types.proofs.known.struct_names.Given as goal
 
 -- with those of the items that are left they are those of all

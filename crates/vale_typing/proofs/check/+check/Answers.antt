@@ -19,19 +19,19 @@ use Rattle.vale_rules_spec.proofs.JudgedLaws.{◌>>=◌}
 use Rattle.vale_core.specs.Plain.{number_of}
 use Rattle.vale_core.specs.View as core
 use Rattle.vale_core.specs.View.{view_ty, view_seen}
-use Rattle.vale_type_rules.specs.Scope.{locals, framed}
-use Rattle.vale_type_rules.specs.Table.{names_of, items_of}
-use Rattle.vale_typing.specs.Walk.{env_at, view_links, view_steps, view_elses, view_else}
-use Rattle.vale_typing.proofs.LoopLaws.{pair_passes, after_passes, seen_passes}
+use Rattle.vale_seen.specs.Scope.{locals, framed}
+use Rattle.vale_lookup.specs.Table.{names_of, items_of}
+use Rattle.vale_typed_parts.specs.Walk.{env_at, view_links, view_steps, view_elses, view_else}
+use Rattle.vale_typed_parts.proofs.LoopLaws.{pair_passes, after_passes, seen_passes}
 use Rattle.vale_typing.proofs.NodeLaws.{second_fails, after_fails, second_ends, fourth_fails, fourth_ends}
 use Rattle.vale_syntax.specs.declared.tree.ElseIf.{ElseIf}
 use Rattle.vale_syntax.specs.declared.tree.Block.{out-Block}
 use Rattle.vale_syntax.specs.declared.tree.Stmt.{Stmt}
 use Rattle.std.specs.Option.{option_map_or}
-use Rattle.vale_typing.proofs.NameLaws.{new_names_same}
+use Rattle.vale_typed_parts.proofs.NameLaws.{new_names_same}
 use Rattle.vale_rules_spec.specs.Types as y
 use Rattle.vale_core.proofs.ViewLaws.{of_int}
-use Rattle.vale_typing.specs.Valued.{view_valued}
+use Rattle.vale_typed_parts.specs.Valued.{view_valued}
 use Rattle.vale_typing.proofs.IfLaws.{else_ifs_fail, end_fails, if_ends}
 use Rattle.vale_typing.proofs.check.+check.Goals as goal
 

@@ -10,10 +10,10 @@ use Rattle.vale_rules_spec.specs.Typing.{name_in}
 use Rattle.vale_core.specs.Plain.{number_of}
 use Rattle.vale_core.specs.View as c
 use Rattle.vale_core.specs.View.{view_ty, view_seen}
-use Rattle.vale_type_rules.specs.Scope.{framed, locals}
-use Rattle.vale_type_rules.specs.Table.{names_of, items_of}
-use Rattle.vale_typing.specs.Walk.{env_at}
-use Rattle.vale_typing.proofs.LoopLaws.{with_parts}
+use Rattle.vale_seen.specs.Scope.{framed, locals}
+use Rattle.vale_lookup.specs.Table.{names_of, items_of}
+use Rattle.vale_typed_parts.specs.Walk.{env_at}
+use Rattle.vale_typed_parts.proofs.LoopLaws.{with_parts}
 use Rattle.vale_typing.proofs.check.+check.Given as goal
 
 -- what is done, with what the parts that are left give, is what the whole list gives

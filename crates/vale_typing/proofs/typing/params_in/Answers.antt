@@ -1,6 +1,6 @@
 use Rattle.std.proofs.Common.{arith}
 use Rattle.std.proofs.lemmas.Grind.{common_steps}
-use Rattle.vale_typing.proofs.FrameLaws.{framed_more}
+use Rattle.vale_typed_parts.proofs.FrameLaws.{framed_more}
 use Rattle.vale_typing.proofs.typing.params_in.Goals as goal
 
 pub loop-param-preserved : goal.loop-param-preserved

@@ -2,8 +2,8 @@ use Rattle.std.proofs.Common.{◌≡◌, [], drop, map}
 use Rattle.vale_rules_spec.specs.Types as y
 use Rattle.vale_rules_spec.specs.Typing.{with_params}
 use Rattle.vale_syntax.specs.View.{view_param}
-use Rattle.vale_type_rules.specs.Scope.{framed}
-use Rattle.vale_typing.specs.Walk.{env_at}
+use Rattle.vale_seen.specs.Scope.{framed}
+use Rattle.vale_typed_parts.specs.Walk.{env_at}
 use Rattle.vale_typing.proofs.typing.params_in.Given as goal
 
 -- the parameters that are left add to what is there what all of them are

@@ -7,8 +7,8 @@ use Rattle.vale_rules_spec.specs.Typed as t
 use Rattle.vale_rules_spec.specs.Typing.{in_item, in_items}
 use Rattle.vale_syntax.specs.View.{view_item}
 use Rattle.vale_core.specs.View as core
-use Rattle.vale_type_rules.specs.Table.{names_of, items_of}
-use Rattle.vale_typing.proofs.LoopLaws.{pair_passes, seen_passes, parts_end, listed_all}
+use Rattle.vale_lookup.specs.Table.{names_of, items_of}
+use Rattle.vale_typed_parts.proofs.LoopLaws.{pair_passes, seen_passes, parts_end, listed_all}
 use Rattle.vale_typing.proofs.typing.type_items.Goals as goal
 
 pub loop-item-preserved : goal.loop-item-preserved

@@ -1,0 +1,10 @@
+use Rattle.std.proofs.Common.{◌≡◌, ℕ, map, drop}
+use Rattle.vale_syntax.specs.View.{view_field}
+use Rattle.std.specs.Option.{option_or}
+use Rattle.vale_lookup.specs.Places.{place_in, place_from}
+use Rattle.vale_lookup.specs.Index.{field_key}
+use Rattle.vale_lookup.proofs.index.field_places.Given as goal
+
+-- the places so far, and after them those of what is left, are those of all
+abbrev pub invariant-loop-at : goal.invariant-loop-at
+invariant-loop-at l = (n : ℕ) → option_or (place_in l.places n) (place_from l.at (map field_key (map view_field (drop l.at l.fields))) n) ≡ place_from 0 (map field_key (map view_field l.fields)) n

@@ -1,4 +1,0 @@
-pub mod IndexLaws
-pub mod PartLaws
-pub mod TakeLaws
-pub mod TyLaws

@@ -1,5 +1,0 @@
-use Rattle.std.proofs.Common.{length}
-use Rattle.vale_type_rules.proofs.scope.+local_in.Given as goal
-
-abbrev pub decreases-local_in : goal.decreases-local_in
-decreases-local_in l = length l.locals.now

@@ -1,0 +1,4 @@
+pub mod FrameLaws
+pub mod LoopLaws
+pub mod NameLaws
+pub mod Rules
