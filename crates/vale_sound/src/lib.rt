@@ -5,6 +5,6 @@
 mod laws;
 
 pub use laws::{
-    accepted_programs_run, served_programs_are_covered, well_formed_programs_run,
-    well_formed_programs_are_well_typed,
+    accepted_programs_run, served_programs_are_covered, well_formed_programs_are_well_typed,
+    well_formed_programs_run,
 };
