@@ -18,8 +18,7 @@ use crate::labels::Labels;
 use crate::slots::{Slots, is_local};
 use std::alloc::Global;
 use vale_base::Memory;
-use vale_core::{Block, Expr, Node, Ty};
-use vale_core::block_returns;
+use vale_core::{Block, Expr, Node, Ty, block_returns};
 use vale_syntax::UnaryOp;
 
 // Whether what is set is a local.

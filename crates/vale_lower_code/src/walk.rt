@@ -14,8 +14,8 @@ use vale_base::Memory;
 use vale_code::Instr;
 use vale_core::{Block, ElseIf, Expr, Form, Link, Node, Stmt};
 use vale_lower_expr::{
-    Around, CodeBuffer, Frame, Local, Scope, above, agree, is_set, put_callee, put_local, put_number,
-    put_operator, put_quote, put_set, put_set_only, put_truth, put_unary,
+    Around, CodeBuffer, Frame, Local, Scope, above, agree, is_set, put_callee, put_local,
+    put_number, put_operator, put_quote, put_set, put_set_only, put_truth, put_unary,
 };
 use vale_syntax::BinaryOp;
 
@@ -123,7 +123,9 @@ fn emit_node(
         Node::Number(_, number) => put_number(buffer, gives, *number, h),
         Node::Quote(_, text) => put_quote(buffer, around.texts, gives, text, h),
         Node::Truth(_, truth) => put_truth(buffer, gives, *truth, h),
-        Node::Name { name, is_moved, .. } => put_local(buffer, scope, gives, *is_moved, name.name, h),
+        Node::Name { name, is_moved, .. } => put_local(
+            buffer, scope, gives, *is_moved, name.name, h,
+        ),
         Node::Paren(_, inner) => {
             if !agree(gives, inner.get().seen.value.is_copy()) {
                 return buffer.put_stuck(h);
@@ -154,16 +156,7 @@ fn emit_node(
         Node::Call(name, callee, args) => {
             let args = args.as_slice();
             emit_args(alloc, args, h, scope, around, buffer)?;
-            put_callee(
-                alloc,
-                buffer,
-                around,
-                gives,
-                *name,
-                *callee,
-                args.len(),
-                h,
-            )
+            put_callee(alloc, buffer, around, gives, *name, *callee, args.len(), h)
         }
         Node::Form(form) => emit_form(alloc, form.get(), gives, h, scope, around, buffer),
         Node::Steps(..) | Node::Array(..) | Node::Iso(..) => buffer.put_stuck(h),
@@ -264,9 +257,7 @@ fn emit_form(
             let test = buffer.hold()?;
             emit_block(alloc, block, gives, h, next, scope, around, buffer)?;
             buffer.end_side(test, h, &mut ends)?;
-            emit_else_ifs(
-                alloc, else_ifs, gives, h, scope, around, buffer, &mut ends,
-            )?;
+            emit_else_ifs(alloc, else_ifs, gives, h, scope, around, buffer, &mut ends)?;
             emit_else(alloc, otherwise, gives, h, scope, around, buffer)?;
             buffer.end_sides(&ends)
         }
@@ -292,16 +283,7 @@ fn emit_else_if(
     let next = above(h)?;
     emit_value(alloc, &else_if.condition, h, scope, around, buffer)?;
     let test = buffer.hold()?;
-    emit_block(
-        alloc,
-        &else_if.block,
-        gives,
-        h,
-        next,
-        scope,
-        around,
-        buffer,
-    )?;
+    emit_block(alloc, &else_if.block, gives, h, next, scope, around, buffer)?;
     buffer.end_side(test, h, ends)
 }
 

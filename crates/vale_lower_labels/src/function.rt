@@ -17,11 +17,10 @@ use std::alloc::Global;
 use vale_base::Memory;
 use vale_cert::{FuncFacts, Label};
 use vale_code::{Sequence, Ty as CodeTy};
-use vale_core::{Block, Function};
-use vale_core::block_returns;
+use vale_core::{Block, Function, block_returns};
 use vale_label_steps::{Frame, Labels, Slots, above};
-use vale_syntax::{Param, TypeExpr};
 use vale_seen::type_of;
+use vale_syntax::{Param, TypeExpr};
 
 // The code's type of what a function with this result gives, where it gives a value.
 fn value_type(ty: &Option<TypeExpr>) -> Option<CodeTy>

@@ -12,8 +12,7 @@ ghost use Rattle.vale_rules_spec.specs.Returns.{stmt_returns};
 use sqlite_items::{Boxed, Items};
 use std::alloc::Global;
 use vale_base::{Memory, Name};
-use vale_core::{Block, ElseIf, Expr, Form, Link, Node, Stmt, Ty};
-use vale_core::{expr_returns, stmt_returns};
+use vale_core::{Block, ElseIf, Expr, Form, Link, Node, Stmt, Ty, expr_returns, stmt_returns};
 use vale_label_steps::{
     Frame, Labels, Local, Slots, above, begin_count, begin_loop, end_count, end_loop, end_side,
     is_set, put_held, put_return, put_set, put_unary,

@@ -1,10 +1,9 @@
-//! What the phases that refuse promise to those that compile: the types of a program that is accepted fit, all of it is
-//! lowered, and so its code does what it means.
+//! What the phases that refuse promise to those that compile: the types of a program that is accepted fit, and so
+//! its code does what it means.
 #![tactic(auto)]
 
 mod laws;
 
 pub use laws::{
-    accepted_programs_run, served_programs_are_served, well_formed_programs_run,
-    well_formed_programs_are_well_typed,
+    accepted_programs_run, well_formed_programs_are_well_typed, well_formed_programs_run,
 };
