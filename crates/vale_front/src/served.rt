@@ -241,10 +241,10 @@ fn params_are_served(params: &[Param]) -> bool
     true
 }
 
-fn result_is_served(result: &Option<TypeExpr>) -> bool
-    ensures { result ≡ s.type_is_served (result_of (option_map view_type result.now)) }
+fn result_is_served(gives: &Option<TypeExpr>) -> bool
+    ensures { result ≡ s.type_is_served (result_of (option_map view_type gives.now)) }
 {
-    match result {
+    match gives {
         None => true,
         Some(ty) => matches!(ty, TypeExpr::Int(_) | TypeExpr::Bool(_) | TypeExpr::Str(_)),
     }

@@ -1,0 +1,4 @@
+pub mod TypeLaws
+pub mod InstrLaws
+pub mod FileLaws
+pub mod WholeLaws
