@@ -1,12 +1,12 @@
 //! From a program's text to its typed tree, or to why it is refused.
 #![tactic(auto)]
 
+mod frontend;
 mod judging;
 mod missing;
 mod reading;
 mod refusal;
-mod frontend;
 
+pub use frontend::front;
 pub use reading::read;
 pub use refusal::Refusal;
-pub use frontend::front;

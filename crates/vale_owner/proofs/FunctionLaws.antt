@@ -19,10 +19,10 @@ use Rattle.vale_core.proofs.PartLaws.{of_out_block}
 use Rattle.vale_rules_spec.specs.Whole.{Locals}
 use Rattle.vale_rules_spec.specs.Owned.{function_flow, function_faults, method_faults, are_taken_apart}
 use Rattle.vale_owner.specs.After.{after_stmts}
-use Rattle.vale_owner.specs.declared.flow_state.FlowState.{FlowState}
-use Rattle.vale_owner.specs.FlowView.{FlowView, found, nothing, declaring, judged}
+use Rattle.vale_owner_flow.specs.declared.flow_state.FlowState.{FlowState}
+use Rattle.vale_owner_flow.specs.FlowView.{FlowView, found, nothing, declaring, judged}
 use Rattle.vale_owner.specs.Functions.{declaring_params, at_end, body_faults, is_taken_apart, answer}
-use Rattle.vale_owner.proofs.FoundLaws.{first_append}
+use Rattle.vale_owner_flow.proofs.FoundLaws.{first_append}
 use Rattle.vale_owner.proofs.WalkLaws.{stmts_by_parts}
 
 pub no_params : (f : FlowView) → declaring_params [] f ≡ f

@@ -22,10 +22,10 @@ use Rattle.vale_core.proofs.PartLaws.{of_out_expr, of_out_link, of_out_block, of
 use Rattle.vale_rules_spec.specs.Owned.{◌then◌, expr_flow, exprs_flow, links_flow, step_flow, steps_flow, elses_flow, block_flow, body_flow, stmts_flow, stmt_flow, add_branch, agree, behind, loop_rules}
 use Rattle.vale_rules_spec.specs.Returns.{block_returns}
 use Rattle.vale_rules_spec.specs.Whole.{Locals, are_alike}
-use Rattle.vale_owner.specs.FlowView.{FlowView, earlier, going, naming, judged, told, with_first, back_to, closed, declaring, declaring_all, loop_ended, Kept, no_branches, with_branch, with_branches, Sided, sided, branch_ended, or_else}
-use Rattle.vale_owner.specs.After.{after_expr, after_node, after_exprs, after_link, after_links, after_step, after_steps, after_form, after_block, after_body, after_stmts, after_stmt, after_set, after_iteration, after_side, branches_of_side, after_else_if, branches_of_else_if, after_else_ifs, branches_of_else_ifs, after_sides, may_skip, link_flow}
-use Rattle.vale_owner.proofs.FoundLaws.{made, in_turn, earlier_none, going_still, going_then, all_branches, branches_behind, one_way}
-use Rattle.vale_owner.proofs.LocalLaws.{alike_itself}
+use Rattle.vale_owner_flow.specs.FlowView.{FlowView, earlier, going, naming, judged, told, with_first, back_to, closed, declaring, declaring_all, loop_ended, Kept, no_branches, with_branch, with_branches, Sided, sided, branch_ended, or_else, may_skip}
+use Rattle.vale_owner.specs.After.{after_expr, after_node, after_exprs, after_link, after_links, after_step, after_steps, after_form, after_block, after_body, after_stmts, after_stmt, after_set, after_iteration, after_side, branches_of_side, after_else_if, branches_of_else_if, after_else_ifs, branches_of_else_ifs, after_sides, link_flow}
+use Rattle.vale_owner_flow.proofs.FoundLaws.{made, in_turn, earlier_none, going_still, going_then, all_branches, branches_behind, one_way}
+use Rattle.vale_owner_flow.proofs.LocalLaws.{alike_itself}
 
 abbrev sides_made : Option Fault → Kept → Sided
 sides_made first branches = record { first = first; branches = branches }
@@ -67,7 +67,7 @@ module _ (f : FlowView) where
 
   pub at_name : (n : NameAt) (is_outer is_moved : Bool) → after_node (t.name n is_outer is_moved) f ≡ naming n is_moved f
   unfolding after_node naming
-  at_name n is_moved = refl
+  at_name n is_outer is_moved = refl
 
   pub at_call : (n : NameAt) (g : t.Callee) (es : t.Exprs) → after_node (t.call n g es) f ≡ after_exprs es f
   unfolding after_node after_exprs

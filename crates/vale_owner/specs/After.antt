@@ -1,14 +1,12 @@
 -- What is found after each part of a body, by its flow.
 use Rattle.std.specs.Prelude.{Bool, true, false, List, [], ◌∷◌, None}
-use Rattle.vale_syntax.specs.declared.tree.BinaryOp.{BinaryOp}
-use Rattle.vale_syntax.specs.declared.tree.BinaryOp.TheVariants.{Or, And}
 use Rattle.vale_syntax.specs.declared.tree.NameAt.{NameAt}
 use Rattle.vale_rules_spec.specs.Judged.{first_of}
 use Rattle.vale_rules_spec.specs.Typed.{Expr, Node, Exprs, Link, link, Links, Step, Steps, Form, ElseIf, else_if, Elses, Block, Stmt, Stmts}
 use Rattle.vale_rules_spec.specs.Owned.{Flow, with_rules, link_rules, expr_flow, node_flow, exprs_flow, links_flow, step_flow, steps_flow, form_flow, elses_flow, block_flow, body_flow, stmts_flow, stmt_flow}
 use Rattle.vale_rules_spec.specs.Returns.{block_returns}
 use Rattle.vale_rules_spec.specs.Whole.{Locals}
-use Rattle.vale_owner.specs.FlowView.{FlowView, going, earlier, told, with_first, back_to, Kept, with_branch, with_branches, Sided}
+use Rattle.vale_owner_flow.specs.FlowView.{FlowView, going, earlier, told, with_first, back_to, Kept, with_branch, with_branches, Sided}
 
 unfoldable pub after_expr : Expr → FlowView → FlowView
 after_expr e = going (expr_flow e)
@@ -18,12 +16,6 @@ after_node node = going (node_flow node)
 
 unfoldable pub after_exprs : Exprs → FlowView → FlowView
 after_exprs es = going (exprs_flow es)
-
--- whether the operand after it may be left out
-abbrev pub may_skip : BinaryOp → Bool
-may_skip Or = true
-may_skip And = true
-may_skip _ = false
 
 abbrev pub link_flow : Link → Locals → Flow
 link_flow (link x at op e) ls = with_rules at (link_rules op ls (expr_flow e ls).after) (expr_flow e ls)

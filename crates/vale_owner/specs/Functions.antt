@@ -7,7 +7,7 @@ use Rattle.vale_syntax.specs.Tree.{Param}
 use Rattle.vale_rules_spec.specs.Typed.{Block, Function, function_body}
 use Rattle.vale_rules_spec.specs.Owned.{function_flow, block_moves}
 use Rattle.vale_rules_spec.specs.Whole.{Locals, params_declared, is_whole}
-use Rattle.vale_owner.specs.FlowView.{FlowView}
+use Rattle.vale_owner_flow.specs.FlowView.{FlowView}
 
 unfoldable pub declaring_params : List Param → FlowView → FlowView
 declaring_params ps f = record { first = f.first; locals = params_declared ps f.locals }

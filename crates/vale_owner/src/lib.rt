@@ -2,11 +2,8 @@
 //! (docs/LANGUAGE.md, "Ownership").
 #![tactic(auto)]
 
-mod locals;
 mod moves;
-mod flow_state;
-mod walk;
-mod branches;
 mod ownership;
+mod walk;
 
 pub use ownership::{OwnFault, own};

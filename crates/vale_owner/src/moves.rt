@@ -22,18 +22,7 @@ fn is_self(expr: &Expr, local: Name) -> bool
 {
     match &expr.node {
         Node::Name { name, .. } => name.name.0 == local.0,
-        Node::Set(..)
-        | Node::Chain(..)
-        | Node::Unary(..)
-        | Node::Steps(..)
-        | Node::Number(..)
-        | Node::Quote(..)
-        | Node::Truth(..)
-        | Node::Call(..)
-        | Node::Paren(..)
-        | Node::Array(..)
-        | Node::Iso(..)
-        | Node::Form(..) => false,
+        _ => false,
     }
 }
 

@@ -8,15 +8,15 @@ ghost use Rattle.vale_syntax.specs.View.{view_param, view_head};
 ghost use Rattle.vale_syntax.specs.declared.fault.Fault.{Fault};
 ghost use Rattle.vale_core.specs.View.{view_block, view_function, view_item, view_core};
 ghost use Rattle.vale_rules_spec.specs.Owned.{are_taken_apart, function_faults, method_faults, item_faults, items_faults, owned};
-ghost use Rattle.vale_owner.specs.FlowView.{found};
+ghost use Rattle.vale_owner_flow.specs.FlowView.{found};
 ghost use Rattle.vale_owner.specs.Functions.{declaring_params, at_end, body_faults, is_taken_apart, answer};
 
 use crate::moves::block_moves;
-use crate::flow_state::FlowState;
 use crate::walk::{walk_last, walk_stmts};
 use std::alloc::Global;
 use vale_base::{Fail, Memory, Text};
 use vale_core::{Block, Core, Function, Item};
+use vale_owner_flow::FlowState;
 use vale_syntax::{Fault, Head, Param};
 use vale_types::is_drop;
 
@@ -42,18 +42,12 @@ fn walk_function(alloc: Global, function: &Function) -> Result<FlowState, Memory
     Ok(flow_state)
 }
 
-fn neither(one: bool, other: bool) -> bool
-    ensures { result ≡ (not one && not other) }
-{
-    !one && !other
-}
-
 // Whether the parameter is moved by destructurings alone, and isn't whole at the end.
 fn is_taken_apart(param: &Param, body: &Block, flow_state: &FlowState) -> bool
     ensures { result ≡ is_taken_apart (view_param param.now) (view_block body.now) (found flow_state.now).locals }
 {
     let moves = block_moves(body, param.name.name);
-    neither(moves, flow_state.is_whole(param.name.name))
+    flow_state.is_taken_apart(param.name.name, moves)
 }
 
 // Whether each parameter of a destructor is, of which it has one.

@@ -1,24 +1,15 @@
 // What a body does to its locals, in one walk over it.
 ghost use Rattle.std.specs.Prelude.{◌≡◌, None, map, option_map, OnOk};
 ghost use Rattle.vale_core.specs.View.{view_expr, view_node, view_form, view_step, view_stmt, view_block, view_link, view_else_if, exprs_of, links_of, steps_of, else_end, stmts_of, last_end};
-ghost use Rattle.vale_owner.specs.After.{after_expr, after_node, after_exprs, after_link, after_links, after_step, after_steps, after_form, after_block, after_body, after_stmts, after_stmt, after_iteration, after_side, branches_of_side, after_else_if, branches_of_else_if, after_else_ifs, branches_of_else_ifs, after_sides, may_skip};
-ghost use Rattle.vale_owner.specs.FlowView.{found, kept, sided};
+ghost use Rattle.vale_owner.specs.After.{after_expr, after_node, after_exprs, after_link, after_links, after_step, after_steps, after_form, after_block, after_body, after_stmts, after_stmt, after_iteration, after_side, branches_of_side, after_else_if, branches_of_else_if, after_else_ifs, branches_of_else_ifs, after_sides};
+ghost use Rattle.vale_owner_flow.specs.FlowView.{found, kept, sided};
 
-use crate::flow_state::FlowState;
-use crate::branches::Branches;
 use sqlite_items::{Boxed, Items};
 use std::alloc::Global;
 use vale_base::Memory;
-use vale_core::{Block, ElseIf, Expr, Form, Link, Node, Step, Stmt};
-use vale_core::block_returns;
-use vale_syntax::{BinaryOp, NameAt};
-
-// Whether the operand after it may be left out.
-fn may_skip(op: BinaryOp) -> bool
-    ensures { result ≡ may_skip op }
-{
-    matches!(op, BinaryOp::Or | BinaryOp::And)
-}
+use vale_core::{Block, ElseIf, Expr, Form, Link, Node, Step, Stmt, block_returns};
+use vale_owner_flow::{Branches, FlowState, may_skip};
+use vale_syntax::NameAt;
 
 #[cycle(walk)]
 #[tactic(auto, using(crate::proofs::WalkLaws::exprs))]
@@ -240,7 +231,7 @@ fn walk_else(
         Some(block) => walk_side(alloc, block, flow_state, branches),
         None => {
             let after = flow_state.copy(alloc)?;
-            branches.add(false, after);
+            branches.stay(after);
             Ok(())
         }
     }
@@ -262,7 +253,12 @@ fn walk_block(alloc: Global, block: &Block, flow_state: &mut FlowState) -> Resul
 // The body of a loop over a local.
 #[cycle(walk)]
 #[tactic(auto, using(crate::proofs::WalkLaws::blocks))]
-fn walk_body(alloc: Global, name: NameAt, block: &Block, flow_state: &mut FlowState) -> Result<(), Memory>
+fn walk_body(
+    alloc: Global,
+    name: NameAt,
+    block: &Block,
+    flow_state: &mut FlowState,
+) -> Result<(), Memory>
     ensures { OnOk result (found flow_state.new ≡ after_body name (view_block block.now) (found flow_state.old)) }
 {
     let outer = flow_state.count();
@@ -276,7 +272,11 @@ fn walk_body(alloc: Global, name: NameAt, block: &Block, flow_state: &mut FlowSt
 /// The statements of a block.
 #[cycle(walk)]
 #[tactic(auto, using(crate::proofs::WalkLaws::lists))]
-pub fn walk_stmts(alloc: Global, stmts: &Items<Stmt>, flow_state: &mut FlowState) -> Result<(), Memory>
+pub fn walk_stmts(
+    alloc: Global,
+    stmts: &Items<Stmt>,
+    flow_state: &mut FlowState,
+) -> Result<(), Memory>
     ensures { OnOk result (found flow_state.new ≡ after_stmts (stmts_of (map view_stmt stmts.now) None) (found flow_state.old)) }
 {
     let slice = stmts.as_slice();

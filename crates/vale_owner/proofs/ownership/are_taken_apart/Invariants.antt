@@ -2,7 +2,7 @@ use Rattle.std.proofs.Common.{◌≡◌, map, drop}
 use Rattle.vale_syntax.specs.View.{view_param}
 use Rattle.vale_core.specs.View.{view_block}
 use Rattle.vale_rules_spec.specs.Owned.{are_taken_apart}
-use Rattle.vale_owner.specs.FlowView.{found}
+use Rattle.vale_owner_flow.specs.FlowView.{found}
 use Rattle.vale_owner.proofs.ownership.are_taken_apart.Given as goal
 
 -- it is up to those that are left

@@ -1,9 +1,9 @@
 use Rattle.std.proofs.Common.{map}
 use Rattle.vale_syntax.specs.View.{view_param}
-use Rattle.vale_owner.specs.FlowView.{declaring}
+use Rattle.vale_owner_flow.specs.FlowView.{declaring}
 use Rattle.vale_owner.specs.Functions.{declaring_params}
 use Rattle.vale_owner.proofs.FunctionLaws.{no_params, more_params}
-use Rattle.vale_owner.proofs.ListLaws.{list_next, list_done}
+use Rattle.vale_owner_flow.proofs.ListLaws.{list_next, list_done}
 use Rattle.vale_owner.proofs.ownership.declare_params.Goals as goal
 
 pub loop-param-preserved : goal.loop-param-preserved

@@ -1,6 +1,6 @@
 use Rattle.std.proofs.Common.{◌≡◌, map, drop}
 use Rattle.vale_syntax.specs.View.{view_param}
-use Rattle.vale_owner.specs.FlowView.{found}
+use Rattle.vale_owner_flow.specs.FlowView.{found}
 use Rattle.vale_owner.specs.Functions.{declaring_params}
 use Rattle.vale_owner.proofs.ownership.declare_params.Given as goal
 

@@ -2,7 +2,7 @@ use Rattle.std.proofs.Common.{map, refl}
 use Rattle.std.specs.Prelude.{None}
 use Rattle.vale_core.specs.View.{view_expr, view_stmt, view_step, view_link, view_else_if, exprs_of, links_of, steps_of, stmts_of}
 use Rattle.vale_owner.specs.After.{after_expr, after_exprs, after_link, after_links, after_step, after_steps, after_stmt, after_stmts, after_else_if, after_else_ifs, branches_of_else_if, branches_of_else_ifs}
-use Rattle.vale_owner.proofs.ListLaws.{list_next, list_done, branches_next, branches_done}
+use Rattle.vale_owner_flow.proofs.ListLaws.{list_next, list_done, branches_next, branches_done}
 use Rattle.vale_owner.proofs.WalkLaws as w
 use Rattle.vale_owner.proofs.walk.+walk.Goals as goal
 

@@ -1,7 +1,7 @@
 use Rattle.std.proofs.Common.{◌≡◌, map, drop}
 use Rattle.std.specs.Prelude.{None}
 use Rattle.vale_core.specs.View.{view_expr, view_stmt, view_step, view_link, view_else_if, exprs_of, links_of, steps_of, stmts_of}
-use Rattle.vale_owner.specs.FlowView.{found, kept}
+use Rattle.vale_owner_flow.specs.FlowView.{found, kept}
 use Rattle.vale_owner.specs.After.{after_exprs, after_links, after_steps, after_stmts, after_else_ifs, branches_of_else_ifs}
 use Rattle.vale_owner.proofs.walk.+walk.Given as goal
 

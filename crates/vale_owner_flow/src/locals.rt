@@ -1,8 +1,8 @@
 // The locals in scope, the last declared last.
 ghost use Rattle.std.specs.Prelude.{◌≡◌, ◌<◌, length, IfSome};
 ghost use Rattle.vale_rules_spec.specs.Whole.{are_alike};
-ghost use Rattle.vale_owner.specs.FlowView.{in_scope};
-ghost use Rattle.vale_owner.specs.Places.{place_of, same};
+ghost use Rattle.vale_owner_flow.specs.FlowView.{in_scope};
+ghost use Rattle.vale_owner_flow.specs.Places.{place_of, same};
 
 use vale_base::Name;
 

@@ -2,14 +2,16 @@
 use Rattle.std.specs.Prelude.{ℕ, ◌-◌, Bool, true, false, ◌&&◌, ◌||◌, List, [], ◌∷◌, length, drop, Option, Some, None, option_map}
 use Rattle.vale_base.specs.declared.spot.Spot.{Spot}
 use Rattle.vale_syntax.specs.declared.fault.Fault.{Fault}
+use Rattle.vale_syntax.specs.declared.tree.BinaryOp.{BinaryOp}
+use Rattle.vale_syntax.specs.declared.tree.BinaryOp.TheVariants.{Or, And}
 use Rattle.vale_syntax.specs.declared.tree.NameAt.{NameAt}
 use Rattle.vale_rules_spec.specs.Judged.{own, first_of}
 use Rattle.vale_rules_spec.specs.Owned.{Flow, Branches, name_flow}
 use Rattle.vale_rules_spec.specs.Whole as w
 use Rattle.vale_rules_spec.specs.Whole.{Locals, declared, all_declared, moved, are_alike}
-use Rattle.vale_owner.specs.declared.locals.Local.{Local}
-use Rattle.vale_owner.specs.declared.flow_state.FlowState.{FlowState}
-use Rattle.vale_owner.specs.declared.branches.Branches as code
+use Rattle.vale_owner_flow.specs.declared.locals.Local.{Local}
+use Rattle.vale_owner_flow.specs.declared.flow_state.FlowState.{FlowState}
+use Rattle.vale_owner_flow.specs.declared.branches.Branches as code
 
 -- ---- the locals, of which the code has the last declared last
 
@@ -81,7 +83,13 @@ loop_ended at stays start returns f = record {
   locals = start;
 }
 
--- ---- the branches of an `if`
+-- ---- the branches of an `if`, or of an operator
+
+-- whether the operand after it may be left out
+abbrev pub may_skip : BinaryOp → Bool
+may_skip Or = true
+may_skip And = true
+may_skip _ = false
 
 -- the first of them, and whether the others are as it is
 pub record Kept : Type 0 where

@@ -1,8 +1,16 @@
-// The branches of an `if`: with which locals its blocks end.
-ghost use Rattle.std.specs.Prelude.{◌≡◌};
-ghost use Rattle.vale_owner.specs.FlowView.{in_scope, kept, no_branches, with_branch};
+// The branches of an `if`, with which locals its blocks end, and which operators have branches.
+ghost use Rattle.std.specs.Prelude.{◌≡◌, false};
+ghost use Rattle.vale_owner_flow.specs.FlowView.{in_scope, kept, no_branches, with_branch, may_skip};
 
 use crate::locals::{Local, are_alike};
+use vale_syntax::BinaryOp;
+
+/// Whether the operand after it may be left out.
+pub fn may_skip(op: BinaryOp) -> bool
+    ensures { result ≡ may_skip op }
+{
+    matches!(op, BinaryOp::Or | BinaryOp::And)
+}
 
 /// The locals after the first block that doesn't always return, and whether the others end as it does.
 #[derive(Drop)]
@@ -40,5 +48,12 @@ impl Branches {
                 self.first = Some(after);
             }
         }
+    }
+
+    /// There is no `else`: the locals may stay as they are.
+    pub fn stay(&mut self, before: Vec<Local>)
+        ensures { kept self.new ≡ with_branch false (in_scope before.items) (kept self.old) }
+    {
+        self.add(false, before);
     }
 }

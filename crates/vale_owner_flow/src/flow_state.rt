@@ -1,14 +1,20 @@
 // What a walk over a body has found so far.
-ghost use Rattle.std.specs.Prelude.{◌≡◌, length, IfOk, OnOk};
+ghost use Rattle.std.specs.Prelude.{◌≡◌, ◌&&◌, not, length, IfOk, OnOk};
 ghost use Rattle.vale_rules_spec.specs.Whole.{is_whole, are_alike};
-ghost use Rattle.vale_owner.specs.FlowView.{in_scope, found, nothing, naming, moving, declaring, declaring_all, judged, told, with_first, back_to, closed, loop_ended, kept, sided, branch_ended};
+ghost use Rattle.vale_owner_flow.specs.FlowView.{in_scope, found, nothing, naming, moving, declaring, declaring_all, judged, told, with_first, back_to, closed, loop_ended, kept, sided, branch_ended};
 
-use crate::locals::{Local, are_alike, place_of};
 use crate::branches::Branches;
+use crate::locals::{Local, are_alike, place_of};
 use std::alloc::Global;
 use std::mem;
 use vale_base::{Memory, Name, Spot};
 use vale_syntax::{Fault, NameAt};
+
+fn neither(one: bool, other: bool) -> bool
+    ensures { result ≡ (not one && not other) }
+{
+    !one && !other
+}
 
 /// The first fault in the order of the tree, and the locals in scope, the last declared last.
 #[derive(Drop)]
@@ -91,6 +97,13 @@ impl FlowState {
             Some(at) => self.locals[at].whole,
             None => true,
         }
+    }
+
+    /// Whether the local of a destructor is taken apart, by whether anything but a destructuring moves it.
+    pub fn is_taken_apart(&self, name: Name, moves: bool) -> bool
+        ensures { result ≡ (not moves && not (is_whole name.0 (found self.now).locals)) }
+    {
+        neither(moves, self.is_whole(name))
     }
 
     /// The local is moved.

@@ -1,6 +1,6 @@
 -- Locals as the code has them, of which the last declared is the last.
 use Rattle.std.specs.Prelude.{ℕ, suc, Bool, true, false, not, ◌==◌, ◌&&◌, List, [], ◌∷◌, Option, Some, None, if◌then◌else◌}
-use Rattle.vale_owner.specs.declared.locals.Local.{Local}
+use Rattle.vale_owner_flow.specs.declared.locals.Local.{Local}
 
 abbrev pub or_first : Bool → Option ℕ → Option ℕ
 or_first is_first None = if is_first then Some 0 else None

@@ -1,7 +1,7 @@
 -- A walk over a list, one part more.
 use Rattle.std.proofs.Common.{◌≡◌, ℕ, ◌+◌, ◌<◌, ◌≤◌, List, [], ◌∷◌, length, get_or, drop, ap, sym, ◌∙◌}
 use Rattle.std.proofs.lemmas.List.{drop_more, drop_all}
-use Rattle.vale_owner.specs.FlowView.{FlowView, Kept}
+use Rattle.vale_owner_flow.specs.FlowView.{FlowView, Kept}
 
 module _ {X : Type 0} (F : List X → FlowView → FlowView) (one : X → FlowView → FlowView) (more : (x : X) (xs : List X) (f : FlowView) → F (x ∷ xs) f ≡ F xs (one x f)) (xs : List X) (i : ℕ) where
   pub list_next : (x d : X) (f g whole : FlowView) → i < length xs → x ≡ get_or xs i d → g ≡ one x f → F (drop i xs) f ≡ whole → F (drop (i + 1) xs) g ≡ whole

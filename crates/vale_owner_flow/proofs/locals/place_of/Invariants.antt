@@ -1,6 +1,6 @@
 use Rattle.std.proofs.Common.{◌≡◌, ◌-◌, length, take}
-use Rattle.vale_owner.specs.Places.{place_of}
-use Rattle.vale_owner.proofs.locals.place_of.Given as goal
+use Rattle.vale_owner_flow.specs.Places.{place_of}
+use Rattle.vale_owner_flow.proofs.locals.place_of.Given as goal
 
 -- none after these has the name
 abbrev pub invariant-loop-back : goal.invariant-loop-back

@@ -7,8 +7,8 @@ use Rattle.vale_syntax.specs.declared.tree.NameAt.{NameAt}
 use Rattle.vale_rules_spec.specs.Judged.{first_of}
 use Rattle.vale_rules_spec.specs.Owned.{Flow, ◌then◌, Branches, add_branch, all_alike, agree, behind}
 use Rattle.vale_rules_spec.specs.Whole.{Locals, is_whole, are_alike}
-use Rattle.vale_owner.specs.FlowView.{FlowView, earlier, going, naming, moving, judged, declaring, declaring_all, loop_ended, Kept, no_branches, with_branch, with_branches, sided, branch_ended, or_else, back_to, in_scope, kept}
-use Rattle.vale_owner.specs.declared.branches.Branches as code
+use Rattle.vale_owner_flow.specs.FlowView.{FlowView, earlier, going, naming, moving, judged, declaring, declaring_all, loop_ended, Kept, no_branches, with_branch, with_branches, sided, branch_ended, or_else, back_to, in_scope, kept}
+use Rattle.vale_owner_flow.specs.declared.branches.Branches as code
 
 -- ---- first faults
 

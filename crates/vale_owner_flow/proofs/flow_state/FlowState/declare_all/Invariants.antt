@@ -1,6 +1,6 @@
 use Rattle.std.proofs.Common.{◌≡◌, drop}
-use Rattle.vale_owner.specs.FlowView.{found, declaring_all}
-use Rattle.vale_owner.proofs.flow_state.FlowState.declare_all.Given as goal
+use Rattle.vale_owner_flow.specs.FlowView.{found, declaring_all}
+use Rattle.vale_owner_flow.proofs.flow_state.FlowState.declare_all.Given as goal
 
 -- those that are left make of what is found what all of them make
 abbrev pub invariant-loop-name : goal.invariant-loop-name

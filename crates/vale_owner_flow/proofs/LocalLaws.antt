@@ -6,9 +6,9 @@ use Rattle.std.proofs.Math.Seq.{drop-append_seam, take-length}
 use Rattle.std.specs.Prelude.{Bool, true, false, ◌==◌, ◌&&◌, Option, Some, None, if◌then◌else◌}
 use Rattle.vale_rules_spec.specs.Whole as w
 use Rattle.vale_rules_spec.specs.Whole.{Locals, is_whole, moved, are_alike}
-use Rattle.vale_owner.specs.declared.locals.Local.{Local}
-use Rattle.vale_owner.specs.FlowView.{local_of, scope_over, in_scope}
-use Rattle.vale_owner.specs.Places.{or_first, place_of, same, alike}
+use Rattle.vale_owner_flow.specs.declared.locals.Local.{Local}
+use Rattle.vale_owner_flow.specs.FlowView.{local_of, scope_over, in_scope}
+use Rattle.vale_owner_flow.specs.Places.{or_first, place_of, same, alike}
 
 scope_more : (ls : List Local) (l : Local) (outer : Locals) → scope_over (ls ++ l ∷ []) outer ≡ local_of l ∷ scope_over ls outer
 scope_more [] l outer = refl

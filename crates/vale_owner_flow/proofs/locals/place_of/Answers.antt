@@ -1,6 +1,6 @@
 use Rattle.std.proofs.Common.{◌+◌, ◌-◌, length, arith}
-use Rattle.vale_owner.proofs.LocalLaws.{place_miss}
-use Rattle.vale_owner.proofs.locals.place_of.Goals as goal
+use Rattle.vale_owner_flow.proofs.LocalLaws.{place_miss}
+use Rattle.vale_owner_flow.proofs.locals.place_of.Goals as goal
 
 pub loop-back-preserved : goal.loop-back-preserved
 loop-back-preserved c =

@@ -1,0 +1,2 @@
+pub mod FlowView
+pub mod Places
