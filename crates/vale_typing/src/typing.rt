@@ -66,6 +66,7 @@ fn function_over(
     Ok(Held::new(TypedFunction { head, body }))
 }
 
+#[tactic(auto, using(vale_rules_spec::proofs::JudgedLaws::first_node, vale_rules_spec::proofs::JudgedLaws::first_leaf))]
 fn type_function(
     alloc: Global,
     table: &Table,
@@ -97,6 +98,7 @@ fn type_functions(
     Ok(done)
 }
 
+#[tactic(auto, using(vale_rules_spec::proofs::JudgedLaws::first_plain))]
 fn type_item(alloc: Global, table: &Table, item: &Item) -> Result<Held<TypedItem>, Fail<Fault>>
     ensures { Gives c.view_item result (first (in_item (names_of table.now) (items_of table.now) (view_item item.now))) }
 {
