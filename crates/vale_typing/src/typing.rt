@@ -3,6 +3,7 @@ ghost use Rattle.std.specs.Prelude.{◌≡◌, List, [], IfOk, map};
 ghost use Rattle.vale_base.specs.Faults.{IfFault, IsValueUnlessMemory, IsFaultUnlessMemory};
 ghost use Rattle.vale_rules_spec.specs.DeclFaults.{declared};
 ghost use Rattle.vale_rules_spec.specs.Declarations.{head_name};
+ghost use Rattle.vale_rules_spec.specs.Returns.{block_returns};
 ghost use Rattle.vale_rules_spec.specs.Judged.{first, leaf, Gives, IsFine, IsFirstFault};
 ghost use Rattle.vale_rules_spec.specs.TypeRules.{head_gives, function_rules};
 ghost use Rattle.vale_rules_spec.specs.Typed as t;
@@ -46,17 +47,17 @@ fn params_in(alloc: Global, params: &[Param]) -> Result<Vec<Local>, Memory>
     Ok(locals)
 }
 
-/// A function over its body, which always returns or doesn't.
+/// A function over its body.
 #[tactic(auto, using(vale_rules_spec::proofs::JudgedLaws::first_leaf))]
 fn function_over(
     alloc: Global,
     head: &Head,
-    returns: bool,
     body: Held<TypedBlock>,
 ) -> Result<Held<TypedFunction>, Fail<Fault>>
-    ensures { Gives c.view_function result (first (leaf (head_name (view_head head.now)).at (function_rules (head_gives (view_head head.now)) returns) (t.function_body (view_head head.now) (c.view_block body)))) }
+    ensures { Gives c.view_function result (first (leaf (head_name (view_head head.now)).at (function_rules (head_gives (view_head head.now)) (block_returns (c.view_block body))) (t.function_body (view_head head.now) (c.view_block body)))) }
 {
     let gives = Held::new(result_of(alloc, &head.result)?);
+    let returns = block_returns(body.get());
     if let Some(code) = function_fault(gives.get(), returns) {
         let at = head.name.at;
         return Err(Fail::Is(Fault { code, at }));
@@ -79,8 +80,7 @@ fn type_function(
     let outside = Scope::Outside;
     let scope = Scope::Frame(&locals, &outside);
     let body = type_void_block(alloc, table, &function.body, gives.get(), 0, &scope)?;
-    let returns = block_returns(body.get());
-    function_over(alloc, &function.head, returns, body)
+    function_over(alloc, &function.head, body)
 }
 
 fn type_functions(
