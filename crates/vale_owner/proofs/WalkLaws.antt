@@ -67,7 +67,7 @@ module _ (f : FlowView) where
 
   pub at_name : (n : NameAt) (is_outer is_moved : Bool) → after_node (t.name n is_outer is_moved) f ≡ naming n is_moved f
   unfolding after_node naming
-  at_name n is_moved = refl
+  at_name n is_outer is_moved = refl
 
   pub at_call : (n : NameAt) (g : t.Callee) (es : t.Exprs) → after_node (t.call n g es) f ≡ after_exprs es f
   unfolding after_node after_exprs

@@ -1,5 +1,5 @@
 -- What is found after each part of a body, by its flow.
-use Rattle.std.specs.Prelude.{List, [], ◌∷◌, None}
+use Rattle.std.specs.Prelude.{Bool, true, false, List, [], ◌∷◌, None}
 use Rattle.vale_syntax.specs.declared.tree.NameAt.{NameAt}
 use Rattle.vale_rules_spec.specs.Judged.{first_of}
 use Rattle.vale_rules_spec.specs.Typed.{Expr, Node, Exprs, Link, link, Links, Step, Steps, Form, ElseIf, else_if, Elses, Block, Stmt, Stmts}

@@ -1,10 +1,10 @@
 // Functions, items and the whole program.
-ghost use Rattle.std.specs.Prelude.{◌≡◌, IfOk, OnOk, map};
+ghost use Rattle.std.specs.Prelude.{◌≡◌, not, ◌&&◌, IfOk, OnOk, map};
 ghost use Rattle.vale_base.specs.Faults.{IfFault, IsValueUnlessMemory, IsFaultUnlessMemory};
 ghost use Rattle.vale_rules_spec.specs.Declarations.{is_drop};
 ghost use Rattle.vale_rules_spec.specs.Judged.{first, stopped, Gives, IsFine, IsFirstFault};
 ghost use Rattle.vale_rules_spec.specs.Typed as t;
-ghost use Rattle.vale_syntax.specs.View.{view_param};
+ghost use Rattle.vale_syntax.specs.View.{view_param, view_head};
 ghost use Rattle.vale_syntax.specs.declared.fault.Fault.{Fault};
 ghost use Rattle.vale_core.specs.View.{view_block, view_function, view_item, view_core};
 ghost use Rattle.vale_rules_spec.specs.Owned.{are_taken_apart, function_faults, method_faults, item_faults, items_faults, owned};
@@ -17,7 +17,7 @@ use std::alloc::Global;
 use vale_base::{Fail, Memory, Text};
 use vale_core::{Block, Core, Function, Item};
 use vale_owner_flow::FlowState;
-use vale_syntax::{Fault, Param};
+use vale_syntax::{Fault, Head, Param};
 use vale_types::is_drop;
 
 #[tactic(auto, using(crate::proofs::FunctionLaws::params))]

@@ -1,3 +1,4 @@
+pub mod FunctionLaws
 pub mod IfLaws
 pub mod NodeLaws
 pub mod PartLaws

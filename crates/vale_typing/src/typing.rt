@@ -3,12 +3,13 @@ ghost use Rattle.std.specs.Prelude.{◌≡◌, List, [], IfOk, map};
 ghost use Rattle.vale_base.specs.Faults.{IfFault, IsValueUnlessMemory, IsFaultUnlessMemory};
 ghost use Rattle.vale_rules_spec.specs.DeclFaults.{declared};
 ghost use Rattle.vale_rules_spec.specs.Declarations.{head_name};
+ghost use Rattle.vale_rules_spec.specs.Returns.{block_returns};
 ghost use Rattle.vale_rules_spec.specs.Judged.{first, leaf, Gives, IsFine, IsFirstFault};
 ghost use Rattle.vale_rules_spec.specs.TypeRules.{head_gives, function_rules};
 ghost use Rattle.vale_rules_spec.specs.Typed as t;
-ghost use Rattle.vale_rules_spec.specs.Typing.{with_params, in_function, in_functions, in_item, in_items, typed};
+ghost use Rattle.vale_rules_spec.specs.Typing.{with_params, entry, void_block, in_function, in_functions, in_item, in_items, typed};
 ghost use Rattle.vale_rules_spec.specs.Types as y;
-ghost use Rattle.vale_syntax.specs.View.{view_param, view_head, view_function, view_item, view_tree};
+ghost use Rattle.vale_syntax.specs.View.{view_param, view_head, view_block, view_function, view_item, view_tree};
 ghost use Rattle.vale_syntax.specs.declared.fault.Fault.{Fault};
 ghost use Rattle.vale_core.specs.View as c;
 ghost use Rattle.vale_types.specs.Plain.{HasNoInterface};
@@ -46,17 +47,17 @@ fn params_in(alloc: Global, params: &[Param]) -> Result<Vec<Local>, Memory>
     Ok(locals)
 }
 
-/// A function over its body, which always returns or doesn't.
+/// A function over its body.
 #[tactic(auto, using(vale_rules_spec::proofs::JudgedLaws::first_leaf))]
 fn function_over(
     alloc: Global,
     head: &Head,
-    returns: bool,
     body: Held<TypedBlock>,
 ) -> Result<Held<TypedFunction>, Fail<Fault>>
-    ensures { Gives c.view_function result (first (leaf (head_name (view_head head.now)).at (function_rules (head_gives (view_head head.now)) returns) (t.function_body (view_head head.now) (c.view_block body)))) }
+    ensures { Gives c.view_function result (first (leaf (head_name (view_head head.now)).at (function_rules (head_gives (view_head head.now)) (block_returns (c.view_block body))) (t.function_body (view_head head.now) (c.view_block body)))) }
 {
     let gives = Held::new(result_of(alloc, &head.result)?);
+    let returns = block_returns(body.get());
     if let Some(code) = function_fault(gives.get(), returns) {
         let at = head.name.at;
         return Err(Fail::Is(Fault { code, at }));
@@ -66,6 +67,22 @@ fn function_over(
     Ok(Held::new(TypedFunction { head, body }))
 }
 
+/// The body of a function, under its parameters.
+fn type_body(
+    alloc: Global,
+    table: &Table,
+    function: &Function,
+) -> Result<Held<TypedBlock>, Fail<Fault>>
+    ensures { Gives c.view_block result (first (void_block (names_of table.now) (items_of table.now) (entry (view_head function.now.head)) (view_block function.now.body))) }
+{
+    let gives = Held::new(result_of(alloc, &function.head.result)?);
+    let locals = params_in(alloc, function.head.params.as_slice())?;
+    let outside = Scope::Outside;
+    let scope = Scope::Frame(&locals, &outside);
+    type_void_block(alloc, table, &function.body, gives.get(), 0, &scope)
+}
+
+#[tactic(auto, using(vale_rules_spec::proofs::JudgedLaws::first_node))]
 fn type_function(
     alloc: Global,
     table: &Table,
@@ -73,13 +90,8 @@ fn type_function(
 ) -> Result<Held<TypedFunction>, Fail<Fault>>
     ensures { Gives c.view_function result (first (in_function (names_of table.now) (items_of table.now) (view_function function.now))) }
 {
-    let gives = Held::new(result_of(alloc, &function.head.result)?);
-    let locals = params_in(alloc, function.head.params.as_slice())?;
-    let outside = Scope::Outside;
-    let scope = Scope::Frame(&locals, &outside);
-    let body = type_void_block(alloc, table, &function.body, gives.get(), 0, &scope)?;
-    let returns = block_returns(body.get());
-    function_over(alloc, &function.head, returns, body)
+    let body = type_body(alloc, table, function)?;
+    function_over(alloc, &function.head, body)
 }
 
 fn type_functions(
@@ -97,6 +109,7 @@ fn type_functions(
     Ok(done)
 }
 
+#[tactic(auto, using(vale_rules_spec::proofs::JudgedLaws::first_plain))]
 fn type_item(alloc: Global, table: &Table, item: &Item) -> Result<Held<TypedItem>, Fail<Fault>>
     ensures { Gives c.view_item result (first (in_item (names_of table.now) (items_of table.now) (view_item item.now))) }
 {
