@@ -8,7 +8,7 @@ use Rattle.vale_reading.specs.declared.stop.Stop.{Stop}
 use Rattle.vale_reading.specs.declared.stop.Stop.TheVariants as stop
 use Rattle.vale_reading.specs.declared.stop.Turn.{Turn}
 use Rattle.vale_reading.specs.declared.stop.Turn.TheVariants.{More, End}
-use Rattle.vale_reading.specs.Steps.{Fault, Read, Reader, with_front, turns_at}
+use Rattle.vale_reading.specs.Steps.{Read, Reader, with_front, turns_at}
 use Rattle.vale_reading.specs.Gives.{Fails}
 
 listed_more : {X L : Type 0} (more : X → L → L) (xs : List X) (x : X) (end : L) → listed more (xs ++ x ∷ []) end ≡ listed more xs (more x end)

@@ -10,7 +10,7 @@ use Rattle.vale_reading.specs.declared.stop.Stop.{Stop}
 use Rattle.vale_reading.specs.declared.stop.Stop.TheVariants as stop
 use Rattle.vale_reading.specs.declared.stop.Turn.{Turn}
 use Rattle.vale_reading.specs.declared.stop.Turn.TheVariants.{More, End}
-use Rattle.vale_reading.specs.Steps.{unexpected, Read, Reader, with_front, turns_at, faulty}
+use Rattle.vale_reading.specs.Steps.{Read, Reader, with_front, turns_at, faulty}
 use Rattle.vale_reading.specs.Gives.{Fails, Gives, turned}
 use Rattle.vale_reading.specs.Turns.{FoundTurn, FoundAll, AfterTurn, Turns, items_alone, TurnsAlone}
 use Rattle.vale_reading.proofs.Loops.{front_none, front_more, front_fails, one_more, at_end, failing, at_out}
