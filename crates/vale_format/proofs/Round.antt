@@ -10,7 +10,7 @@ use Rattle.vale_syntax.specs.Tree.{Tree, tree}
 use Rattle.vale_syntax.specs.declared.token.Token.{Token}
 use Rattle.vale_syntax.specs.declared.token.Tokens.{Tokens}
 use Rattle.vale_lexer.proofs.OneCut.{one_tokens}
-use Rattle.vale_parser.proofs.ItemAgain.{one_tree}
+use Rattle.vale_reading_laws.proofs.ItemAgain.{one_tree}
 use Rattle.vale_printer.proofs.Lays.{laid}
 use Rattle.vale_printer.proofs.Moves.{spells_moved}
 use Rattle.vale_printer.proofs.Neat.{tree_apart}

@@ -1,15 +1,2 @@
-pub mod StepLaws
-pub mod Takes
-pub mod Shorter
-pub mod Firsts
-pub mod AgainSteps
-pub mod Again
-pub mod AgainStmts
-pub mod ItemTakes
-pub mod ItemAgain
 pub mod Answered
-pub mod Heights
-pub mod MoreLevels
-pub mod MoreReads
-pub mod MoreItems
 pub mod OnlyLevels

@@ -3,6 +3,7 @@ use Rattle.std.specs.Prelude.{◌≡◌, List, [], ◌∷◌, Result, Ok, Err}
 use Rattle.vale_base.specs.declared.spot.Spot.{Spot}
 use Rattle.vale_syntax.specs.declared.token.Token.{Token}
 use Rattle.vale_syntax.specs.Tree.{Tree}
+use Rattle.vale_prefix_spec.specs.Begins.{StopsAt, GoesThrough}
 use Rattle.vale_reading.specs.Steps.{Fault, unexpected, too_deep}
 use Rattle.vale_parser.specs.declared.parser.ParseFault.{ParseFault}
 
@@ -19,3 +20,15 @@ refusal end (too_deep ts) = record { code = 6; at = spot_at end ts }
 abbrev pub IsRefusal : Spot → Result Tree Fault → ParseFault → Type 0
 IsRefusal end (Ok x) f = ⊥
 IsRefusal end (Err e) f = f ≡ refusal end e
+
+-- The fault is where the tokens `left` begin: at the first of them, or at the end, a program stops.
+pub record IsUnexpected (end : Spot) (tokens : List Token) (fault : ParseFault) : Type 0 where
+  pub left : List Token
+  pub there : fault.at ≡ spot_at end left
+  pub stops : StopsAt tokens left
+
+-- The fault is at a token that a program of some nesting goes through.
+pub record IsGoneThrough (end : Spot) (tokens : List Token) (fault : ParseFault) : Type 0 where
+  pub left : List Token
+  pub there : fault.at ≡ spot_at end left
+  pub through : GoesThrough tokens left

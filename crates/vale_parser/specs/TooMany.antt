@@ -4,15 +4,10 @@ use Rattle.vale_base.specs.declared.spot.Spot.{Spot}
 use Rattle.vale_base.specs.Limits.{level_limit}
 use Rattle.vale_syntax.specs.declared.token.Token.{Token}
 use Rattle.vale_syntax.specs.Tree.{Tree}
-use Rattle.vale_reading.specs.Steps.{Fault, unexpected, too_deep}
+use Rattle.vale_reading.specs.Steps.{Fault, from, too_deep}
 use Rattle.vale_reading.specs.ItemReading.{read_at, all_of}
 use Rattle.vale_parser.specs.declared.parser.ParseFault.{ParseFault}
 use Rattle.vale_parser.specs.Refusal.{spot_at}
-
--- the tokens from the fault on
-abbrev pub from : Fault → List Token
-from (unexpected ts) = ts
-from (too_deep ts) = ts
 
 -- There is a first of these tokens, and reading gets past it: it gives a tree, or fewer tokens are left at its fault.
 abbrev pub GetsPast : List Token → Result Tree Fault → Type 0

@@ -8,10 +8,10 @@ ghost use Rattle.vale_reading.specs.ItemReading as i;
 ghost use Rattle.vale_reading.specs.Gives.{Gives, turned};
 ghost use Rattle.vale_syntax.specs.declared.token.Sign.TheVariants as s;
 
-use crate::nesting::block;
 use sqlite_items::Items;
+use vale_blocks::block;
 use vale_held::Held;
-use vale_reading::{Parser, Stop, Turn, bang, begins, purity, sign, word};
+use vale_reading::{Parser, Stop, Turn, bang, begins, purity, read, several, sign, word};
 use vale_syntax::{FieldDecl, Function, Head, Item, Param, Sign, Token, TokenKind, TypeExpr, Word};
 
 #[tactic(auto, unfolding(vale_reading::specs::ItemReading::param_at))]
@@ -22,8 +22,8 @@ fn param<'t>(
 ) -> Result<(Param, &'t [Token]), Stop<'t>>
     ensures { Gives (λ x. (view_param x.0, x.1.now)) result (i.param_at parser.now.names.now depth tokens.now) }
 {
-    let (name, rest) = parser.name(tokens)?;
-    let (ty, rest) = parser.type_expr(depth, rest)?;
+    let (name, rest) = read!(parser.name(tokens));
+    let (ty, rest) = read!(parser.type_expr(depth, rest));
     Ok((Param { name, ty }, rest))
 }
 
@@ -38,8 +38,8 @@ fn another_param<'t>(
     if !begins(Sign::Comma, tokens) {
         return Ok((Turn::End(()), tokens));
     }
-    let (_, rest) = sign(Sign::Comma, tokens)?;
-    let (param, rest) = param(parser, depth, rest)?;
+    let (_, rest) = read!(sign(Sign::Comma, tokens));
+    let (param, rest) = read!(param(parser, depth, rest));
     Ok((Turn::More(param), rest))
 }
 
@@ -52,23 +52,11 @@ fn more_params<'t>(
 ) -> Result<(Items<Param>, &'t [Token]), Stop<'t>>
     ensures { Gives (λ x. (listed (λ p ps. p ∷ ps) (map view_param x.0) [], x.1.now)) result (with_front (listed (λ p ps. p ∷ ps) (map view_param params)) (r.others_at (i.param_at parser.now.names.now depth) (λ p ps. p ∷ ps) [] tokens.now)) }
 {
-    let mut items = params;
-    let mut rest = tokens;
-    for _ in 0..tokens.len() + 1 {
-        let (turn, after) = another_param(parser, depth, rest)?;
-        match turn {
-            Turn::More(item) => {
-                items.push(item)?;
-                rest = after;
-            }
-            Turn::End(()) => return Ok((items, after)),
-        }
-    }
-    Err(Stop::Unexpected(rest))
+    several(|rest| another_param(parser, depth, rest), params, tokens)
 }
 
 /// Parameters up to a `)`, which is not taken.
-#[tactic(auto, using(crate::proofs::AgainSteps::list_listed), unfolding(vale_reading::specs::ItemReading::params_at))]
+#[tactic(auto, using(vale_reading_laws::proofs::AgainSteps::list_listed), unfolding(vale_reading::specs::ItemReading::params_at))]
 fn params<'t>(
     parser: &Parser<'_>,
     depth: usize,
@@ -76,11 +64,11 @@ fn params<'t>(
 ) -> Result<(Items<Param>, &'t [Token]), Stop<'t>>
     ensures { Gives (λ x. (map view_param x.0, x.1.now)) result (i.params_at parser.now.names.now depth tokens.now) }
 {
-    let mut params = Items::new(parser.alloc);
     if begins(Sign::CloseParen, tokens) {
-        return Ok((params, tokens));
+        return Ok((Items::new(parser.alloc), tokens));
     }
-    let (first, rest) = param(parser, depth, tokens)?;
+    let (first, rest) = read!(param(parser, depth, tokens));
+    let mut params = Items::new(parser.alloc);
     params.push(first)?;
     more_params(parser, depth, params, rest)
 }
@@ -97,7 +85,7 @@ fn result_type<'t>(
     if begins(Sign::OpenBrace, tokens) || begins(Sign::Semicolon, tokens) {
         return Ok((None, tokens));
     }
-    let (ty, rest) = parser.type_expr(depth, tokens)?;
+    let (ty, rest) = read!(parser.type_expr(depth, tokens));
     Ok((Some(ty), rest))
 }
 
@@ -109,18 +97,19 @@ fn head<'t>(
 ) -> Result<(Head, &'t [Token]), Stop<'t>>
     ensures { Gives (λ x. (view_head x.0, x.1.now)) result (i.head_at parser.now.names.now depth tokens.now) }
 {
-    let (is_pure, rest) = purity(tokens)?;
-    let (_, rest) = word(Word::Func, rest)?;
-    let (name, here) = parser.name(rest)?;
-    let (_, rest) = sign(Sign::OpenParen, here)?;
-    let deeper = parser.below(depth, here)?;
-    let (params, rest) = params(parser, deeper, rest)?;
-    let (_, rest) = sign(Sign::CloseParen, rest)?;
-    let (result, rest) = result_type(parser, depth, rest)?;
+    let (is_pure, rest) = read!(purity(tokens));
+    let (_, rest) = read!(word(Word::Func, rest));
+    let (name, here) = read!(parser.name(rest));
+    let (_, rest) = read!(sign(Sign::OpenParen, here));
+    let deeper = read!(parser.below(depth, here));
+    let (params, rest) = read!(params(parser, deeper, rest));
+    let params = Held::new(params);
+    let (_, rest) = read!(sign(Sign::CloseParen, rest));
+    let (result, rest) = read!(result_type(parser, depth, rest));
     let head = Head {
         is_pure,
         name,
-        params,
+        params: params.into_inner(),
         result,
     };
     Ok((head, rest))
@@ -134,9 +123,9 @@ fn signature<'t>(
 ) -> Result<(Head, &'t [Token]), Stop<'t>>
     ensures { Gives (λ x. (view_head x.0, x.1.now)) result (i.signature_at parser.now.names.now depth tokens.now) }
 {
-    let (head, rest) = head(parser, depth, tokens)?;
+    let (head, rest) = read!(head(parser, depth, tokens));
     let head = Held::new(head);
-    let (_, rest) = sign(Sign::Semicolon, rest)?;
+    let (_, rest) = read!(sign(Sign::Semicolon, rest));
     Ok((head.into_inner(), rest))
 }
 
@@ -148,9 +137,9 @@ fn function<'t>(
 ) -> Result<(Function, &'t [Token]), Stop<'t>>
     ensures { Gives (λ x. (view_function x.0, x.1.now)) result (i.function_at parser.now.names.now depth tokens.now) }
 {
-    let (head, rest) = head(parser, depth, tokens)?;
+    let (head, rest) = read!(head(parser, depth, tokens));
     let head = Held::new(head);
-    let (body, rest) = block(parser, depth, rest)?;
+    let (body, rest) = read!(block(parser, depth, rest));
     let head = head.into_inner();
     Ok((Function { head, body }, rest))
 }
@@ -163,11 +152,11 @@ fn field<'t>(
 ) -> Result<(FieldDecl, &'t [Token]), Stop<'t>>
     ensures { Gives (λ x. (view_field x.0, x.1.now)) result (i.field_at parser.now.names.now depth tokens.now) }
 {
-    let (name, rest) = parser.name(tokens)?;
-    let (may_be_set, rest) = bang(rest)?;
-    let (ty, rest) = parser.type_expr(depth, rest)?;
+    let (name, rest) = read!(parser.name(tokens));
+    let (may_be_set, rest) = read!(bang(rest));
+    let (ty, rest) = read!(parser.type_expr(depth, rest));
     let ty = Held::new(ty);
-    let (_, rest) = sign(Sign::Semicolon, rest)?;
+    let (_, rest) = read!(sign(Sign::Semicolon, rest));
     let field = FieldDecl {
         name,
         may_be_set,
@@ -187,7 +176,7 @@ fn field_turn<'t>(
     if begins(Sign::CloseBrace, tokens) {
         return Ok((Turn::End(()), tokens));
     }
-    let (item, rest) = field(parser, depth, tokens)?;
+    let (item, rest) = read!(field(parser, depth, tokens));
     Ok((Turn::More(item), rest))
 }
 
@@ -198,19 +187,8 @@ fn fields<'t>(
 ) -> Result<(Items<FieldDecl>, &'t [Token]), Stop<'t>>
     ensures { Gives (λ x. (map view_field x.0, x.1.now)) result (i.all_until (begins s.CloseBrace) (i.field_at parser.now.names.now depth) tokens.now) }
 {
-    let mut items = Items::new(parser.alloc);
-    let mut rest = tokens;
-    for _ in 0..tokens.len() + 1 {
-        let (turn, after) = field_turn(parser, depth, rest)?;
-        match turn {
-            Turn::More(item) => {
-                items.push(item)?;
-                rest = after;
-            }
-            Turn::End(()) => return Ok((items, after)),
-        }
-    }
-    Err(Stop::Unexpected(rest))
+    let none = Items::new(parser.alloc);
+    several(|rest| field_turn(parser, depth, rest), none, tokens)
 }
 
 #[tactic(auto, unfolding(vale_reading::specs::ItemReading::until))]
@@ -224,7 +202,7 @@ fn signature_turn<'t>(
     if begins(Sign::CloseBrace, tokens) {
         return Ok((Turn::End(()), tokens));
     }
-    let (item, rest) = signature(parser, depth, tokens)?;
+    let (item, rest) = read!(signature(parser, depth, tokens));
     Ok((Turn::More(item), rest))
 }
 
@@ -235,19 +213,8 @@ fn signatures<'t>(
 ) -> Result<(Items<Head>, &'t [Token]), Stop<'t>>
     ensures { Gives (λ x. (map view_head x.0, x.1.now)) result (i.all_until (begins s.CloseBrace) (i.signature_at parser.now.names.now depth) tokens.now) }
 {
-    let mut items = Items::new(parser.alloc);
-    let mut rest = tokens;
-    for _ in 0..tokens.len() + 1 {
-        let (turn, after) = signature_turn(parser, depth, rest)?;
-        match turn {
-            Turn::More(item) => {
-                items.push(item)?;
-                rest = after;
-            }
-            Turn::End(()) => return Ok((items, after)),
-        }
-    }
-    Err(Stop::Unexpected(rest))
+    let none = Items::new(parser.alloc);
+    several(|rest| signature_turn(parser, depth, rest), none, tokens)
 }
 
 #[tactic(auto, unfolding(vale_reading::specs::ItemReading::until))]
@@ -261,7 +228,7 @@ fn function_turn<'t>(
     if begins(Sign::CloseBrace, tokens) {
         return Ok((Turn::End(()), tokens));
     }
-    let (item, rest) = function(parser, depth, tokens)?;
+    let (item, rest) = read!(function(parser, depth, tokens));
     Ok((Turn::More(item), rest))
 }
 
@@ -272,19 +239,8 @@ fn functions<'t>(
 ) -> Result<(Items<Function>, &'t [Token]), Stop<'t>>
     ensures { Gives (λ x. (map view_function x.0, x.1.now)) result (i.all_until (begins s.CloseBrace) (i.function_at parser.now.names.now depth) tokens.now) }
 {
-    let mut items = Items::new(parser.alloc);
-    let mut rest = tokens;
-    for _ in 0..tokens.len() + 1 {
-        let (turn, after) = function_turn(parser, depth, rest)?;
-        match turn {
-            Turn::More(item) => {
-                items.push(item)?;
-                rest = after;
-            }
-            Turn::End(()) => return Ok((items, after)),
-        }
-    }
-    Err(Stop::Unexpected(rest))
+    let none = Items::new(parser.alloc);
+    several(|rest| function_turn(parser, depth, rest), none, tokens)
 }
 
 #[tactic(auto, unfolding(vale_reading::specs::ItemReading::struct_at))]
@@ -295,13 +251,14 @@ fn struct_item<'t>(
 ) -> Result<(Item, &'t [Token]), Stop<'t>>
     ensures { Gives (λ x. (view_item x.0, x.1.now)) result (i.struct_at parser.now.names.now depth tokens.now) }
 {
-    let (_, rest) = word(Word::Struct, tokens)?;
-    let (name, here) = parser.name(rest)?;
-    let (_, rest) = sign(Sign::OpenBrace, here)?;
-    let deeper = parser.below(depth, here)?;
-    let (fields, rest) = fields(parser, deeper, rest)?;
-    let (_, rest) = sign(Sign::CloseBrace, rest)?;
-    Ok((Item::Struct(name, fields), rest))
+    let (_, rest) = read!(word(Word::Struct, tokens));
+    let (name, here) = read!(parser.name(rest));
+    let (_, rest) = read!(sign(Sign::OpenBrace, here));
+    let deeper = read!(parser.below(depth, here));
+    let (fields, rest) = read!(fields(parser, deeper, rest));
+    let fields = Held::new(fields);
+    let (_, rest) = read!(sign(Sign::CloseBrace, rest));
+    Ok((Item::Struct(name, fields.into_inner()), rest))
 }
 
 #[tactic(auto, unfolding(vale_reading::specs::ItemReading::interface_at))]
@@ -312,13 +269,14 @@ fn interface_item<'t>(
 ) -> Result<(Item, &'t [Token]), Stop<'t>>
     ensures { Gives (λ x. (view_item x.0, x.1.now)) result (i.interface_at parser.now.names.now depth tokens.now) }
 {
-    let (_, rest) = word(Word::Interface, tokens)?;
-    let (name, here) = parser.name(rest)?;
-    let (_, rest) = sign(Sign::OpenBrace, here)?;
-    let deeper = parser.below(depth, here)?;
-    let (methods, rest) = signatures(parser, deeper, rest)?;
-    let (_, rest) = sign(Sign::CloseBrace, rest)?;
-    Ok((Item::Interface(name, methods), rest))
+    let (_, rest) = read!(word(Word::Interface, tokens));
+    let (name, here) = read!(parser.name(rest));
+    let (_, rest) = read!(sign(Sign::OpenBrace, here));
+    let deeper = read!(parser.below(depth, here));
+    let (methods, rest) = read!(signatures(parser, deeper, rest));
+    let methods = Held::new(methods);
+    let (_, rest) = read!(sign(Sign::CloseBrace, rest));
+    Ok((Item::Interface(name, methods.into_inner()), rest))
 }
 
 #[tactic(auto, unfolding(vale_reading::specs::ItemReading::impl_at))]
@@ -329,15 +287,16 @@ fn impl_item<'t>(
 ) -> Result<(Item, &'t [Token]), Stop<'t>>
     ensures { Gives (λ x. (view_item x.0, x.1.now)) result (i.impl_at parser.now.names.now depth tokens.now) }
 {
-    let (at, rest) = word(Word::Impl, tokens)?;
-    let (interface, rest) = parser.name(rest)?;
-    let (_, rest) = word(Word::For, rest)?;
-    let (name, here) = parser.name(rest)?;
-    let (_, rest) = sign(Sign::OpenBrace, here)?;
-    let deeper = parser.below(depth, here)?;
-    let (methods, rest) = functions(parser, deeper, rest)?;
-    let (_, rest) = sign(Sign::CloseBrace, rest)?;
-    Ok((Item::Impl(at, interface, name, methods), rest))
+    let (at, rest) = read!(word(Word::Impl, tokens));
+    let (interface, rest) = read!(parser.name(rest));
+    let (_, rest) = read!(word(Word::For, rest));
+    let (name, here) = read!(parser.name(rest));
+    let (_, rest) = read!(sign(Sign::OpenBrace, here));
+    let deeper = read!(parser.below(depth, here));
+    let (methods, rest) = read!(functions(parser, deeper, rest));
+    let methods = Held::new(methods);
+    let (_, rest) = read!(sign(Sign::CloseBrace, rest));
+    Ok((Item::Impl(at, interface, name, methods.into_inner()), rest))
 }
 
 #[tactic(auto, unfolding(vale_reading::specs::ItemReading::item_at))]
@@ -356,7 +315,7 @@ fn item<'t>(
         TokenKind::Word(Word::Interface) => interface_item(parser, depth, tokens),
         TokenKind::Word(Word::Impl) => impl_item(parser, depth, tokens),
         _ => {
-            let (function, rest) = function(parser, depth, tokens)?;
+            let (function, rest) = read!(function(parser, depth, tokens));
             Ok((Item::Function(function), rest))
         }
     }
@@ -373,7 +332,7 @@ fn item_turn<'t>(
     if tokens.is_empty() {
         return Ok((Turn::End(()), tokens));
     }
-    let (item, rest) = item(parser, depth, tokens)?;
+    let (item, rest) = read!(item(parser, depth, tokens));
     Ok((Turn::More(item), rest))
 }
 
@@ -384,17 +343,6 @@ pub fn items<'t>(
 ) -> Result<(Items<Item>, &'t [Token]), Stop<'t>>
     ensures { Gives (λ x. (map view_item x.0, x.1.now)) result (i.all_until i.ended (i.item_at parser.now.names.now depth) tokens.now) }
 {
-    let mut items = Items::new(parser.alloc);
-    let mut rest = tokens;
-    for _ in 0..tokens.len() + 1 {
-        let (turn, after) = item_turn(parser, depth, rest)?;
-        match turn {
-            Turn::More(item) => {
-                items.push(item)?;
-                rest = after;
-            }
-            Turn::End(()) => return Ok((items, after)),
-        }
-    }
-    Err(Stop::Unexpected(rest))
+    let none = Items::new(parser.alloc);
+    several(|rest| item_turn(parser, depth, rest), none, tokens)
 }

@@ -2,3 +2,4 @@ pub mod Levels
 pub mod Built
 pub mod Loops
 pub mod Numbered
+pub mod TurnLaws

@@ -8,18 +8,18 @@ use Rattle.vale_reading.specs.declared.stop.Stop.{Stop}
 use Rattle.vale_reading.specs.declared.stop.Stop.TheVariants as stop
 use Rattle.vale_reading.specs.declared.stop.Turn.{Turn}
 use Rattle.vale_reading.specs.declared.stop.Turn.TheVariants.{More, End}
-use Rattle.vale_reading.specs.Steps.{Fault, Read, Reader, with_front, turns_at}
+use Rattle.vale_reading.specs.Steps.{Read, Reader, with_front, turns_at}
 use Rattle.vale_reading.specs.Gives.{Fails}
 
 listed_more : {X L : Type 0} (more : X → L → L) (xs : List X) (x : X) (end : L) → listed more (xs ++ x ∷ []) end ≡ listed more xs (more x end)
 listed_more more [] x end = refl
 listed_more more (y ∷ xs) x end = ap (more y) (listed_more more xs x end)
 
-front_more : {X L : Type 0} (more : X → L → L) (xs : List X) (x : X) (r : Read L) → with_front (listed more (xs ++ x ∷ [])) r ≡ with_front (listed more xs) (with_front (more x) r)
+pub front_more : {X L : Type 0} (more : X → L → L) (xs : List X) (x : X) (r : Read L) → with_front (listed more (xs ++ x ∷ [])) r ≡ with_front (listed more xs) (with_front (more x) r)
 front_more more xs x (Ok y) = ap (λ (l : _). Ok (l, y.1)) (listed_more more xs x y.0)
 front_more more xs x (Err e) = refl
 
-front_fails : {L : Type 0} (s : Stop) (f : L → L) (r : Read L) → Fails s r → Fails s (with_front f r)
+pub front_fails : {L : Type 0} (s : Stop) (f : L → L) (r : Read L) → Fails s r → Fails s (with_front f r)
 front_fails stop.Memory f r h = tt
 front_fails (stop.Unexpected ts) f r h = rw h refl
 front_fails (stop.TooDeep ts) f r h = rw h refl
@@ -29,21 +29,21 @@ front_none more (Ok y) = refl
 front_none more (Err e) = refl
 
 module _ {Y E L : Type 0} (turn : Reader (Turn Y E)) (more : Y → L → L) (end : E → L) (out : Reader L) where
-  one_more : (n : ℕ) (ts rest : List Token) (y : Y) → turn ts ≡ Ok (More y, rest) → turns_at turn more end out (suc n) ts ≡ with_front (more y) (turns_at turn more end out n rest)
+  pub one_more : (n : ℕ) (ts rest : List Token) (y : Y) → turn ts ≡ Ok (More y, rest) → turns_at turn more end out (suc n) ts ≡ with_front (more y) (turns_at turn more end out n rest)
   unfolding turns_at
   one_more n ts rest y h = rw h refl
 
-  at_end : (n : ℕ) (ts rest : List Token) (e : E) → turn ts ≡ Ok (End e, rest) → turns_at turn more end out (suc n) ts ≡ Ok (end e, rest)
+  pub at_end : (n : ℕ) (ts rest : List Token) (e : E) → turn ts ≡ Ok (End e, rest) → turns_at turn more end out (suc n) ts ≡ Ok (end e, rest)
   unfolding turns_at
   at_end n ts rest e h = rw h refl
 
-  failing : (n : ℕ) (ts : List Token) (s : Stop) → Fails s (turn ts) → Fails s (turns_at turn more end out (suc n) ts)
+  pub failing : (n : ℕ) (ts : List Token) (s : Stop) → Fails s (turn ts) → Fails s (turns_at turn more end out (suc n) ts)
   unfolding turns_at
   failing n ts stop.Memory h = tt
   failing n ts (stop.Unexpected us) h = rw h refl
   failing n ts (stop.TooDeep us) h = rw h refl
 
-  at_out : (ts : List Token) → turns_at turn more end out 0 ts ≡ out ts
+  pub at_out : (ts : List Token) → turns_at turn more end out 0 ts ≡ out ts
   unfolding turns_at
   at_out ts = refl
 
@@ -67,11 +67,6 @@ module _ {Y E L : Type 0} (turn : Reader (Turn Y E)) (more : Y → L → L) (end
 
     pub turns_over : (l : L) (rest : List Token) → count ≤ i → out ts ≡ Ok (l, rest) → total ≡ Ok (listed more (map v xs) l, rest)
     turns_over l rest le h =
-        let k : count - i ≡ 0 = omega arith in
-        sym so_far ∙ rw (k, at_out ts, h) refl
-
-    pub turns_out : (f : Fault) → count ≤ i → out ts ≡ Err f → total ≡ Err f
-    turns_out f le h =
         let k : count - i ≡ 0 = omega arith in
         sym so_far ∙ rw (k, at_out ts, h) refl
 

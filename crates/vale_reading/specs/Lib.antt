@@ -3,3 +3,4 @@ pub mod Reading
 pub mod ItemReading
 pub mod Gives
 pub mod Seen
+pub mod Turns

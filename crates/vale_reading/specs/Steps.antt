@@ -21,6 +21,10 @@ pub data Fault : Type 0 where
   unexpected : List Token → Fault
   too_deep : List Token → Fault
 
+abbrev pub from : Fault → List Token
+from (unexpected ts) = ts
+from (too_deep ts) = ts
+
 abbrev pub Read : Type 0 → Type 0
 Read A = Result (A × List Token) Fault
 

@@ -14,6 +14,7 @@ pub use basic::{
     purity, sign, unary_op, word,
 };
 pub use build::{after_form, after_plain, chained, parallel, stepped};
+pub use lists::{many, several};
 pub use names::Names;
 pub use stop::{Found, Statements, Stop, Turn};
 pub use types::Parser;

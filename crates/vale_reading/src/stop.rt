@@ -20,6 +20,18 @@ pub enum Stop<'t> {
 /// What was read, and the tokens after it.
 pub type Found<'t, X> = Result<(X, &'t [Token]), Stop<'t>>;
 
+/// What was read; where reading stopped, the function that says this stops as well. It is `?` for a function that stops in
+/// the same way: without the step from one kind of error to another, which is proved at each place.
+#[macro_export]
+macro_rules! read {
+    ($found:expr) => {
+        match $found {
+            Ok(found) => found,
+            Err(stop) => return Err(stop),
+        }
+    };
+}
+
 /// The statements of a block, and its last expression where there is one.
 pub type Statements = (Items<Stmt>, Option<Boxed<Expr>>);
 
