@@ -23,7 +23,7 @@ use Rattle.vale_reading.specs.declared.stop.Turn.TheVariants.{More, End}
 use Rattle.vale_reading.specs.Steps.{from, Fault, unexpected, too_deep, Read, Reader, ◌>>=◌, begins, begins_word, sign_at, word_at, name_at, turns_at, enough, faulty}
 use Rattle.vale_reading.specs.Reading.{comma_turn, others_at, commas_at, binary_op, height, of_height, link_op, unary_op, chained, stepped, Inner, inside, ref_by, ref_type_at, array_type_at, iso_type_at, type_by, type_at, block_at, else_by, else_turn_by, else_turn, elses_at, branch_at, bound_by, bound_at, parallel, parallel_at, pure_at, form_by, form_at, arguments_at, called_by, called_at, paren_at, array_at, iso_at, primary_by, primary_at, member_by, member_at, index_at, step_by, step_turn, steps_at, postfix_at, unary_by, unary_at, link_by, link_turn, no_more, most_links, links_at, level_at, set_at, whole_by, whole_at, args_at}
 use Rattle.vale_prefix.proofs.Parts.{Knows, Parts, ◌▸▸◌, Deep, Sign_, Word_, Nothing, Within, Whole, Viable, Some_, whole_within, whole_then, some_then, viable_first, whole_deep, Took, Reads, into, deep, step, last, done, if_reads, refused, spot, same_kind, one_whole, some_sign, some_word, sign_reads, word_reads, AName, some_name, name_reads, Turns, turns_read, tstep, adding, ending, into_turn, if_turns, ended, Only, only_turns, into_only, ostep, adds, after_one, only_after_one, once_read}
-use Rattle.vale_prefix.proofs.Operators.{unary_of, link_op_is}
+use Rattle.vale_reading_laws.proofs.Operators.{unary_of, link_op_is}
 
 -- ---- parts with some tree
 

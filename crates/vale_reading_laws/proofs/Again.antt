@@ -20,7 +20,7 @@ use Rattle.vale_reading.specs.Reading.{binary_op, height, of_height, link_op, ch
 use Rattle.vale_reading_laws.proofs.StepLaws.{sign_again, word_again, name_again}
 use Rattle.vale_reading_laws.proofs.Shorter.{shorter, shorter_link, shorter_step, shorter_else_if}
 use Rattle.vale_reading_laws.proofs.Firsts.{sticks, Above, Stops, NoParen, NoElse, Apart, Before, Any, Apart-stops, Stops-less, Stops-sign, binary_again, sticks_binary, unary_again, starts_no_close, chain_rank, first, type_no_imm, block_stops, block_no_if, block_no_dots}
-use Rattle.vale_reading_laws.proofs.Takes.{rank_is}
+use Rattle.vale_reading_laws.proofs.Operators.{rank_is}
 use Rattle.vale_reading_laws.proofs.AgainSteps.{Again, begins_again, begins_word_again, exprs_listed, links_listed, steps_listed, elses_listed, turns_again, commas_again}
 
 -- ---- operators

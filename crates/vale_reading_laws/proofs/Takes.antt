@@ -19,67 +19,8 @@ use Rattle.vale_reading.specs.declared.stop.Turn.{Turn}
 use Rattle.vale_reading.specs.declared.stop.Turn.TheVariants.{More, End}
 use Rattle.vale_reading.specs.Steps.{Read, Reader, begins, begins_word, name_at, turn_then, turns_at, enough, faulty}
 use Rattle.vale_reading.specs.Reading.{binary_op, height, of_height, link_op, unary_op, chained, stepped, Inner, inside, after_bracket, parallel, form_end, after_form, plain_end, after_plain, ref_by, ref_type_at, array_type_at, iso_type_at, type_by, type_at, block_at, else_by, else_turn_by, else_turn, elses_at, branch_at, bound_by, bound_at, parallel_at, pure_at, form_by, form_at, arguments_at, called_by, called_at, paren_at, array_at, iso_at, primary_by, primary_at, member_by, member_at, index_at, step_by, step_turn, steps_at, postfix_at, unary_by, unary_at, link_by, link_turn, no_more, most_links, links_at, level_at, set_at, whole_by, whole_at, args_at, plain_at, declare_at, names_at, destructure_at, return_by, return_at, while_at, foreach_at, form_stmt_at, named_by, bracket_by, stmt_by, stmt_turn, stmts_at, within}
+use Rattle.vale_reading_laws.proofs.Operators.{unary_of, link_op_is}
 use Rattle.vale_reading_laws.proofs.StepLaws.{given, returned, at_kind, sign_takes, word_takes, name_takes, front, Takes, by_turn, turns_takes, faulty_takes, commas_take}
-
--- ---- operators
-
-abbrev some : {A : Type 0} → A → Option A
-some x = Some x
-
-some_is : {A : Type 0} (x y : A) → some x ≡ some y → x ≡ y
-some_is x y e = cc
-
-binary_of : (kind : TokenKind) (op : BinaryOp) → binary_op kind ≡ Some op → kind ≡ binary_kind op
-binary_of (k.Word w.Or) op e = ap binary_kind (some_is b.Or op e)
-binary_of (k.Word w.And) op e = ap binary_kind (some_is b.And op e)
-binary_of (k.Sign s.Equal) op e = ap binary_kind (some_is b.Equal op e)
-binary_of (k.Sign s.NotEqual) op e = ap binary_kind (some_is b.NotEqual op e)
-binary_of (k.Sign s.Less) op e = ap binary_kind (some_is b.Less op e)
-binary_of (k.Sign s.LessEqual) op e = ap binary_kind (some_is b.LessEqual op e)
-binary_of (k.Sign s.Greater) op e = ap binary_kind (some_is b.Greater op e)
-binary_of (k.Sign s.GreaterEqual) op e = ap binary_kind (some_is b.GreaterEqual op e)
-binary_of (k.Sign s.Plus) op e = ap binary_kind (some_is b.Add op e)
-binary_of (k.Sign s.Minus) op e = ap binary_kind (some_is b.Sub op e)
-binary_of (k.Sign s.Star) op e = ap binary_kind (some_is b.Mul op e)
-binary_of (k.Sign s.Slash) op e = ap binary_kind (some_is b.Div op e)
-binary_of (k.Sign s.Percent) op e = ap binary_kind (some_is b.Rem op e)
-binary_of _ op e = absurd cc
-
-unary_of : (kind : TokenKind) (op : UnaryOp) → unary_op kind ≡ Some op → kind ≡ unary_kind op
-unary_of (k.Sign s.Minus) op e = ap unary_kind (some_is u.Minus op e)
-unary_of (k.Word w.Not) op e = ap unary_kind (some_is u.Not op e)
-unary_of (k.Sign s.Ampersand) op e = ap unary_kind (some_is u.Borrow op e)
-unary_of (k.Word w.Merge) op e = ap unary_kind (some_is u.Merge op e)
-unary_of _ op e = absurd cc
-
-if_rank : (b : Bool) (x op : BinaryOp) → cond b (Some x) None ≡ Some op → (b ≡ true) × (x ≡ op)
-if_rank true x op e = (refl, some_is x op e)
-if_rank false x op e = absurd cc
-
-of_height_is : (n : ℕ) (o : Option BinaryOp) (op : BinaryOp) → of_height n o ≡ Some op → (o ≡ Some op) × (height op ≡ n)
-of_height_is n None op e = absurd cc
-of_height_is n (Some x) op e =
-    let h = if_rank (eqb (height x) n) x op e in
-    (ap some h.1, subst (λ (z : BinaryOp). height z ≡ n) h.1 (eqb-true (height x) n h.0))
-
-pub rank_is : (op : BinaryOp) → rank op ≡ suc (suc (height op))
-rank_is b.Or = refl
-rank_is b.And = refl
-rank_is b.Equal = refl
-rank_is b.NotEqual = refl
-rank_is b.Less = refl
-rank_is b.LessEqual = refl
-rank_is b.Greater = refl
-rank_is b.GreaterEqual = refl
-rank_is b.Add = refl
-rank_is b.Sub = refl
-rank_is b.Mul = refl
-rank_is b.Div = refl
-rank_is b.Rem = refl
-
-link_op_is : (n : ℕ) (kind : TokenKind) (op : BinaryOp) → link_op n kind ≡ Some op → (kind ≡ binary_kind op) × (rank op ≡ suc (suc n))
-unfolding link_op
-link_op_is n kind op e = let h = of_height_is n (binary_op kind) op e in (binary_of kind op h.0, rank_is op ∙ ap (λ (z : ℕ). suc (suc z)) h.1)
 
 -- comparisons: at most one link
 abbrev AtMostOne : Links → Type 0
