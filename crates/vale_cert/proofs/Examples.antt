@@ -1,5 +1,5 @@
 -- What is certified and what is refused, in short codes.
-use Rattle.std.proofs.Common.{◌≡◌, ℕ, pos, List, [], ◌∷◌, ◌++◌, Option, Some, None, true, false, refl}
+use Rattle.std.proofs.Common.{◌≡◌, ℕ, pos, List, [], ◌∷◌, Option, Some, None, true, false, refl}
 use Rattle.std.specs.Prelude.{codes}
 use Rattle.vale_base.specs.declared.name.Kind.{Kind}
 use Rattle.vale_base.specs.declared.spot.Spot.{Spot}
@@ -8,7 +8,6 @@ use Rattle.vale_code.specs.declared.func.Func.{Func}
 use Rattle.vale_code.specs.declared.func.Impl.{Impl}
 use Rattle.vale_code.specs.declared.instr.Instr.{Instr}
 use Rattle.vale_code.specs.declared.instr.Instr.TheVariants as i
-use Rattle.vale_code.specs.declared.kind.Field.{Field}
 use Rattle.vale_code.specs.declared.kind.KindInfo.{KindInfo}
 use Rattle.vale_code.specs.declared.kind.KindInfo.TheVariants as k
 use Rattle.vale_code.specs.declared.kind.MethodInfo.{MethodInfo}
@@ -23,22 +22,22 @@ use Rattle.vale_cert.specs.declared.fault.Fault.{Fault}
 
 -- ---- words
 
-abbrev at : Spot
+abbrev pub at : Spot
 at = record { line = 1; col = 1 }
 
-abbrev kind : ℕ → Kind
+abbrev pub kind : ℕ → Kind
 kind n = record { 0 = n }
 
-abbrev function : ℕ → List Ty → Ty → List Instr → Func
+abbrev pub function : ℕ → List Ty → Ty → List Instr → Func
 function form params result body = record { name = 0; form = form; params = params; result = result; registers = 4; body = body }
 
-abbrev plain : List Ty → Ty → List Instr → Func
+abbrev pub plain : List Ty → Ty → List Instr → Func
 plain params result body = function 0 params result body
 
-abbrev code : List KindInfo → List Impl → List Func → Parts
+abbrev pub code : List KindInfo → List Impl → List Func → Parts
 code kinds impls funcs = record { texts = codes "main" ∷ []; kinds = kinds; impls = impls; funcs = funcs; main = 0 }
 
-abbrev facts : List Label → FuncFacts
+abbrev pub facts : List Label → FuncFacts
 facts labels = record { live = []; labels = labels }
 
 abbrev label : ℕ → List RegFact → Label
@@ -50,7 +49,7 @@ number = Held t.Int 0 false
 abbrev owner : RegFact
 owner = Held (t.Own (kind 0)) 0 false
 
-abbrev fails : ℕ → ℕ → Option Fault
+abbrev pub fails : ℕ → ℕ → Option Fault
 fails rule n = Some (record { rule = rule; at = n })
 
 -- only `main`, with these labels

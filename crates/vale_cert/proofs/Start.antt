@@ -1,27 +1,31 @@
 -- A run of certified code, from its start.
-use Rattle.std.proofs.Common.{◌≡◌, ◌≢◌, ℕ, zero, suc, ◌<◌, List, [], ◌∷◌, length, Option, Some, None, Bool, true, false, ◌==◌, refl, sym, ap, ◌∙◌, subst, arith}
+use Rattle.std.proofs.Common.{◌≡◌, ◌≢◌, ℕ, zero, suc, ◌+◌, ◌<◌, ◌≤◌, ℤ, List, [], ◌∷◌, length, replicate, Option, Some, None, true, ◌==◌, refl, sym, ap, ◌∙◌, subst, arith}
 use Rattle.std.specs.Prelude.{slice_get}
 use Rattle.std.proofs.lemmas.Bool.{and_parts}
-use Rattle.vale_state_spec.specs.Outcome.{End, Wrong}
+use Rattle.vale_state_spec.specs.Outcome.{Wrong}
 use Rattle.vale_state_spec.specs.State.{State, Given, no_input, numbers, lines, ints, texts, given, begin, born, function_frame}
-use Rattle.vale_state_spec.specs.World.{Value, Own, next_name}
+use Rattle.vale_state_spec.specs.World.{Value, Int, Text, Own, Freeze, Object, World, born as world_with, next_name}
 use Rattle.vale_base.specs.declared.name.Kind.{Kind}
-use Rattle.vale_code.specs.Enter.{Form, Plain, form_of, function, with_func, with_form, enter}
-use Rattle.vale_code.specs.Frames.{Config, Next, On, Over, wrong}
+use Rattle.vale_code.specs.Enter.{Form, Plain, form_of, with_func, with_form, enter}
+use Rattle.vale_code.specs.Frames.{Next, On, Over}
 use Rattle.vale_code.specs.Kinds.{kind_of, text_at}
 use Rattle.vale_code.specs.Parts.{Parts}
-use Rattle.vale_code.specs.Run.{Ending, EndsIn, exec, exec_by, then_go, last_state, start, with_input, if_plain, first_spot, ending_of, run_code}
+use Rattle.vale_code.specs.Run.{Ending, exec, then_go, last_state, start, with_input, if_plain, first_spot, ending_of, run_code}
 use Rattle.vale_code.specs.declared.func.Func.{Func}
 use Rattle.vale_code.specs.declared.kind.KindInfo.{KindInfo}
+use Rattle.vale_code.specs.declared.kind.KindInfo.TheVariants as k
 use Rattle.vale_code.specs.declared.ty.Ty.{Ty}
 use Rattle.vale_code.specs.declared.ty.Ty.TheVariants as t
 use Rattle.vale_code.proofs.Ends.{run_ends}
 use Rattle.vale_cert.specs.Certificate.{Certified}
 use Rattle.vale_cert.specs.Input.{is_input_of, params_take, function_takes, takes_input}
-use Rattle.vale_cert.specs.Shape.{is_main}
+use Rattle.vale_cert.specs.Objects.{cells_of}
 use Rattle.vale_cert.specs.declared.facts.FuncFacts.{FuncFacts}
-use Rattle.vale_cert.proofs.Fit.{ArgsFit}
-use Rattle.vale_cert.proofs.Safe.{NextFits, ConfigFits, entered, with_tick, never_wrong}
+use Rattle.vale_cert.proofs.Cells.{Each, leading, to_each, born_fits}
+use Rattle.vale_cert.proofs.Fit.{ArgsFit, WorldFits, has_plain}
+use Rattle.vale_cert.proofs.Heap.{in_values, in_world, alive, later_born, state_born, world_born, alive_born}
+use Rattle.vale_cert.proofs.Safe.{never_wrong}
+use Rattle.vale_cert.proofs.Standing.{NextFits, Quiet, names_it, entered, with_tick}
 use Rattle.vale_cert.proofs.Walks.{main_is_there, main_lawful}
 
 found_at : (fs : List Func) (n : ℕ) → n < length fs → (f : Func) × (slice_get fs n ≡ Some f)
@@ -45,17 +49,73 @@ module _ (code : Parts) (facts : List FuncFacts) (cert : Certified code facts) (
   abbrev begins_main : List Value → State → Next
   begins_main args s = enter code.main Plain main.0 (function_frame (text_at code main.0.name) first_spot) None args [] s
 
-  begins : (args : List Value) (s : State) → ArgsFit main.0.params args → NextFits code facts (begins_main args s)
-  begins args s has = entered code facts cert code.main main.0 (function_frame (text_at code main.0.name) first_spot) None args [] s main.1 plain has tt
+  begins : (args : List Value) (s : State) → ArgsFit code s.world main.0.params args → WorldFits code s.world → ((n : ℕ) → in_values n args + 0 + in_world n s.world ≤ alive n s.world) → NextFits code facts (begins_main args s)
+  begins args s has heap owned =
+      entered code facts cert code.main Plain main.0 (function_frame (text_at code main.0.name) first_spot) None args [] s main.1 tt (subst (λ n. Quiet (form_of n)) (sym plain) tt) has tt heap owned
+
+  nothing_there : WorldFits code []
+  nothing_there n o e = let x : ⊥ = cc in absurd x
 
   abbrev with_array : Kind → List Value → State → Next
   with_array kind values u = begins_main (Own (next_name u.world) ∷ []) (born kind values u)
 
+  -- the input array is made first
+  array_made : (kind : Kind) (item : Ty) (values : List Value) (u : State) → u.world ≡ [] → main.0.params ≡ t.Own kind ∷ [] → kind_of code kind ≡ Some (k.Array item) → Each code [] item values → ((n : ℕ) → in_values n values ≡ 0)
+      → NextFits code facts (with_array kind values u)
+  array_made kind item values u e params is each none =
+      subst (λ m. NextFits code facts (begins_main (Own m ∷ []) (born kind values u))) (sym (ap (λ w. next_name w) e))
+      (begins (Own 0 ∷ []) (born kind values u) (subst (λ w. ArgsFit code w main.0.params (Own 0 ∷ [])) (sym same_world) (subst (λ ps. ArgsFit code W ps (Own 0 ∷ [])) (sym params) has)) (subst (λ w. WorldFits code w) (sym same_world) heap)
+      (subst (λ w. (n : ℕ) → in_values n (Own 0 ∷ []) + 0 + in_world n w ≤ alive n w) (sym same_world) owned))
+    where
+      o : Object
+      o = record { region = Freeze u.regions; kind = kind; values = values }
+
+      W : World
+      W = world_with [] o
+
+      same_world : (born kind values u).world ≡ W
+      same_world = state_born kind values u ∙ ap (λ w. world_with w o) e
+
+      has : ArgsFit code W (t.Own kind ∷ []) (Own 0 ∷ [])
+      has = (leading code W (t.Own kind) (Own 0) kind 0 refl refl refl (names_it code facts W 0 o refl), tt)
+
+      heap : WorldFits code W
+      heap = born_fits code [] o (later_born [] o) nothing_there (record { tys = replicate (length values) item; cells = ap (λ i. cells_of i (length values)) is; values = to_each code [] item values each })
+
+      owned : (n : ℕ) → in_values n (Own 0 ∷ []) + 0 + in_world n W ≤ alive n W
+      owned n = let x = world_born n [] o in let y = alive_born n [] o in let z = none n in omega (arith, x, y, z)
+
+  ints_each : (zs : List ℤ) → Each code [] t.Int (ints zs)
+  ints_each [] = tt
+  ints_each (z ∷ zs) = (has_plain code [] t.Int (Int z) refl refl, ints_each zs)
+
+  texts_each : (ls : List (List ℕ)) → Each code [] t.Text (texts ls)
+  texts_each [] = tt
+  texts_each (l ∷ ls) = (has_plain code [] t.Text (Text l) refl refl, texts_each ls)
+
+  ints_own : (zs : List ℤ) (n : ℕ) → in_values n (ints zs) ≡ 0
+  ints_own [] n = refl
+  ints_own (z ∷ zs) n = let x = ints_own zs n in omega (arith, x)
+
+  texts_own : (ls : List (List ℕ)) (n : ℕ) → in_values n (texts ls) ≡ 0
+  texts_own [] n = refl
+  texts_own (l ∷ ls) n = let x = texts_own ls n in omega (arith, x)
+
+  array_of_ints : (zs : List ℤ) (o : Option KindInfo) → is_input_of (numbers zs) o ≡ true → o ≡ Some (k.Array t.Int)
+  array_of_ints zs (Some (k.Array t.Int)) e = refl
+  array_of_ints zs _ e = let x : ⊥ = cc in absurd x
+
+  array_of_texts : (ls : List (List ℕ)) (o : Option KindInfo) → is_input_of (lines ls) o ≡ true → o ≡ Some (k.Array t.Text)
+  array_of_texts ls (Some (k.Array t.Text)) e = refl
+  array_of_texts ls _ e = let x : ⊥ = cc in absurd x
+
   with_params : (ps : List Ty) (g : Given) → main.0.params ≡ ps → params_take code ps g ≡ true → NextFits code facts (with_input ps (given g) (begin ticks) begins_main)
-  with_params [] no_input e h = begins [] (begin ticks) (subst (λ ps. ArgsFit ps []) (sym e) tt)
+  with_params [] no_input e h = begins [] (begin ticks) (subst (λ ps. ArgsFit code [] ps []) (sym e) tt) nothing_there (λ n. omega arith)
   with_params (t.Own kind ∷ []) no_input e h = absurd (no_array_of_nothing (kind_of code kind) h)
-  with_params (t.Own kind ∷ []) (numbers zs) e h = with_tick code facts (begin ticks) (with_array kind (ints zs)) (λ u. begins (Own (next_name u.world) ∷ []) (born kind (ints zs) u) (subst (λ ps. ArgsFit ps (Own (next_name u.world) ∷ [])) (sym e) (refl, tt)))
-  with_params (t.Own kind ∷ []) (lines ls) e h = with_tick code facts (begin ticks) (with_array kind (texts ls)) (λ u. begins (Own (next_name u.world) ∷ []) (born kind (texts ls) u) (subst (λ ps. ArgsFit ps (Own (next_name u.world) ∷ [])) (sym e) (refl, tt)))
+  with_params (t.Own kind ∷ []) (numbers zs) e h =
+      with_tick code facts (begin ticks) (with_array kind (ints zs)) (λ u same_world. array_made kind t.Int (ints zs) u same_world e (array_of_ints zs (kind_of code kind) h) (ints_each zs) (ints_own zs))
+  with_params (t.Own kind ∷ []) (lines ls) e h =
+      with_tick code facts (begin ticks) (with_array kind (texts ls)) (λ u same_world. array_made kind t.Text (texts ls) u same_world e (array_of_texts ls (kind_of code kind) h) (texts_each ls) (texts_own ls))
   with_params _ _ e h = let x : ⊥ = cc in absurd x
 
   pub start_fits : NextFits code facts (start code input ticks)

@@ -1,17 +1,17 @@
 -- What the walk of a function says of each instruction.
-use Rattle.std.proofs.Common.{◌≡◌, ℕ, zero, suc, ◌+◌, ◌<◌, ◌≤◌, List, [], ◌∷◌, ◌++◌, length, Option, Some, None, Bool, true, false, ◌&&◌, ◌==◌, if◌then◌else◌, nat_lt, nat_le, refl, sym, ap, ◌∙◌, subst, ⊎_elim, ◌⊎◌, inl, inr, arith}
+use Rattle.std.proofs.Common.{◌≡◌, ℕ, zero, suc, ◌+◌, ◌<◌, ◌≤◌, List, [], ◌∷◌, ◌++◌, length, Option, Some, None, Bool, true, false, ◌&&◌, ◌==◌, if◌then◌else◌, nat_lt, nat_le, refl, ap, subst, ⊎_elim, arith}
 use Rattle.std.specs.Prelude.{slice_get}
 use Rattle.std.specs.List.{list_all}
 use Rattle.std.proofs.lemmas.Bool.{and_parts, cases_lt, eq-eqb}
 use Rattle.vale_code.specs.Parts.{Parts}
 use Rattle.vale_code.specs.declared.func.Func.{Func}
 use Rattle.vale_code.specs.declared.instr.Instr.{Instr}
-use Rattle.vale_cert.specs.Certificate.{first_fault, rule_one, Certified}
-use Rattle.vale_cert.specs.Known.{Known, entry, label_at, is_label, rise, may_enter, stated}
+use Rattle.vale_cert.specs.Certificate.{rule_one, Certified}
+use Rattle.vale_cert.specs.Known.{Known, entry, label_at, rise, may_enter, stated}
 use Rattle.vale_cert.specs.Numbers.{numbers}
-use Rattle.vale_cert.specs.Shape.{shape_fault, shape_fault_by, or_else as or_number, counted_after, kinds_fault, impls_fault, funcs_fault, func_is_lawful, head_is_lawful, body_is_lawful, has_live, label_is_lawful, fact_is_lawful, is_main}
+use Rattle.vale_cert.specs.Shape.{shape_fault, or_else as or_number, counted_after, kinds_fault, impls_fault, funcs_fault, func_is_lawful, head_is_lawful, body_is_lawful, has_live, label_is_lawful, fact_is_lawful, is_main}
 use Rattle.vale_cert.specs.Types.{reaches_isolate, ◌⇒◌}
-use Rattle.vale_cert.specs.Walk.{Rules, broken, fault_of, or_else, row_of, after, enters, has_target, next_of, is_place, rules, known_after, if_known, walk, goes_on, target_of, function_fault, functions_fault}
+use Rattle.vale_cert.specs.Walk.{broken, fault_of, or_else, row_of, after, enters, has_target, next_of, is_place, rules, known_after, if_known, walk, target_of, function_fault, functions_fault}
 use Rattle.vale_cert.specs.declared.facts.FuncFacts.{FuncFacts}
 use Rattle.vale_cert.specs.declared.facts.Label.{Label}
 use Rattle.vale_cert.specs.declared.fault.Fault.{Fault}
@@ -39,13 +39,13 @@ fault_none : (at : ℕ) (a : Option ℕ) → fault_of at a ≡ None → a ≡ No
 fault_none at None e = refl
 fault_none at (Some n) e = let x : ⊥ = cc in absurd x
 
-if_none : {A : Type 0} (b : Bool) (o : Option A) (x : A) → (if b then o else Some x) ≡ None → (b ≡ true) × (o ≡ None)
+pub if_none : {A : Type 0} (b : Bool) (o : Option A) (x : A) → (if b then o else Some x) ≡ None → (b ≡ true) × (o ≡ None)
 if_none true o x e = (refl, e)
 if_none false o x e = let y : ⊥ = cc in absurd y
 
-all_kept : (a b c d g : Bool) → broken ((2, a) ∷ (3, b) ∷ (4, c) ∷ (5, d) ∷ (7, g) ∷ []) ≡ None → (a ≡ true) × (b ≡ true) × (c ≡ true) × (d ≡ true) × (g ≡ true)
-all_kept true true true true true e = (refl, refl, refl, refl, refl)
-all_kept _ _ _ _ _ e = let x : ⊥ = cc in absurd x
+all_kept : (a b c d l g : Bool) → broken ((2, a) ∷ (3, b) ∷ (4, c) ∷ (5, d) ∷ (6, l) ∷ (7, g) ∷ []) ≡ None → (a ≡ true) × (b ≡ true) × (c ≡ true) × (d ≡ true) × (l ≡ true) × (g ≡ true)
+all_kept true true true true true true e = (refl, refl, refl, refl, refl, refl)
+all_kept _ _ _ _ _ _ e = let x : ⊥ = cc in absurd x
 
 implied : (a b : Bool) → (a ⇒ b) ≡ true → a ≡ true → b ≡ true
 implied true b e t = e
@@ -59,6 +59,7 @@ module _ (code : Parts) (f : Func) (labels : List Label) (base : ℕ) where
     pub types : (row_of code f labels base instr known).kept.types ≡ true
     pub present : (row_of code f labels base instr known).kept.present ≡ true
     pub depths : (row_of code f labels base instr known).kept.depths ≡ true
+    pub lives : (row_of code f labels base instr known).lives ≡ true
     pub enters_target : enters code f labels base (target_of instr) (after code f labels base instr known) ≡ true
     pub enters_next : enters code f labels base (next_of code f labels base p instr) (after code f labels base instr known) ≡ true
     pub target : has_target code f labels base (target_of instr) ≡ true
@@ -67,6 +68,9 @@ module _ (code : Parts) (f : Func) (labels : List Label) (base : ℕ) where
   module _ (p : ℕ) (came : Bool) (instr : Instr) (known : Known) where
     abbrev kept : Kept
     kept = (row_of code f labels base instr known).kept
+
+    abbrev lives : Bool
+    lives = (row_of code f labels base instr known).lives
 
     abbrev to_target : Bool
     to_target = enters code f labels base (target_of instr) (after code f labels base instr known)
@@ -80,13 +84,13 @@ module _ (code : Parts) (f : Func) (labels : List Label) (base : ℕ) where
     abbrev has_place : Bool
     has_place = is_place code f labels base (next_of code f labels base p instr)
 
-    all : broken (rules code f labels base p came instr known) ≡ None → (kept.types ≡ true) × (kept.present ≡ true) × (kept.depths ≡ true) × ((came && to_target && to_next) ≡ true) × ((has_label && has_place) ≡ true)
-    all e = all_kept kept.types kept.present kept.depths (came && to_target && to_next) (has_label && has_place) e
+    all : broken (rules code f labels base p came instr known) ≡ None → (kept.types ≡ true) × (kept.present ≡ true) × (kept.depths ≡ true) × ((came && to_target && to_next) ≡ true) × (lives ≡ true) × ((has_label && has_place) ≡ true)
+    all e = all_kept kept.types kept.present kept.depths (came && to_target && to_next) lives (has_label && has_place) e
 
     keeps : broken (rules code f labels base p came instr known) ≡ None → Keeps p instr known
     keeps e =
-        let a = all e in let x = and_parts (came && to_target) to_next a.3 in let y = and_parts has_label has_place a.4 in
-        record { types = a.0; present = a.1; depths = a.2; enters_target = (and_parts came to_target x.0).1; enters_next = x.1; target = y.0; next = y.1 }
+        let a = all e in let x = and_parts (came && to_target) to_next a.3 in let y = and_parts has_label has_place a.5 in
+        record { types = a.0; present = a.1; depths = a.2; lives = a.4; enters_target = (and_parts came to_target x.0).1; enters_next = x.1; target = y.0; next = y.1 }
 
     came_in : broken (rules code f labels base p came instr known) ≡ None → came ≡ true
     came_in e = (and_parts came to_target (and_parts (came && to_target) to_next (all e).3).0).0
@@ -153,6 +157,7 @@ pub record Judged (code : Parts) (f : Func) (facts : FuncFacts) : Type 0 where
   pub came : Bool
   pub some : 0 < length f.body
   pub numbered : list_all (numbers code f.registers) f.body ≡ true
+  pub labels_lawful : list_all (label_is_lawful code (reaches_isolate code) f) facts.labels ≡ true
   pub within : (p : ℕ) (label : Label) → label_at facts.labels p ≡ Some label → p < length f.body
   pub enters : may_enter (label_at facts.labels 0) (entry f facts) ≡ true
   pub walks : walk code f facts.labels base 0 f.body came (Some (entry f facts)) ≡ None
@@ -202,7 +207,7 @@ walked code base zero (g ∷ fs) (o ∷ facts) f of e h k =
 walked code base (suc n) (g ∷ fs) (o ∷ facts) f of e h k = walked code (base + length g.body) n fs facts f of (or_else_none (function_fault code base g o) (functions_fault code (base + length g.body) fs facts) e).1 h k
 
 module _ (code : Parts) (facts : List FuncFacts) (cert : Certified code facts) where
-  abbrev reaches : ℕ → Bool
+  abbrev pub reaches : ℕ → Bool
   reaches = reaches_isolate code
 
   parts : (shape_fault code facts ≡ None) × (functions_fault code 0 code.funcs facts ≡ None)
@@ -216,6 +221,20 @@ module _ (code : Parts) (facts : List FuncFacts) (cert : Certified code facts) w
       let middle = counted_after (length code.kinds) (impls_fault code 0 [] code.impls) in
       counted_none (length code.kinds + length code.impls) (funcs_fault code reaches 0 code.funcs facts)
       (or_number_none middle last (or_number_none (kinds_fault code reaches 0 code.kinds) (or_number middle last) parts.0).1).1
+
+  -- each kind and each implementation is as it must be
+  pub kinds_lawful : kinds_fault code reaches 0 code.kinds ≡ None
+  kinds_lawful =
+      let last = counted_after (length code.kinds + length code.impls) (funcs_fault code reaches 0 code.funcs facts) in
+      let middle = counted_after (length code.kinds) (impls_fault code 0 [] code.impls) in
+      (or_number_none (kinds_fault code reaches 0 code.kinds) (or_number middle last) parts.0).0
+
+  pub impls_lawful : impls_fault code 0 [] code.impls ≡ None
+  impls_lawful =
+      let last = counted_after (length code.kinds + length code.impls) (funcs_fault code reaches 0 code.funcs facts) in
+      let middle = counted_after (length code.kinds) (impls_fault code 0 [] code.impls) in
+      counted_none (length code.kinds) (impls_fault code 0 [] code.impls)
+      (or_number_none middle last (or_number_none (kinds_fault code reaches 0 code.kinds) (or_number middle last) parts.0).1).0
 
   pub main_is_there : code.main < length code.funcs
   main_is_there = let x : code.main < 0 + length code.funcs = main_within code reaches 0 code.funcs facts functions_lawful in omega arith
@@ -255,6 +274,7 @@ module _ (code : Parts) (facts : List FuncFacts) (cert : Certified code facts) w
           came = may;
           some = some;
           numbered = body.1;
+          labels_lawful = s.labels;
           within = λ p label e. lawful_within code reaches f s.of.labels p label s.labels e;
           enters = came_in_whole code f s.of.labels w.0 f.body may (Some (entry f s.of)) some r.1;
           walks = r.1;

@@ -3,7 +3,7 @@
 use Rattle.std.specs.Prelude.{◌≡◌, ℕ, List, Option, Some, None}
 use Rattle.vale_code.specs.Parts.{Parts}
 use Rattle.vale_cert.specs.Shape.{shape_fault}
-use Rattle.vale_cert.specs.Walk.{fault_of, or_else, functions_fault}
+use Rattle.vale_cert.specs.Walk.{or_else, functions_fault}
 use Rattle.vale_cert.specs.declared.facts.FuncFacts.{FuncFacts}
 use Rattle.vale_cert.specs.declared.fault.Fault.{Fault}
 

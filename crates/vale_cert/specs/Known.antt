@@ -4,7 +4,6 @@ use Rattle.std.specs.List.{list_any}
 use Rattle.vale_code.specs.Kinds.{same_type}
 use Rattle.vale_code.specs.declared.func.Func.{Func}
 use Rattle.vale_code.specs.declared.ty.Ty.{Ty}
-use Rattle.vale_code.specs.declared.ty.Ty.TheVariants as t
 use Rattle.vale_cert.specs.Types.{◌⇒◌, is_owned}
 use Rattle.vale_cert.specs.declared.facts.FuncFacts.{FuncFacts}
 use Rattle.vale_cert.specs.declared.facts.Label.{Label}

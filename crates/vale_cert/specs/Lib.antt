@@ -2,6 +2,7 @@ pub mod Certificate
 pub mod Input
 pub mod Known
 pub mod Numbers
+pub mod Objects
 pub mod Rules
 pub mod Shape
 pub mod Small

@@ -2,7 +2,6 @@
 -- isn't, where kinds, implementations and functions are counted in this order.
 use Rattle.std.specs.Prelude.{ℕ, zero, suc, ◌+◌, List, [], ◌∷◌, ◌++◌, length, Option, Some, None, Bool, true, false, not, ◌&&◌, ◌||◌, ◌==◌, nat_lt, nat_le, if◌then◌else◌, slice_get}
 use Rattle.std.specs.List.{list_any, list_all}
-use Rattle.vale_base.specs.declared.name.Kind.{Kind}
 use Rattle.vale_code.specs.Kinds.{kind_of, same_type}
 use Rattle.vale_code.specs.Parts.{Parts}
 use Rattle.vale_code.specs.declared.func.Func.{Func}

@@ -1,16 +1,14 @@
 -- The rules of all instructions, in order: what is known before each, which a label replaces, and what each leads to.
-use Rattle.std.specs.Prelude.{ℕ, ◌+◌, List, [], ◌∷◌, length, Option, Some, None, Bool, true, false, not, ◌&&◌, ◌||◌, nat_lt, if◌then◌else◌}
+use Rattle.std.specs.Prelude.{ℕ, ◌+◌, List, [], ◌∷◌, length, Option, Some, None, Bool, true, false, ◌&&◌, nat_lt, if◌then◌else◌}
 use Rattle.vale_code.specs.Parts.{Parts}
 use Rattle.vale_code.specs.declared.func.Func.{Func}
 use Rattle.vale_code.specs.declared.instr.Instr.{Instr}
 use Rattle.vale_code.specs.declared.instr.Instr.TheVariants as i
-use Rattle.vale_cert.specs.Types.{◌⇒◌}
 use Rattle.vale_cert.specs.Known.{Known, entry, label_at, is_label, rise, may_enter, stated}
-use Rattle.vale_cert.specs.Rules.{Row, row}
+use Rattle.vale_cert.specs.Rules.{Effect, effect, Row, row}
 use Rattle.vale_cert.specs.declared.facts.FuncFacts.{FuncFacts}
 use Rattle.vale_cert.specs.declared.facts.Label.{Label}
 use Rattle.vale_cert.specs.declared.fault.Fault.{Fault}
-use Rattle.vale_cert.specs.declared.rules.Kept.{Kept}
 
 -- ---- where an instruction leads
 
@@ -47,12 +45,15 @@ or_else (Some fault) o = Some fault
 -- ---- one function, whose first instruction has this number among those of all functions
 
 module _ (code : Parts) (f : Func) (labels : List Label) (base : ℕ) where
+  abbrev pub effect_of : Instr → Known → Effect
+  effect_of instr known = effect code f.result known.depth known.regs instr
+
   abbrev pub row_of : Instr → Known → Row
   row_of instr known = row code f.result known.depth known.regs instr
 
   -- what is known after an instruction
   abbrev pub after : Instr → Known → Known
-  after instr known = record { depth = known.depth; regs = (row_of instr known).after }
+  after instr known = record { depth = (row_of instr known).depth; regs = (row_of instr known).after }
 
   abbrev pub enters : Option ℕ → Known → Bool
   enters None known = true
@@ -77,6 +78,7 @@ module _ (code : Parts) (f : Func) (labels : List Label) (base : ℕ) where
       ∷ (3, (row_of instr known).kept.present)
       ∷ (4, (row_of instr known).kept.depths)
       ∷ (5, came && enters (target_of instr) (after instr known) && enters (next_of p instr) (after instr known))
+      ∷ (6, (row_of instr known).lives)
       ∷ (7, has_target (target_of instr) && is_place (next_of p instr)) ∷ []
 
   abbrev pub known_after : Instr → Known → Option Known
