@@ -21,7 +21,7 @@ use Rattle.vale_code.specs.declared.instr.Instr.TheVariants as i
 use Rattle.vale_code.specs.declared.ty.Ty.{Ty as CodeTy}
 use Rattle.vale_code.specs.declared.ty.Ty.TheVariants as t
 use Rattle.vale_cert.specs.Known.{Known, fact_of}
-use Rattle.vale_cert.specs.Rules.{Row, gets, passes_all, comes_back, all_fine, calls, call_by_form}
+use Rattle.vale_cert.specs.Rules.{Effect, gets, passes_all, comes_back, all_fine, calls, call_by_form}
 use Rattle.vale_cert.specs.declared.facts.RegFact.TheVariants.{Held}
 use Rattle.vale_served_spec.specs.Served.{type_is_served, built_in_is_served}
 use Rattle.vale_lowering.specs.Instructions.{registers_from, built_in_code}
@@ -137,11 +137,11 @@ module _ (k : Site) where
   )
 
   -- what comes back from a call
-  record Back (to : ℕ) (x : Ty) (known : Known) (s : Stand) (row : Row) : Type 0 where
+  record Back (to : ℕ) (x : Ty) (known : Known) (s : Stand) (row : Effect) : Type 0 where
     fine : Fine row.kept
     covers : Covers k (record { depth = known.depth; regs = row.after }) (given (y.is_copy x) to x s)
 
-  gets_back : (to : ℕ) (x : Ty) (known : Known) (s : Stand) (row : Row) → y.is_copy x ≡ true → comes_back known.depth (code_type x) to row ≡ gets known.depth row.after to (code_type x) row.kept → Fine row.kept → row.after ≡ known.regs → Covers k known s → Back to x known s (comes_back known.depth (code_type x) to row)
+  gets_back : (to : ℕ) (x : Ty) (known : Known) (s : Stand) (row : Effect) → y.is_copy x ≡ true → comes_back known.depth (code_type x) to row ≡ gets known.depth row.after to (code_type x) row.kept → Fine row.kept → row.after ≡ known.regs → Covers k known s → Back to x known s (comes_back known.depth (code_type x) to row)
   gets_back to x known s row copy e f same c =
       subst (Back to x known s) (sym e)
       (record {
@@ -151,7 +151,7 @@ module _ (k : Site) where
             (subst (λ r. Covers k (record { depth = known.depth; regs = slice_set r to (Held (code_type x) known.depth false) }) (with_slot (holds to x) s)) (sym same) (covers_write k (holds to x) (copies_too x copy) c));
       })
 
-  comes_does : (to : ℕ) (x : Ty) (known : Known) (s : Stand) (row : Row) → type_is_served x ≡ true → Fine row.kept → row.after ≡ known.regs → Covers k known s → Back to x known s (comes_back known.depth (code_type x) to row)
+  comes_does : (to : ℕ) (x : Ty) (known : Known) (s : Stand) (row : Effect) → type_is_served x ≡ true → Fine row.kept → row.after ≡ known.regs → Covers k known s → Back to x known s (comes_back known.depth (code_type x) to row)
   comes_does to y.int known s row cov f same c = gets_back to y.int known s row refl refl f same c
   comes_does to y.bool known s row cov f same c = gets_back to y.bool known s row refl refl f same c
   comes_does to y.str known s row cov f same c = gets_back to y.str known s row refl refl f same c
@@ -166,7 +166,7 @@ module _ (k : Site) where
     abbrev instr : Instr
     instr = i.Call h n (registers_from h (count es)) at
 
-    abbrev passing : Known → Row
+    abbrev passing : Known → Effect
     passing known = passes_all known.depth (map code_type (types es)) (registers_from h (length (types es))) (all_fine known.regs)
 
     passing_is : (known : Known) → passes_all known.depth fc.func.params (registers_from h (count es)) (all_fine known.regs) ≡ passing known

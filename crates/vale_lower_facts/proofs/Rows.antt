@@ -15,7 +15,7 @@ use Rattle.vale_cert.specs.Types.{is_copy}
 use Rattle.vale_cert.specs.Known.{Known, fact_of, is_there, has}
 use Rattle.vale_code.proofs.OperandLaws.{below_room}
 use Rattle.vale_cert.specs.Numbers.{numbers, in_tables, is_void_call}
-use Rattle.vale_cert.specs.Rules.{Row, fine, reads, uses, gets, copy_of, is_copied, is_usable, is_ordered, is_comparable, are_alike, is_printable, is_short, if_types, passed, passes_all}
+use Rattle.vale_cert.specs.Rules.{Effect, fine, reads, uses, gets, copy_of, is_copied, is_usable, is_ordered, is_comparable, are_alike, is_printable, is_short, if_types, passed, passes_all}
 use Rattle.vale_cert.specs.Walk.{goes_on, target_of}
 use Rattle.vale_cert.specs.declared.facts.RegFact.{RegFact}
 use Rattle.vale_cert.specs.declared.facts.RegFact.TheVariants.{Held}
@@ -280,7 +280,7 @@ module _ (k : Site) where
   Stored regs h [] = Unit {0}
   Stored regs h (ty ∷ tys) = (fact_of regs h ≡ Held (code_type ty) 0 false) × Stored regs (h + 1) tys
 
-  one_passed : (depth : ℕ) (regs : List RegFact) (h : ℕ) (ty : CodeTy) (row : Row) → is_copy ty ≡ true → fact_of regs h ≡ Held ty 0 false → row.after ≡ regs → Fine row.kept → Fine (passed depth h ty row).kept × ((passed depth h ty row).after ≡ regs)
+  one_passed : (depth : ℕ) (regs : List RegFact) (h : ℕ) (ty : CodeTy) (row : Effect) → is_copy ty ≡ true → fact_of regs h ≡ Held ty 0 false → row.after ≡ regs → Fine row.kept → Fine (passed depth h ty row).kept × ((passed depth h ty row).after ≡ regs)
   one_passed depth regs h t.Int row copy e same f = (uses_fine depth row.after h f copy (ap (λ q. fact_of q h) same ∙ e), same)
   one_passed depth regs h t.Truth row copy e same f = (uses_fine depth row.after h f copy (ap (λ q. fact_of q h) same ∙ e), same)
   one_passed depth regs h t.Text row copy e same f = (uses_fine depth row.after h f copy (ap (λ q. fact_of q h) same ∙ e), same)
@@ -290,7 +290,7 @@ module _ (k : Site) where
   one_passed depth regs h (t.Frozen m) row copy e same f = absurd (cc)
   one_passed depth regs h (t.Iso m) row copy e same f = absurd (cc)
 
-  pub all_passed : (depth : ℕ) (regs : List RegFact) (h : ℕ) (tys : List Ty) (row : Row) → list_all y.is_copy tys ≡ true → Stored regs h tys → row.after ≡ regs → Fine row.kept
+  pub all_passed : (depth : ℕ) (regs : List RegFact) (h : ℕ) (tys : List Ty) (row : Effect) → list_all y.is_copy tys ≡ true → Stored regs h tys → row.after ≡ regs → Fine row.kept
       → Fine (passes_all depth (map code_type tys) (registers_from h (length tys)) row).kept × ((passes_all depth (map code_type tys) (registers_from h (length tys)) row).after ≡ regs)
   all_passed depth regs h [] row copy st same f = (f, same)
   all_passed depth regs h (ty ∷ tys) row copy st same f =

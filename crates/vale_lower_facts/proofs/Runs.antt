@@ -10,8 +10,8 @@ use Rattle.vale_code.specs.declared.instr.Instr.TheVariants as i
 use Rattle.vale_code.specs.declared.ty.Ty.TheVariants as t
 use Rattle.vale_cert.specs.Known.{Known, fact_of, is_there, has, label_at, is_label, may_enter, stated}
 use Rattle.vale_cert.specs.Numbers.{numbers}
-use Rattle.vale_cert.specs.Rules.{Row}
-use Rattle.vale_cert.specs.Walk.{Rules, broken, fault_of, or_else, row_of, after, enters, has_target, next_of, is_place, rules, known_after, if_known, walk, goes_on, target_of}
+use Rattle.vale_cert.specs.Rules.{Effect}
+use Rattle.vale_cert.specs.Walk.{Rules, broken, fault_of, or_else, effect_of, after, enters, has_target, next_of, is_place, rules, known_after, if_known, walk, goes_on, target_of}
 use Rattle.vale_cert.specs.declared.facts.Label.{Label}
 use Rattle.vale_cert.specs.declared.facts.RegFact.TheVariants.{Held}
 use Rattle.vale_cert.specs.declared.fault.Fault.{Fault}
@@ -31,8 +31,8 @@ module _ (k : Site) where
   abbrev pub W : ℕ → List Instr → Option Known → Option Fault
   W p is o = walk k.code k.func k.labels k.base p is true o
 
-  abbrev pub row_at : Instr → Known → Row
-  row_at instr known = row_of k.code k.func k.labels k.base instr known
+  abbrev pub row_at : Instr → Known → Effect
+  row_at instr known = effect_of k.code k.func k.labels k.base instr known
 
   abbrev pub next_known : Instr → Known → Known
   next_known instr known = after k.code k.func k.labels k.base instr known
@@ -77,22 +77,22 @@ module _ (k : Site) where
     abbrev places : Bool
     places = has_target k.code k.func k.labels k.base (target_of instr) && is_place k.code k.func k.labels k.base (next_of k.code k.func k.labels k.base p instr)
 
-    abbrev last_two : Rules
-    last_two = (5, into) ∷ (7, places) ∷ []
+    abbrev last_three : Rules
+    last_three = (5, into) ∷ (6, true) ∷ (7, places) ∷ []
 
-    two_kept : into ≡ true → places ≡ true → broken last_two ≡ None
-    two_kept a b = one_kept 5 into ((7, places) ∷ []) a (one_kept 7 places [] b refl)
+    last_kept : into ≡ true → places ≡ true → broken last_three ≡ None
+    last_kept a b = one_kept 5 into ((6, true) ∷ (7, places) ∷ []) a (one_kept 6 true ((7, places) ∷ []) refl (one_kept 7 places [] b refl))
 
-    none_broken : (row_at instr known).kept.types ≡ true → (row_at instr known).kept.present ≡ true → (row_at instr known).kept.depths ≡ true → broken last_two ≡ None → broken (rules k.code k.func k.labels k.base p true instr known) ≡ None
+    none_broken : (row_at instr known).kept.types ≡ true → (row_at instr known).kept.present ≡ true → (row_at instr known).kept.depths ≡ true → broken last_three ≡ None → broken (rules k.code k.func k.labels k.base p true instr known) ≡ None
     none_broken a b c two =
-        one_kept 2 (row_at instr known).kept.types ((3, (row_at instr known).kept.present) ∷ (4, (row_at instr known).kept.depths) ∷ last_two) a
-        (one_kept 3 (row_at instr known).kept.present ((4, (row_at instr known).kept.depths) ∷ last_two) b
-        (one_kept 4 (row_at instr known).kept.depths last_two c two))
+        one_kept 2 (row_at instr known).kept.types ((3, (row_at instr known).kept.present) ∷ (4, (row_at instr known).kept.depths) ∷ last_three) a
+        (one_kept 3 (row_at instr known).kept.present ((4, (row_at instr known).kept.depths) ∷ last_three) b
+        (one_kept 4 (row_at instr known).kept.depths last_three c two))
 
   goes_on_well : (p : ℕ) (instr : Instr) (known : Known) (rest : List Instr) → Goes p instr known rest → go_on p instr rest known ≡ None
   goes_on_well p instr known rest g =
       ap (λ b. or_else (fault_of (k.base + p) b) (W (p + 1) rest (known_after k.code k.func k.labels k.base instr known)))
-      (none_broken p instr known g.types g.present g.depths (two_kept p instr known (and_from _ _ g.to_target g.to_next) (and_from _ _ g.target g.next)))
+      (none_broken p instr known g.types g.present g.depths (last_kept p instr known (and_from _ _ g.to_target g.to_next) (and_from _ _ g.target g.next)))
       ∙ g.walks
 
   walk_by : (p : ℕ) (instr : Instr) (rest : List Instr) (o : Option Known) (known : Known) → stated (label_at k.labels p) o ≡ Some known → Goes p instr known rest → W p (instr ∷ rest) o ≡ None

@@ -1,16 +1,17 @@
 -- How the walk goes through the shapes of code: tests with their sides, loops and returns.
-use Rattle.std.proofs.Common.{◌≡◌, ℕ, zero, suc, ◌+◌, ◌<◌, List, [], ◌∷◌, ◌++◌, length, Some, None, Bool, true, false, refl, sym, ap, ◌∙◌, subst, arith, length-append, append_assoc}
+use Rattle.std.proofs.Common.{◌≡◌, ℕ, zero, suc, ◌+◌, ◌<◌, List, [], ◌∷◌, ◌++◌, length, Some, None, Bool, true, false, not, refl, sym, ap, ◌∙◌, subst, arith, length-append, append_assoc}
 use Rattle.std.specs.Prelude.{slice_set}
 use Rattle.std.specs.List.{list_all}
 use Rattle.std.proofs.lemmas.Bool.{and_from, eq-eqb}
 use Rattle.std.proofs.lemmas.List.Folds.{list_all-append}
 use Rattle.vale_code.specs.declared.instr.Instr.{Instr}
 use Rattle.vale_code.specs.declared.instr.Instr.TheVariants as i
+use Rattle.vale_code.specs.declared.ty.Ty.{Ty as CodeTy}
 use Rattle.vale_code.specs.declared.ty.Ty.TheVariants as t
 use Rattle.vale_cert.specs.Known.{Known, fact_of, is_there, has, is_free, label_at}
 use Rattle.vale_cert.specs.Numbers.{numbers}
 use Rattle.vale_cert.specs.Rules.{is_usable}
-use Rattle.vale_cert.specs.Types.{is_void}
+use Rattle.vale_cert.specs.Types.{is_void, is_copy}
 use Rattle.vale_cert.specs.declared.facts.RegFact.{RegFact}
 use Rattle.vale_cert.specs.declared.facts.RegFact.TheVariants.{Empty}
 use Rattle.vale_lower_facts.specs.Slots.{Stand, behind, type_at}
@@ -189,6 +190,10 @@ module _ (k : Site) where
 
   -- ---- returns
 
+  not_void : (ty : CodeTy) → is_copy ty ≡ true → not (is_void ty) ≡ true
+  not_void t.Void e = let x : ⊥ = cc in absurd x
+  not_void _ e = refl
+
   all_free : (regs : List RegFact) → ((r : ℕ) → is_plain (fact_of regs r) ≡ true) → list_all is_free regs ≡ true
   all_free [] h = refl
   all_free (x ∷ regs) h = and_from (is_free x) (list_all is_free regs) (plain_free x (h 0)) (all_free regs (λ r. h (suc r)))
@@ -211,7 +216,7 @@ module _ (k : Site) where
       let e = c.held h k.func.result lt is in
       let o = own k.func.result (subst (λ x. is_plain x ≡ true) e (c.plain h)) in
       record {
-        types = ap (has k.func.result) e ∙ o.has_it;
+        types = and_from _ _ (not_void k.func.result (subst (λ x. is_plain x ≡ true) e (c.plain h))) (ap (has k.func.result) e ∙ o.has_it);
         present = and_from _ _ (ap is_there e) (all_free (slice_set known.regs h Empty) (emptied known.regs h c.plain));
         depths = and_from _ _ (ap (is_usable known.depth) e ∙ o.usable known.depth) (eq-eqb known.depth 0 c.depth);
       }
