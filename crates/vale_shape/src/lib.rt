@@ -11,4 +11,5 @@ mod shape;
 mod types;
 
 pub use first::{facts_of, shape_fault};
-pub use types::{is_copy, is_owned, is_void, same_type};
+pub use lawful::kind_of;
+pub use types::{is_copy, is_frozen, is_owned, is_void, same_type};

@@ -9,7 +9,7 @@ use Rattle.vale_code.specs.declared.func.Func.{Func}
 use Rattle.vale_code.specs.declared.instr.Instr.{Instr}
 use Rattle.vale_cert.specs.Known.{Known, label_at, stated, may_enter}
 use Rattle.vale_cert.specs.Rules.{Row, row}
-use Rattle.vale_cert.specs.Walk.{broken, rules, enters, has_target, next_of, is_place, target_of, walk, goes_on, if_known, or_else, fault_of, known_after}
+use Rattle.vale_cert.specs.Walk.{after, broken, rules, enters, has_target, next_of, is_place, target_of, walk, goes_on, if_known, or_else, fault_of, known_after}
 use Rattle.vale_cert.specs.declared.facts.Label.{Label}
 use Rattle.vale_cert.specs.declared.facts.RegFact.{RegFact}
 use Rattle.vale_cert.specs.declared.fault.Fault.{Fault}
@@ -18,36 +18,29 @@ use Rattle.vale_verifier.specs.Walking.{states_all}
 
 -- ---- the rules of one instruction
 
-all_of : (kept : Kept) (came a b l : Bool) → broken ((2, kept.types) ∷ (3, kept.present) ∷ (4, kept.depths) ∷ (5, came && (a && b)) ∷ (7, l) ∷ []) ≡ broken ((2, kept.types) ∷ (3, kept.present) ∷ (4, kept.depths) ∷ (5, came && a && b) ∷ (7, l) ∷ [])
-all_of kept true a b l = refl
-all_of kept false a b l = refl
+all_of : (kept : Kept) (came a b v l : Bool) → broken ((2, kept.types) ∷ (3, kept.present) ∷ (4, kept.depths) ∷ (5, came && (a && b)) ∷ (6, v) ∷ (7, l) ∷ []) ≡ broken ((2, kept.types) ∷ (3, kept.present) ∷ (4, kept.depths) ∷ (5, came && a && b) ∷ (6, v) ∷ (7, l) ∷ [])
+all_of kept true a b v l = refl
+all_of kept false a b v l = refl
 
-module _ (code : Parts) (f : Func) (labels : List Label) (base p : ℕ) (came : Bool) (instr : Instr) (depth : ℕ) where
-  -- what the registers are after it
-  abbrev behind : List RegFact → Known
-  behind regs = record { depth = depth; regs = regs }
-
-  abbrev enters_both : List RegFact → Bool
-  enters_both regs = enters code f labels base (target_of instr) (behind regs) && enters code f labels base (next_of code f labels base p instr) (behind regs)
+module _ (code : Parts) (f : Func) (labels : List Label) (base p : ℕ) (came : Bool) (instr : Instr) (known : Known) where
+  -- what is known after it
+  abbrev then_known : Row → Known
+  then_known r = record { depth = r.depth; regs = r.after }
 
   abbrev leads : Bool
   leads = has_target code f labels base (target_of instr) && is_place code f labels base (next_of code f labels base p instr)
 
-  by_row : (old : List RegFact) (e : Bool) (l : Bool) (r : Row) → row code f.result depth old instr ≡ r → e ≡ enters_both r.after → l ≡ leads
-      → broken ((2, r.kept.types) ∷ (3, r.kept.present) ∷ (4, r.kept.depths) ∷ (5, came && e) ∷ (7, l) ∷ []) ≡ broken (rules code f labels base p came instr (record { depth = depth; regs = old }))
-  by_row old e l r is entered led =
+  pub judged : (e l : Bool) (r : Row) → row code f.result known.depth known.regs instr ≡ r
+      → e ≡ (enters code f labels base (target_of instr) (record { depth = r.depth; regs = r.after }) && enters code f labels base (next_of code f labels base p instr) (record { depth = r.depth; regs = r.after }))
+      → l ≡ (has_target code f labels base (target_of instr) && is_place code f labels base (next_of code f labels base p instr))
+      → broken ((2, r.kept.types) ∷ (3, r.kept.present) ∷ (4, r.kept.depths) ∷ (5, came && e) ∷ (6, r.lives) ∷ (7, l) ∷ []) ≡ broken (rules code f labels base p came instr known)
+  judged e l r is entered led =
       subst
-      (λ (x : Row). broken ((2, r.kept.types) ∷ (3, r.kept.present) ∷ (4, r.kept.depths) ∷ (5, came && e) ∷ (7, l) ∷ [])
-      ≡ broken ((2, x.kept.types) ∷ (3, x.kept.present) ∷ (4, x.kept.depths) ∷ (5, came && enters code f labels base (target_of instr) (behind x.after) && enters code f labels base (next_of code f labels base p instr) (behind x.after)) ∷ (7, leads) ∷ []))
+      (λ (x : Row). broken ((2, r.kept.types) ∷ (3, r.kept.present) ∷ (4, r.kept.depths) ∷ (5, came && e) ∷ (6, r.lives) ∷ (7, l) ∷ [])
+      ≡ broken ((2, x.kept.types) ∷ (3, x.kept.present) ∷ (4, x.kept.depths) ∷ (5, came && enters code f labels base (target_of instr) (then_known x) && enters code f labels base (next_of code f labels base p instr) (then_known x)) ∷ (6, x.lives) ∷ (7, leads) ∷ []))
       (sym is)
       (rw (entered, led)
-      (all_of r.kept came (enters code f labels base (target_of instr) (behind r.after)) (enters code f labels base (next_of code f labels base p instr) (behind r.after)) leads))
-
-  pub judged : (old new : List RegFact) (kept : Kept) (e l : Bool) → row code f.result depth old instr ≡ record { kept = kept; after = new }
-      → e ≡ (enters code f labels base (target_of instr) (record { depth = depth; regs = new }) && enters code f labels base (next_of code f labels base p instr) (record { depth = depth; regs = new }))
-      → l ≡ (has_target code f labels base (target_of instr) && is_place code f labels base (next_of code f labels base p instr))
-      → broken ((2, kept.types) ∷ (3, kept.present) ∷ (4, kept.depths) ∷ (5, came && e) ∷ (7, l) ∷ []) ≡ broken (rules code f labels base p came instr (record { depth = depth; regs = old }))
-  judged old new kept e l is entered led = by_row old e l (record { kept = kept; after = new }) is entered led
+      (all_of r.kept came (enters code f labels base (target_of instr) (then_known r)) (enters code f labels base (next_of code f labels base p instr) (then_known r)) r.lives leads))
 
 -- ---- two tests, the second of which is tried where the first holds
 
@@ -85,11 +78,11 @@ module _ (code : Parts) (f : Func) (labels : List Label) (base p : ℕ) (body : 
       unfolded ∙ ap rest_of some
       ∙ ap (λ (x : Option ℕ). or_else (fault_of (base + p) x) (walk code f labels base (p + 1) (drop (p + 1) body) true (known_after code f labels base instr known))) broke
 
-  pub goes_further : (known : Known) (regs : List RegFact) (next : Option Known) → stated (label_at labels p) o ≡ Some known → broken (rules code f labels base p came instr known) ≡ None
-      → regs ≡ (row code f.result known.depth known.regs instr).after → next ≡ (if goes_on instr then Some (record { depth = known.depth; regs = regs }) else None)
+  pub goes_further : (known new : Known) (next : Option Known) → stated (label_at labels p) o ≡ Some known → broken (rules code f labels base p came instr known) ≡ None
+      → after code f labels base instr known ≡ new → next ≡ (if goes_on instr then Some new else None)
       → walk code f labels base (p + 1) (drop (p + 1) body) true next ≡ walk code f labels base p (drop p body) came o
-  goes_further known regs next some fine new on =
-      let same : next ≡ known_after code f labels base instr known = on ∙ ap (λ (x : List RegFact). if goes_on instr then Some (record { depth = known.depth; regs = x }) else None) new in
+  goes_further known new next some fine is on =
+      let same : next ≡ known_after code f labels base instr known = on ∙ ap (λ (x : Known). if goes_on instr then Some x else None) (sym is) in
       ap (walk code f labels base (p + 1) (drop (p + 1) body) true) same
       ∙ sym (unfolded ∙ ap rest_of some
       ∙ ap (λ (x : Option ℕ). or_else (fault_of (base + p) x) (walk code f labels base (p + 1) (drop (p + 1) body) true (known_after code f labels base instr known))) fine)

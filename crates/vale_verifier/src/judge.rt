@@ -3,15 +3,14 @@ ghost use Rattle.std.specs.Prelude.{◌≡◌, ◌+◌, ◌<◌, ◌^◌, ℕ, L
 ghost use Rattle.vale_code.specs.Parts.{Parts};
 ghost use Rattle.vale_code.specs.declared.func.Func.{Func as AnyFunc};
 ghost use Rattle.vale_cert.specs.Known.{Known, label_at, may_enter};
-ghost use Rattle.vale_cert.specs.Rules.{row as row_of};
-ghost use Rattle.vale_cert.specs.Walk.{goes_on, target_of, broken, rules, enters, has_target, is_place, next_of};
+ghost use Rattle.vale_cert.specs.Walk.{goes_on, target_of, after, broken, rules, enters, has_target, is_place, next_of};
 ghost use Rattle.vale_cert.specs.declared.facts.Label.{Label as AnyLabel};
 ghost use Rattle.vale_cert.specs.declared.facts.RegFact.{RegFact as AnyFact};
 ghost use Rattle.vale_verifier.specs.Walking.{Ahead, known_of, has_or_none};
 
 use crate::known::may_enter;
 use crate::labels::{find, front_at};
-use crate::rules::row;
+use crate::rules::row_of;
 use vale_cert::{Kept, Label, RegFact};
 use vale_code::{Code, Func, Instr};
 
@@ -110,9 +109,9 @@ fn leads_on(func: &Func, labels: &[Label], place: usize, instr: &Instr) -> bool
 }
 
 /// The lowest rule that an instruction breaks: of its own three, of labels that it or the function's entry
-/// enters, and of places that it leads to.
-fn lowest(kept: Kept, came: bool, enters: bool, leads: bool) -> Option<u8>
-    ensures { result ≡ broken ((2, kept.types) ∷ (3, kept.present) ∷ (4, kept.depths) ∷ (5, came && enters) ∷ (7, leads) ∷ []) }
+/// enters, of what has to be known alive, and of places that it leads to.
+fn lowest(kept: Kept, came: bool, enters: bool, lives: bool, leads: bool) -> Option<u8>
+    ensures { result ≡ broken ((2, kept.types) ∷ (3, kept.present) ∷ (4, kept.depths) ∷ (5, came && enters) ∷ (6, lives) ∷ (7, leads) ∷ []) }
 {
     if !kept.types {
         return Some(2);
@@ -126,14 +125,17 @@ fn lowest(kept: Kept, came: bool, enters: bool, leads: bool) -> Option<u8>
     if !(came && enters) {
         return Some(5);
     }
+    if !lives {
+        return Some(6);
+    }
     if !leads {
         return Some(7);
     }
     None
 }
 
-/// The lowest rule that an instruction breaks, before which this is known; the registers are those after it. `left` are the
-/// labels after it, and `came` says that the function's entry may enter the label at its first instruction.
+/// The lowest rule that an instruction breaks, before which this is known; the depth and the registers are those after it.
+/// `left` are the labels after it, and `came` says that the function's entry may enter the label at its first instruction.
 pub fn step(
     code: &Code,
     func: &Func,
@@ -141,7 +143,7 @@ pub fn step(
     left: &[Label],
     place: usize,
     came: bool,
-    depth: u32,
+    depth: &mut u32,
     regs: &mut [RegFact],
     instr: &Instr,
 ) -> Option<u8>
@@ -149,13 +151,14 @@ pub fn step(
     requires all { Ahead 0 labels.now }
     requires ahead { Ahead (place + 1) left.now }
     requires same { (q : ℕ) → place < q → label_at left.now q ≡ label_at labels.now q }
-    ensures rule { (base : ℕ) → result ≡ broken (rules code.now func.now labels.now base place came instr.now (record { depth = depth; regs = regs.old })) }
-    ensures after { regs.new ≡ (row_of code.now func.now.result depth regs.old instr.now).after }
+    ensures rule { (base : ℕ) → result ≡ broken (rules code.now func.now labels.now base place came instr.now (record { depth = depth.old; regs = regs.old })) }
+    ensures after { (base : ℕ) → after code.now func.now labels.now base instr.now (record { depth = depth.old; regs = regs.old }) ≡ record { depth = depth.new; regs = regs.new } }
 {
-    let kept = row(code, func.result, depth, regs, instr);
-    let enters = enters_labels(labels, left, place, depth, regs, instr);
+    let row = row_of(code, func.result, *depth, regs, instr);
+    *depth = row.depth;
+    let enters = enters_labels(labels, left, place, row.depth, regs, instr);
     let leads = leads_on(func, labels, place, instr);
-    lowest(kept, came, enters, leads)
+    lowest(row.kept, came, enters, row.lives, leads)
 }
 
 /// The depth after an instruction, where that is its successor.

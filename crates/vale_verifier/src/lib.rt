@@ -2,10 +2,13 @@
 //! certified: with the facts of such a code it is known never to go wrong.
 #![tactic(auto)]
 
+mod arguments;
+mod cells;
 mod first;
 mod judge;
 mod known;
 mod labels;
+mod objects;
 mod rules;
 mod verified;
 mod verifier;

@@ -2,72 +2,15 @@
 ghost use Rattle.std.specs.Prelude.{◌≡◌, Some, slice_get, true};
 ghost use Rattle.std.specs.List.{list_all};
 ghost use Rattle.vale_cert.specs.Known.{fact_of, is_there, has, is_free};
-ghost use Rattle.vale_cert.specs.Rules.{is_usable, reads, uses, gets, is_short, is_copied, copy_of, copies, is_ordered, is_comparable, are_alike, compares, is_printable, prints, gives_frozen, leads_to, passes, passed, passes_all, all_fine, calls, leaves, returns, control_row, row, if_types};
+ghost use Rattle.vale_cert.specs.Rules.{reads, gets, is_short, is_copied, copy_of, copies, is_ordered, is_comparable, are_alike, compares, is_printable, prints, calls, leaves, returns, control_effect, effect, row, if_types};
 
+use crate::arguments::{gets, if_types, is_usable, pass_all, reads, uses};
 use crate::known::{fact_of, has, is_free, is_there, set_fact};
+use crate::objects::{come_back, object_effect};
 use vale_base::TEXT_LIMIT;
 use vale_cert::{Kept, RegFact};
 use vale_code::{Code, Func, Instr, Ty};
 use vale_shape::{is_copy, is_owned, is_void};
-
-fn if_types(types: bool) -> Kept
-    ensures { result ≡ if_types types }
-{
-    Kept {
-        types,
-        present: true,
-        depths: true,
-    }
-}
-
-fn is_usable(depth: u32, fact: RegFact) -> bool
-    ensures { result ≡ is_usable depth fact }
-{
-    match fact {
-        RegFact::Empty => true,
-        RegFact::Held { ty, depth: d, .. } => {
-            !(matches!(ty, Ty::Ref(_)) || is_owned(ty)) || d == depth
-        }
-    }
-}
-
-/// A register is read that holds this type.
-fn reads(regs: &[RegFact], a: u32, ty: Ty, kept: Kept) -> Kept
-    ensures { result ≡ reads regs.now a ty kept }
-{
-    let fact = fact_of(regs, a);
-    Kept {
-        types: kept.types && has(ty, fact),
-        present: kept.present && is_there(fact),
-        depths: kept.depths,
-    }
-}
-
-/// The same, at its own depth.
-fn uses(depth: u32, regs: &[RegFact], a: u32, ty: Ty, kept: Kept) -> Kept
-    ensures { result ≡ uses depth regs.now a ty kept }
-{
-    let fact = fact_of(regs, a);
-    Kept {
-        types: kept.types && has(ty, fact),
-        present: kept.present && is_there(fact),
-        depths: kept.depths && is_usable(depth, fact),
-    }
-}
-
-/// A result comes into a register.
-fn gets(depth: u32, regs: &mut [RegFact], to: u32, ty: Ty, kept: Kept) -> Kept
-    ensures { gets depth regs.old to ty kept ≡ record { kept = result; after = regs.new } }
-{
-    let present = kept.present && is_free(fact_of(regs, to));
-    let fact = RegFact::Held {
-        ty,
-        depth,
-        live: false,
-    };
-    set_fact(regs, to, fact);
-    Kept { present, ..kept }
-}
 
 fn is_short(code: &Code, text: u32) -> bool
     ensures { result ≡ is_short (slice_get code.now.texts text) }
@@ -165,85 +108,6 @@ fn prints(regs: &[RegFact], a: u32) -> Kept
     }
 }
 
-// ---- arguments
-
-fn leads_to(n: u32, ty: Ty) -> bool
-    ensures { result ≡ leads_to n ty }
-{
-    match ty {
-        Ty::Own(kind) | Ty::Ref(kind) | Ty::Iso(kind) => kind.0 == n,
-        _ => false,
-    }
-}
-
-/// Whether the register gives a reference into frozen data of a kind.
-fn gives_frozen(depth: u32, n: u32, fact: RegFact) -> bool
-    ensures { result ≡ gives_frozen depth n fact }
-{
-    match fact {
-        RegFact::Empty => true,
-        RegFact::Held { ty, depth: d, .. } => match ty {
-            Ty::Frozen(kind) => kind.0 == n,
-            _ => d < depth && leads_to(n, ty),
-        },
-    }
-}
-
-fn passes(depth: u32, regs: &[RegFact], a: u32, ty: Ty, kept: Kept) -> Kept
-    ensures { result ≡ passes depth regs.now a ty kept }
-{
-    match ty {
-        Ty::Frozen(kind) => {
-            let fact = fact_of(regs, a);
-            Kept {
-                types: kept.types && gives_frozen(depth, kind.0, fact),
-                present: kept.present && is_there(fact),
-                depths: kept.depths,
-            }
-        }
-        _ => uses(depth, regs, a, ty, kept),
-    }
-}
-
-/// A register is an argument; an owner or an isolate leaves it.
-fn pass(depth: u32, regs: &mut [RegFact], a: u32, ty: Ty, kept: Kept) -> Kept
-    ensures { passed depth a ty (record { kept = kept; after = regs.old }) ≡ record { kept = result; after = regs.new } }
-{
-    let kept = passes(depth, regs, a, ty, kept);
-    match ty {
-        Ty::Own(_) | Ty::Iso(_) => set_fact(regs, a, RegFact::Empty),
-        _ => {}
-    }
-    kept
-}
-
-fn pass_all(depth: u32, regs: &mut [RegFact], types: &[Ty], args: &[u32]) -> Kept
-    ensures { passes_all depth types.now args.now (all_fine regs.old) ≡ record { kept = result; after = regs.new } }
-{
-    let mut kept = if_types(true);
-    let mut left = types;
-    for a in args {
-        match left {
-            [] => return Kept {
-                types: false,
-                ..kept
-            },
-            [ty, more @ ..] => {
-                kept = pass(depth, regs, *a, *ty, kept);
-                left = more;
-            }
-        }
-    }
-    if left.is_empty() {
-        kept
-    } else {
-        Kept {
-            types: false,
-            ..kept
-        }
-    }
-}
-
 // ---- calls and leaving
 
 fn call_plain(depth: u32, regs: &mut [RegFact], callee: &Func, to: u32, args: &[u32]) -> Kept
@@ -252,11 +116,8 @@ fn call_plain(depth: u32, regs: &mut [RegFact], callee: &Func, to: u32, args: &[
     if callee.form != 0 {
         return if_types(false);
     }
-    let kept = pass_all(depth, regs, callee.params.as_slice(), args);
-    match callee.result {
-        Ty::Void => kept,
-        ty => gets(depth, regs, to, ty, kept),
-    }
+    let kept = pass_all(depth, regs, callee.params.as_slice(), args, if_types(true));
+    come_back(depth, regs, callee.result, to, kept)
 }
 
 fn calls(code: &Code, depth: u32, regs: &mut [RegFact], to: u32, func: u32, args: &[u32]) -> Kept
@@ -292,21 +153,21 @@ fn leaves(depth: u32, regs: &[RegFact], kept: Kept) -> Kept
 fn returns(depth: u32, regs: &mut [RegFact], a: u32, ty: Ty) -> Kept
     ensures { returns depth regs.old a ty ≡ record { kept = result; after = regs.new } }
 {
-    let kept = uses(depth, regs, a, ty, if_types(true));
+    let kept = uses(depth, regs, a, ty, if_types(!is_void(ty)));
     set_fact(regs, a, RegFact::Empty);
     leaves(depth, regs, kept)
 }
 
-// ---- the rows
+// ---- each instruction
 
-fn control_row(
+fn control_effect(
     code: &Code,
     leaves_with: Ty,
     depth: u32,
     regs: &mut [RegFact],
     instr: &Instr,
 ) -> Kept
-    ensures { control_row code.now leaves_with depth regs.old instr.now ≡ record { kept = result; after = regs.new } }
+    ensures { control_effect code.now leaves_with depth regs.old instr.now ≡ record { kept = result; after = regs.new } }
 {
     match instr {
         Instr::Print { from, .. } => prints(regs, *from),
@@ -315,7 +176,7 @@ fn control_row(
         Instr::Call { to, func, args, .. } => calls(code, depth, regs, *to, *func, args.as_slice()),
         Instr::Ret { from } => returns(depth, regs, *from, leaves_with),
         Instr::RetVoid => leaves(depth, regs, if_types(is_void(leaves_with))),
-        _ => if_types(false),
+        _ => object_effect(code, depth, regs, instr),
     }
 }
 
@@ -352,9 +213,8 @@ fn bytes(depth: u32, regs: &mut [RegFact], to: u32, a: u32, x: u32) -> Kept
     gets(depth, regs, to, Ty::Int, kept)
 }
 
-/// The rules of an instruction in a function with this result, and what it makes of the registers.
-pub fn row(code: &Code, leaves_with: Ty, depth: u32, regs: &mut [RegFact], instr: &Instr) -> Kept
-    ensures { row code.now leaves_with depth regs.old instr.now ≡ record { kept = result; after = regs.new } }
+fn effect(code: &Code, leaves_with: Ty, depth: u32, regs: &mut [RegFact], instr: &Instr) -> Kept
+    ensures { effect code.now leaves_with depth regs.old instr.now ≡ record { kept = result; after = regs.new } }
 {
     match instr {
         Instr::Int { to, .. } => gets(depth, regs, *to, Ty::Int, if_types(true)),
@@ -430,6 +290,28 @@ pub fn row(code: &Code, leaves_with: Ty, depth: u32, regs: &mut [RegFact], instr
         } => bytes(depth, regs, *to, *from, *index),
         Instr::TextOf { to, from } => of_one(depth, regs, *to, Ty::Text, *from, Ty::Int),
         Instr::IsNum { to, from } => of_one(depth, regs, *to, Ty::Truth, *from, Ty::Text),
-        _ => control_row(code, leaves_with, depth, regs, instr),
+        _ => control_effect(code, leaves_with, depth, regs, instr),
+    }
+}
+
+// ---- the rows
+
+/// Which rules of its own an instruction keeps, whether what has to be known alive is, and the depth after it.
+#[derive(Clone, Copy)]
+pub struct Row {
+    pub kept: Kept,
+    pub lives: bool,
+    pub depth: u32,
+}
+
+/// The row of an instruction in a function with this result, and what it makes of the registers.
+pub fn row_of(code: &Code, leaves_with: Ty, depth: u32, regs: &mut [RegFact], instr: &Instr) -> Row
+    ensures { row code.now leaves_with depth regs.old instr.now ≡ record { kept = result.kept; lives = result.lives; depth = result.depth; after = regs.new } }
+{
+    let kept = effect(code, leaves_with, depth, regs, instr);
+    Row {
+        kept,
+        lives: true,
+        depth,
     }
 }

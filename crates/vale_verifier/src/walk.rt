@@ -40,12 +40,13 @@ fn walk(
         let Some(known) = state(label, depth, regs) else {
             return Some(Fault { rule: 7, at });
         };
-        match step(code, func, labels, left, place, came, known, regs, instr) {
+        let mut now = known;
+        match step(code, func, labels, left, place, came, &mut now, regs, instr) {
             Some(rule) => return Some(Fault { rule, at }),
             None => {}
         }
         came = true;
-        depth = depth_after(instr, known);
+        depth = depth_after(instr, now);
     }
     None
 }

@@ -43,7 +43,7 @@ loop-place-preserved c =
       ahead = c.behind-left.ensures.ahead;
       same = λ q le. c.behind-left.ensures.same q (omega (arith, le)) ∙ c.loop-place.invariant.same q (omega (arith, le));
       rest =
-          goes_further c.args.code.now c.args.func.now labels c.args.base place c.args.func.now.body c.instr-item.result c.loop-place.came o inside is known c.step.new.regs (known_of c.depth_after-depth.result c.step.new.regs) some
-          (sym (c.in-None.ensures.rule c.args.base)) c.step.ensures.after (c.depth_after-depth.ensures c.step.new.regs)
+          goes_further c.args.code.now c.args.func.now labels c.args.base place c.args.func.now.body c.instr-item.result c.loop-place.came o inside is known (record { depth = c.step.new.depth; regs = c.step.new.regs }) (known_of c.depth_after-depth.result c.step.new.regs) some
+          (sym (c.in-None.ensures.rule c.args.base)) (c.step.ensures.after c.args.base) (c.depth_after-depth.ensures c.step.new.regs)
           ∙ c.loop-place.invariant.rest;
     }

@@ -1,7 +1,7 @@
 use Rattle.std.proofs.Common.{◌≡◌, ◌≢◌, ◌<◌, length, drop, sym, ◌∙◌, arith, length-drop}
 use Rattle.std.proofs.lemmas.Bool.{eqb-false}
 use Rattle.vale_verifier.proofs.RuleLaws.{too_many, too_few}
-use Rattle.vale_verifier.proofs.rules.pass_all.Goals as goal
+use Rattle.vale_verifier.proofs.arguments.pass_all.Goals as goal
 
 pub returns-in-empty : goal.returns-in-empty
 returns-in-empty c =

@@ -1,8 +1,0 @@
-use Rattle.std.proofs.Common.{◌≡◌, drop}
-use Rattle.vale_cert.specs.Rules.{passes_all, all_fine}
-use Rattle.vale_verifier.proofs.rules.pass_all.Given as goal
-
--- what is left decides
-abbrev pub invariant-loop-a : goal.invariant-loop-a
-invariant-loop-a l =
-    passes_all l.depth l.left (drop l.a-index l.args) (record { kept = l.kept; after = l.regs }) ≡ passes_all l.depth l.types l.args (all_fine l.initial.regs)
