@@ -1,26 +1,27 @@
 // What the words are owed: a status, and the bytes for `out` and `err`.
-ghost use Rattle.std.specs.Prelude.{◌≡◌, ◌≤◌, ◌<◌, ◌+◌, ◌^◌, ℕ, List, length, IfOk, IsErrOf};
+ghost use Rattle.std.specs.Prelude.{◌≡◌, ◌≤◌, ◌<◌, ◌+◌, ◌^◌, ℕ, List, [], length, IfOk, IsErrOf};
 ghost use Rattle.vale_base.specs.Limits.{ticks_limit};
 ghost use Rattle.vale_ports.specs.Shelf.{HasFile, KeepsFiles, ReadsFile};
-ghost use Rattle.vale_run.specs.Owed.{refused, bad_word, counted, other_option, RunsTo, ChecksTo, FormatsTo, Owes, ReadFailed, ReadFails};
+ghost use Rattle.vale_ports.specs.Streams.{SourceState};
+ghost use Rattle.vale_run.specs.Causes.{ReadFailed, FileFails, MayRead};
+ghost use Rattle.vale_run.specs.Means.{counts, RunsTo, ChecksTo, FormatsTo};
+ghost use Rattle.vale_run.specs.Owed.{plain_answer, refused, bad_word, other_option, AnswersSome, OwesUntaken};
+ghost use Rattle.vale_syntax.specs.Canon.{canon};
+ghost use Rattle.vale_syntax.specs.View.{view_tree};
 ghost use Rattle.vale_words.specs.Words.{Asks, texts};
 
+use crate::laws::served_programs_are_plain;
+use crate::plain::plain_answer;
 use crate::running::run_program;
 use std::alloc::Global;
 use vale_base::{Fail, Memory, PROGRAM_LIMIT, Spot, Text};
+use vale_deliver::Answer;
 use vale_front::{Refusal, front, read};
 use vale_ports::{Shelf, ShelfFault};
 use vale_printer::print;
 use vale_sound::accepted_programs_run;
+use vale_syntax::Tree;
 use vale_words::{Job, Options, read_words};
-
-/// A status, and the bytes that go with it.
-#[derive(Drop)]
-pub struct Answer {
-    pub status: u8,
-    pub out: Text,
-    pub err: Text,
-}
 
 /// Why there is no answer.
 #[derive(Clone, Copy, Debug, PartialEq, Eq)]
@@ -46,31 +47,26 @@ fn refused(alloc: Global, refusal: Refusal) -> Result<Answer, Memory>
     let (tens, ones) = (refusal.code / 10, refusal.code % 10);
     let Spot { line, col } = refusal.at;
     let line = format!(in alloc; "E{tens}{ones} at {line}:{col}\n")?;
-    Ok(Answer {
-        status: 1,
-        out: Text::new(alloc),
-        err: Text::from_slice(alloc, line.as_bytes())?,
-    })
+    let err = Text::from_slice(alloc, line.as_bytes())?;
+    Ok(plain_answer(1, Text::new(alloc), err))
 }
 
 fn bad_word(alloc: Global, index: usize) -> Result<Answer, Memory>
     ensures { IfOk result (λ a. a ≡ bad_word index) }
 {
     let line = format!(in alloc; "word {index}\n")?;
-    Ok(Answer {
-        status: 2,
-        out: Text::new(alloc),
-        err: Text::from_slice(alloc, line.as_bytes())?,
-    })
+    let err = Text::from_slice(alloc, line.as_bytes())?;
+    Ok(plain_answer(2, Text::new(alloc), err))
 }
 
 /// The answer to the run of a text, with 1 to 2^62 ticks to spend.
 pub fn run_text(alloc: Global, text: &[u8], options: &Options) -> Result<Answer, Memory>
     requires some { 0 < options.now.ticks }
     requires few { options.now.ticks ≤ ticks_limit }
-    ensures { IfOk result (λ a. RunsTo text.now options.now a) }
+    ensures { IfOk result (λ a. (input : SourceState) → AnswersSome (RunsTo text.now options.now input input) a) }
 {
     accepted_programs_run();
+    served_programs_are_plain();
     match front(alloc, text) {
         Ok(sound) => run_program(alloc, &sound.core, options.ticks),
         Err(Fail::Is(refusal)) => refused(alloc, refusal),
@@ -80,20 +76,18 @@ pub fn run_text(alloc: Global, text: &[u8], options: &Options) -> Result<Answer,
 
 // So many checks are kept and so many dropped.
 fn counted(alloc: Global, kept: u64, elided: u64) -> Result<Answer, Memory>
-    ensures { IfOk result (λ a. a ≡ counted kept elided) }
+    ensures { IfOk result (λ a. a ≡ plain_answer 0 (counts kept elided) []) }
 {
     let counts = format!(in alloc; "kept {kept}\nelided {elided}\n")?;
-    Ok(Answer {
-        status: 0,
-        out: Text::from_slice(alloc, counts.as_bytes())?,
-        err: Text::new(alloc),
-    })
+    let out = Text::from_slice(alloc, counts.as_bytes())?;
+    Ok(plain_answer(0, out, Text::new(alloc)))
 }
 
 /// The answer to the check of a text.
 pub fn check_text(alloc: Global, text: &[u8]) -> Result<Answer, Memory>
-    ensures { IfOk result (λ a. ChecksTo text.now a) }
+    ensures { IfOk result (AnswersSome (ChecksTo text.now)) }
 {
+    served_programs_are_plain();
     match front(alloc, text) {
         Ok(_sound) => counted(alloc, 0, 0),
         Err(Fail::Is(refusal)) => refused(alloc, refusal),
@@ -101,16 +95,19 @@ pub fn check_text(alloc: Global, text: &[u8]) -> Result<Answer, Memory>
     }
 }
 
+fn printed(alloc: Global, tree: &Tree) -> Result<Answer, Memory>
+    ensures { IfOk result (λ a. a ≡ plain_answer 0 (canon (view_tree tree.now)) []) }
+{
+    let out = Text::from_vec(print(alloc, tree)?);
+    Ok(plain_answer(0, out, Text::new(alloc)))
+}
+
 /// The answer to the laying out of a text.
 pub fn format_text(alloc: Global, text: &[u8]) -> Result<Answer, Memory>
-    ensures { IfOk result (λ a. FormatsTo text.now a) }
+    ensures { IfOk result (AnswersSome (FormatsTo text.now)) }
 {
     match read(alloc, text) {
-        Ok(tree) => Ok(Answer {
-            status: 0,
-            out: Text::from_vec(print(alloc, &tree)?),
-            err: Text::new(alloc),
-        }),
+        Ok(tree) => printed(alloc, &tree),
         Err(Fail::Is(refusal)) => refused(alloc, refusal),
         Err(Fail::Memory) => Err(Memory),
     }
@@ -139,7 +136,7 @@ fn run_file<H: Shelf>(
 ) -> Result<Answer, Stop>
     requires some { 0 < options.now.ticks }
     requires few { options.now.ticks ≤ ticks_limit }
-    ensures owed { IfOk result (λ a. (text : List ℕ) × HasFile (H.state shelf.old).files name.now text × RunsTo text options.now a) }
+    ensures owed { IfOk result (λ a. (text : List ℕ) × HasFile (H.state shelf.old).files name.now text × ((input : SourceState) → AnswersSome (RunsTo text options.now input input) a)) }
     ensures read { IsErrOf result Stop.ReadFault → ReadFailed (H.state shelf.old) (H.state shelf.new) name.now }
     ensures files { KeepsFiles (H.state shelf.old).files (H.state shelf.new).files }
     ensures later { (H.state shelf.old).faults ≤ (H.state shelf.new).faults }
@@ -150,7 +147,7 @@ fn run_file<H: Shelf>(
 
 // The answer to the check of a file.
 fn check_file<H: Shelf>(alloc: Global, name: &str, shelf: &mut H) -> Result<Answer, Stop>
-    ensures owed { IfOk result (λ a. (text : List ℕ) × HasFile (H.state shelf.old).files name.now text × ChecksTo text a) }
+    ensures owed { IfOk result (λ a. (text : List ℕ) × HasFile (H.state shelf.old).files name.now text × AnswersSome (ChecksTo text) a) }
     ensures read { IsErrOf result Stop.ReadFault → ReadFailed (H.state shelf.old) (H.state shelf.new) name.now }
     ensures files { KeepsFiles (H.state shelf.old).files (H.state shelf.new).files }
     ensures later { (H.state shelf.old).faults ≤ (H.state shelf.new).faults }
@@ -161,7 +158,7 @@ fn check_file<H: Shelf>(alloc: Global, name: &str, shelf: &mut H) -> Result<Answ
 
 // The answer to the laying out of a file.
 fn format_file<H: Shelf>(alloc: Global, name: &str, shelf: &mut H) -> Result<Answer, Stop>
-    ensures owed { IfOk result (λ a. (text : List ℕ) × HasFile (H.state shelf.old).files name.now text × FormatsTo text a) }
+    ensures owed { IfOk result (λ a. (text : List ℕ) × HasFile (H.state shelf.old).files name.now text × AnswersSome (FormatsTo text) a) }
     ensures read { IsErrOf result Stop.ReadFault → ReadFailed (H.state shelf.old) (H.state shelf.new) name.now }
     ensures files { KeepsFiles (H.state shelf.old).files (H.state shelf.new).files }
     ensures later { (H.state shelf.old).faults ≤ (H.state shelf.new).faults }
@@ -193,8 +190,9 @@ fn do_job<H: Shelf>(
     shelf: &mut H,
 ) -> Result<Answer, Stop>
     requires { Asks (texts words.now) job.now }
-    ensures owed { IfOk result (λ a. Owes (texts words.now) (H.state shelf.old) a) }
-    ensures read { IsErrOf result Stop.ReadFault → ReadFails (texts words.now) (H.state shelf.old) (H.state shelf.new) }
+    ensures owed { IfOk result (OwesUntaken (texts words.now) (H.state shelf.old) (H.state shelf.new)) }
+    ensures read { IsErrOf result Stop.ReadFault → FileFails (texts words.now) (H.state shelf.old) (H.state shelf.new) }
+    ensures untouched { (MayRead (texts words.now) → ⊥) → shelf.new ≡ shelf.old }
     ensures files { KeepsFiles (H.state shelf.old).files (H.state shelf.new).files }
     ensures later { (H.state shelf.old).faults ≤ (H.state shelf.new).faults }
 {
@@ -213,8 +211,9 @@ fn do_job<H: Shelf>(
 
 /// The answer that is owed to the words.
 pub fn answer_of<H: Shelf>(alloc: Global, words: &[String], shelf: &mut H) -> Result<Answer, Stop>
-    ensures owed { IfOk result (λ a. Owes (texts words.now) (H.state shelf.old) a) }
-    ensures read { IsErrOf result Stop.ReadFault → ReadFails (texts words.now) (H.state shelf.old) (H.state shelf.new) }
+    ensures owed { IfOk result (OwesUntaken (texts words.now) (H.state shelf.old) (H.state shelf.new)) }
+    ensures read { IsErrOf result Stop.ReadFault → FileFails (texts words.now) (H.state shelf.old) (H.state shelf.new) }
+    ensures untouched { (MayRead (texts words.now) → ⊥) → shelf.new ≡ shelf.old }
     ensures files { KeepsFiles (H.state shelf.old).files (H.state shelf.new).files }
     ensures later { (H.state shelf.old).faults ≤ (H.state shelf.new).faults }
 {

@@ -2,10 +2,10 @@
 #![tactic(auto)]
 
 mod answer;
-mod deliver;
+mod laws;
+mod plain;
 mod running;
 mod top;
 
-pub use answer::Answer;
-pub use deliver::Status;
 pub use top::valec;
+pub use vale_deliver::Status;

@@ -8,13 +8,14 @@ ghost use Rattle.vale_core.specs.View.{view_core};
 ghost use Rattle.vale_machine.specs.Finishes.{Finishes};
 ghost use Rattle.vale_model.specs.Meaning.{meaning};
 ghost use Rattle.vale_model.specs.Report.{report_text};
-ghost use Rattle.vale_run.specs.Owed.{EndsWith};
+ghost use Rattle.vale_run.specs.Owed.{EndsWith, plain_answer};
 ghost use Rattle.vale_sound.specs.Runs.{Runs};
 
-use crate::answer::Answer;
+use crate::plain::plain_answer;
 use std::alloc::Global;
 use vale_base::{Memory, Piece, Text, TrapInfo};
 use vale_core::Core;
+use vale_deliver::Answer;
 use vale_lower_code::lower_code;
 use vale_machine::{End, Finished, Input, run_certified};
 use vale_trap::report;
@@ -41,25 +42,19 @@ fn joined(alloc: Global, pieces: &[Piece]) -> Result<Text, Memory>
 
 // A run that trapped, and what it printed before.
 fn trapped(alloc: Global, out: Text, info: &TrapInfo) -> Result<Answer, Memory>
-    ensures { IfOk result (λ a. a ≡ record { status = 3; out = out; err = report_text info.now }) }
+    ensures { IfOk result (λ a. a ≡ plain_answer 3 out (report_text info.now)) }
 {
-    Ok(Answer {
-        status: 3,
-        out,
-        err: Text::from_vec(report(alloc, info)?),
-    })
+    let err = Text::from_vec(report(alloc, info)?);
+    Ok(plain_answer(3, out, err))
 }
 
 // A run that was cut after so many ticks, and what it printed before.
 fn cut(alloc: Global, out: Text, ticks: u64) -> Result<Answer, Memory>
-    ensures { IfOk result (λ a. a ≡ record { status = 4; out = out; err = codes "cut after " ++ decimal ticks ++ codes " ticks\n" }) }
+    ensures { IfOk result (λ a. a ≡ plain_answer 4 out (codes "cut after " ++ decimal ticks ++ codes " ticks\n")) }
 {
     let line = format!(in alloc; "cut after {ticks} ticks\n")?;
-    Ok(Answer {
-        status: 4,
-        out,
-        err: Text::from_slice(alloc, line.as_bytes())?,
-    })
+    let err = Text::from_slice(alloc, line.as_bytes())?;
+    Ok(plain_answer(4, out, err))
 }
 
 // What is told of a run with so many ticks.
@@ -68,11 +63,7 @@ fn told(alloc: Global, ran: &Finished, ticks: u64) -> Result<Answer, Memory>
 {
     let out = joined(alloc, &ran.pieces)?;
     match &ran.end {
-        End::Done { .. } => Ok(Answer {
-            status: 0,
-            out,
-            err: Text::new(alloc),
-        }),
+        End::Done { .. } => Ok(plain_answer(0, out, Text::new(alloc))),
         End::Trap { info, .. } => trapped(alloc, out, info),
         End::Cut => cut(alloc, out, ticks),
         End::Memory => Err(Memory),

@@ -1,14 +1,18 @@
 // The top call.
-ghost use Rattle.std.specs.Prelude.{◌≡◌};
+ghost use Rattle.std.specs.Prelude.{◌≡◌, ◌≢◌};
+ghost use Rattle.vale_ports.specs.Shelf.{KeepsFiles};
+ghost use Rattle.vale_run.specs.Causes.{MayRead, MayTakeInput};
 ghost use Rattle.vale_run.specs.Formatted.{StaysFormatted};
 ghost use Rattle.vale_run.specs.Headline.{Answers};
-ghost use Rattle.vale_run.specs.Owed.{MayTakeInput};
+ghost use Rattle.vale_run.specs.Owed.{OwesOne};
+ghost use Rattle.vale_run.specs.Plain.{TakeNoInput};
 ghost use Rattle.vale_words.specs.Words.{texts};
 
 use crate::answer::{Stop, answer_of};
-use crate::deliver::{Status, deliver};
+use crate::laws::served_programs_are_plain;
 use std::alloc::Global;
 use std::thread::Threads;
+use vale_deliver::{Status, deliver, send};
 use vale_ports::{Gate, Shelf, Sink, Source};
 
 const READ_FAULT: u8 = 6;
@@ -29,19 +33,23 @@ pub fn valec<R: Threads + Sync, H: Shelf, I: Source, O: Sink, E: Sink, G: Gate +
     gate: &G,
 ) -> Status
     ensures headline { Answers (texts words.now) (record { shelf = H.state shelf.old; input = I.state input.old; out = O.state out.old; err = E.state err.old }) (record { shelf = H.state shelf.new; input = I.state input.new; out = O.state out.new; err = E.state err.new }) result.0 }
+    // at most one answer is owed
+    ensures one { OwesOne }
     // `fmt` of what `fmt` printed prints the same
     ensures formatted { StaysFormatted }
-    ensures input { (MayTakeInput (texts words.now) (H.state shelf.old) → ⊥) → input.new ≡ input.old }
+    // no file is read unless the words ask for something that is served, and no input unless the program takes it
+    ensures unread { (MayRead (texts words.now) → ⊥) → shelf.new ≡ shelf.old }
+    ensures untaken { (MayTakeInput (texts words.now) (H.state shelf.old) → ⊥) → input.new ≡ input.old }
+    // So far no program takes input, none needs a page, and no file is written.
+    ensures takes_none { TakeNoInput }
+    ensures input { input.new ≡ input.old }
+    ensures pages { result.0 ≢ 5 }
+    ensures files { KeepsFiles (H.state shelf.old).files (H.state shelf.new).files }
 {
+    served_programs_are_plain();
     match answer_of(alloc, words, shelf) {
-        Ok(answer) => deliver(
-            answer.status,
-            answer.out.as_slice(),
-            answer.err.as_slice(),
-            out,
-            err,
-        ),
-        Err(Stop::Memory) => deliver(WANT_OF_MEMORY, &[], b"memory\n", out, err),
-        Err(Stop::ReadFault) => deliver(READ_FAULT, &[], b"read fault\n", out, err),
+        Ok(answer) => deliver(alloc, &answer, shelf, out, err),
+        Err(Stop::Memory) => send(WANT_OF_MEMORY, &[], b"memory\n", out, err),
+        Err(Stop::ReadFault) => send(READ_FAULT, &[], b"read fault\n", out, err),
     }
 }
