@@ -1,5 +1,5 @@
 -- What the reader's answer means.
-use Rattle.std.proofs.Common.{◌≡◌, List, Ok, Err, refl, sym, subst, ◌∙◌}
+use Rattle.std.proofs.Common.{◌≡◌, List, Ok, Err, refl, sym, ◌∙◌}
 use Rattle.vale_base.specs.declared.spot.Spot.{Spot}
 use Rattle.vale_base.specs.Limits.{level_limit}
 use Rattle.vale_syntax.specs.declared.token.Token.{Token}

@@ -66,7 +66,7 @@ fn read_tree<'t>(alloc: Global, tokens: &'t [Token]) -> Result<Tree, Stop<'t>>
 }
 
 /// The tree that the tokens spell.
-#[tactic(auto, using(crate::proofs::Answered::is_found, crate::proofs::Answered::is_complete, crate::proofs::Answered::is_none, crate::proofs::Answered::is_unexpected, crate::proofs::Answered::is_gone_through, crate::proofs::Answered::is_stop, crate::proofs::Answered::is_no_stop, crate::proofs::OnlyLevels::is_deep, vale_reading_laws::proofs::ItemAgain::one_tree))]
+#[tactic(auto, using(crate::proofs::Answered::is_found, crate::proofs::Answered::is_complete, crate::proofs::Answered::is_none, crate::proofs::Answered::is_unexpected, crate::proofs::Answered::is_gone_through, crate::proofs::OnlyLevels::is_deep))]
 pub fn parse(alloc: Global, tokens: &Tokens) -> Result<Tree, Fail<ParseFault>>
     // What is answered is spelled by the tokens.
     ensures found { IfOk result (λ tree. spells (view_tree tree) tokens.now.list) }
@@ -78,7 +78,7 @@ pub fn parse(alloc: Global, tokens: &Tokens) -> Result<Tree, Fail<ParseFault>>
     ensures deep { IfFault result (λ f. f.code ≡ 6 → OpensTooMany tokens.now.end tokens.now.list f) }
     // Code 5 comes only at the first token that no program of any nesting goes through, or at the end.
     ensures unexpected { IfFault result (λ f. f.code ≡ 5 → IsUnexpected tokens.now.end tokens.now.list f) }
-    // Where the tokens stop to begin a program, a fault is answered: code 5 there, or code 6 before.
+    // Where the tokens stop to begin a program, a fault is answered: code 5 there, or code 6.
     ensures stopped { (left : List Token) → StopsAt tokens.now.list left → IsFaultUnlessMemory result (λ f. f.code ≡ 6 ⊎ (f.code ≡ 5) × (f.at ≡ spot_at tokens.now.end left)) }
     // Code 6 comes only at a token that a program of some nesting goes through.
     ensures through { IfFault result (λ f. f.code ≡ 6 → IsGoneThrough tokens.now.end tokens.now.list f) }
