@@ -23,7 +23,7 @@ use Rattle.vale_cert.specs.Certificate.{Certified, first_fault}
 use Rattle.vale_cert.specs.Input.{function_takes, is_input_of, params_take, takes_input}
 use Rattle.vale_cert.specs.declared.facts.FuncFacts.{FuncFacts}
 use Rattle.vale_cert.specs.declared.fault.Fault.{Fault}
-use Rattle.vale_cert.proofs.Safe.{ConfigFits, NextFits}
+use Rattle.vale_cert.proofs.Standing.{ConfigFits, NextFits}
 use Rattle.vale_cert.proofs.Start.{start_fits}
 use Rattle.vale_cert.proofs.Walks.{main_is_there, main_lawful}
 use Rattle.vale_machine.specs.Cells.{values_in}
@@ -70,16 +70,16 @@ module _ (code : Parts) (facts : List FuncFacts) (cert : Certified code facts) w
     params = nothing main.0.params (subst (λ o. function_takes code no_input o ≡ true) main.1 takes);
   }
 
-  pub under_way : (input : Given) → takes_input code input ≡ true → (ticks : ℕ) (m : Machine) → start code input ticks ≡ On (config_of code [] m) → IsLaid code m → m.left + m.spent ≤ ticks_limit → IsUnderWay code [] m
-  under_way input takes ticks m begins laid few = record { runnable = runnable code facts cert; laid = laid; ticks = few; safe = safe code facts cert (config_of code [] m) fits }
+  pub under_way : code.kinds ≡ [] → (input : Given) → takes_input code input ≡ true → (ticks : ℕ) (m : Machine) → start code input ticks ≡ On (config_of code [] m) → IsLaid code m → m.left + m.spent ≤ ticks_limit → IsUnderWay code [] m
+  under_way kindless input takes ticks m begins laid few = record { runnable = runnable code facts cert kindless; laid = laid; ticks = few; safe = safe code facts cert (config_of code [] m) fits }
     where
       fits : ConfigFits code facts (config_of code [] m)
       fits = subst (λ n. NextFits code facts n) begins (start_fits code facts cert input takes ticks)
 
-  pub if_started : {E : Type 0} (ticks : ℕ) (r : Result Machine E) → takes_input code no_input ≡ true → ticks ≤ ticks_limit → IfOk r (λ m. start code no_input ticks ≡ On (config_of code [] m)) → IfOk r (λ m. IsLaid code m)
+  pub if_started : {E : Type 0} (ticks : ℕ) (r : Result Machine E) → code.kinds ≡ [] → takes_input code no_input ≡ true → ticks ≤ ticks_limit → IfOk r (λ m. start code no_input ticks ≡ On (config_of code [] m)) → IfOk r (λ m. IsLaid code m)
       → IfOk r (λ m. m.left + m.spent ≡ ticks) → IfOk r (λ m. IsUnderWay code [] m)
-  if_started ticks (Ok m) takes few begins laid spent = under_way no_input takes ticks m begins laid (omega arith)
-  if_started ticks (Err e) takes few begins laid spent = begins
+  if_started ticks (Ok m) kindless takes few begins laid spent = under_way kindless no_input takes ticks m begins laid (omega arith)
+  if_started ticks (Err e) kindless takes few begins laid spent = begins
 
 pub filled_new : (old cells : List Cell) (n : ℕ) → old ≡ [] → cells ≡ old ++ replicate (n - length old) cell.Empty → cells ≡ replicate n cell.Empty
 filled_new old cells n e h =

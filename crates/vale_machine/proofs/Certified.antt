@@ -1,4 +1,4 @@
--- What the machine relies on holds of certified code.
+-- What the machine relies on holds of certified code that has no kinds.
 use Rattle.std.proofs.Common.{◌≡◌, ◌≢◌, ℕ, zero, suc, ◌+◌, ◌<◌, List, [], ◌∷◌, length, Option, Some, None, Bool, true, false, ◌&&◌, ◌||◌, ◌==◌, nat_lt, nat_le, refl, subst, arith}
 use Rattle.std.specs.Prelude.{slice_get}
 use Rattle.std.specs.List.{list_all}
@@ -18,18 +18,17 @@ use Rattle.vale_code.specs.declared.instr.Instr.TheVariants as i
 use Rattle.vale_code.specs.declared.ty.Ty.{Ty}
 use Rattle.vale_code.specs.declared.ty.Ty.TheVariants as t
 use Rattle.vale_cert.specs.Certificate.{Certified}
-use Rattle.vale_cert.specs.Known.{Known, entry}
 use Rattle.vale_cert.specs.Numbers.{numbers, are_registers, is_void_function, is_void_call, in_tables}
 use Rattle.vale_cert.specs.Types.{is_void}
-use Rattle.vale_cert.specs.Rules.{row, call_by_form, calls}
-use Rattle.vale_cert.specs.Walk.{row_of, walk, known_after}
+use Rattle.vale_cert.specs.Rules.{effect, call_by_form, calls}
 use Rattle.vale_cert.specs.declared.facts.FuncFacts.{FuncFacts}
-use Rattle.vale_cert.specs.declared.facts.Label.{Label}
 use Rattle.vale_cert.specs.declared.facts.RegFact.{RegFact}
-use Rattle.vale_cert.proofs.Safe.{ConfigFits, never_wrong}
-use Rattle.vale_cert.proofs.Walks.{stepped, judged, lawful}
+use Rattle.vale_cert.proofs.Safe.{never_wrong}
+use Rattle.vale_cert.proofs.Standing.{ConfigFits}
+use Rattle.vale_cert.proofs.Walks.{judged, lawful}
 use Rattle.vale_machine.specs.Calls.{HasRegister, IsCallable}
-use Rattle.vale_machine.specs.Lawful.{is_served, register_of, CallsWell, IsFit, IsRunnable}
+use Rattle.vale_machine.specs.Lawful.{register_of, CallsWell, IsFit, IsRunnable}
+use Rattle.vale_machine.proofs.Plainly.{served_here}
 
 -- ---- what lies at a place
 
@@ -37,47 +36,6 @@ all_at : (test : Instr → Bool) (is : List Instr) (p : ℕ) (instr : Instr) →
 all_at test [] p instr e h = absurd (let x : ⊥ = cc in x)
 all_at test (x ∷ is) zero instr e h = let same : x ≡ instr = cc in subst (λ y. test y ≡ true) same (and_parts _ _ e).0
 all_at test (x ∷ is) (suc p) instr e h = all_at test is p instr (and_parts _ _ e).1 h
-
-module _ (code : Parts) (f : Func) (labels : List Label) (base : ℕ) where
-  types_at : (k p : ℕ) (is : List Instr) (came : Bool) (o : Option Known) (instr : Instr) → walk code f labels base p is came o ≡ None → slice_get is k ≡ Some instr
-      → (known : Known) × ((row_of code f labels base instr known).kept.types ≡ true)
-  types_at k p [] came o instr w e = absurd (let x : ⊥ = cc in x)
-  types_at zero p (x ∷ is) came o instr w e =
-      let s = stepped code f labels base p x is came o w in let same : x ≡ instr = cc in
-      (s.known, subst (λ y. (row_of code f labels base y s.known).kept.types ≡ true) same s.keeps.types)
-  types_at (suc k) p (x ∷ is) came o instr w e =
-      let s = stepped code f labels base p x is came o w in
-      types_at k (p + 1) is true (known_after code f labels base x s.known) instr s.rest e
-
--- ---- one instruction
-
-served : (code : Parts) (ty : Ty) (depth : ℕ) (regs : List RegFact) (instr : Instr) → (row code ty depth regs instr).kept.types ≡ true → is_served instr ≡ true
-served code ty depth regs (i.Int to n) e = refl
-served code ty depth regs (i.Truth to choice) e = refl
-served code ty depth regs (i.Text to text) e = refl
-served code ty depth regs (i.Copy to a) e = refl
-served code ty depth regs (i.Add to a b at) e = refl
-served code ty depth regs (i.Sub to a b at) e = refl
-served code ty depth regs (i.Mul to a b at) e = refl
-served code ty depth regs (i.Div to a b at) e = refl
-served code ty depth regs (i.Rem to a b at) e = refl
-served code ty depth regs (i.Cmp to choice a b) e = refl
-served code ty depth regs (i.Not to a) e = refl
-served code ty depth regs (i.Join to a b at) e = refl
-served code ty depth regs (i.TextLen to a) e = refl
-served code ty depth regs (i.Slice to a x y at) e = refl
-served code ty depth regs (i.Byte to a x at) e = refl
-served code ty depth regs (i.TextOf to a) e = refl
-served code ty depth regs (i.IsNum to a) e = refl
-served code ty depth regs (i.Num to a at) e = refl
-served code ty depth regs (i.Print a choice) e = refl
-served code ty depth regs (i.Jump target) e = refl
-served code ty depth regs (i.Unless a target) e = refl
-served code ty depth regs i.Tick e = refl
-served code ty depth regs (i.Call to func args at) e = refl
-served code ty depth regs (i.Ret a) e = refl
-served code ty depth regs i.RetVoid e = refl
-served code ty depth regs _ e = absurd (let x : ⊥ = cc in x)
 
 within : (r n : ℕ) → nat_lt r n ≡ true → 0 + r < n
 within r n e = let lt : r < n = grind (arith, nat_tests) in omega arith
@@ -144,22 +102,22 @@ module _ (code : Parts) (facts : List FuncFacts) (cert : Certified code facts) w
         room = result_room callee.result to n m;
       }
 
-  calls_well : (ty : Ty) (depth : ℕ) (regs : List RegFact) (n : ℕ) (instr : Instr) → (row code ty depth regs instr).kept.types ≡ true → numbers code n instr ≡ true → CallsWell code instr 0 n
+  calls_well : (ty : Ty) (depth : ℕ) (regs : List RegFact) (n : ℕ) (instr : Instr) → (effect code ty depth regs instr).kept.types ≡ true → numbers code n instr ≡ true → CallsWell code instr 0 n
   calls_well ty depth regs n (i.Call to g args at) e h = callable ty depth regs n to g args e (registers code n (i.Call to g args at) h).1
   calls_well ty depth regs n _ e h = tt
 
-  pub runnable : IsRunnable code
-  runnable = record { fits = fits }
+  pub runnable : code.kinds ≡ [] → IsRunnable code
+  runnable none = record { fits = fits }
     where
       fits : (function place : ℕ) (func : Func) (instr : Instr) → slice_get code.funcs function ≡ Some func → slice_get func.body place ≡ Some instr → IsFit code instr 0 func.registers
       fits function place func instr found at =
           let j = judged code facts cert function func found in
-          let k = types_at code func j.0.labels j.1.base place 0 func.body j.1.came (Some (entry func j.0)) instr j.1.walks at in
+          let k = served_here code none facts cert func j.0 j.1 place instr (lawful code facts cert function func found).head at in
           let numbered = all_at (numbers code func.registers) func.body place instr j.1.numbered at in
           record {
-            served = served code func.result k.0.depth k.0.regs instr k.1;
+            served = k.served;
             room = room code func.registers instr numbered;
-            calls = calls_well func.result k.0.depth k.0.regs func.registers instr k.1 numbered;
+            calls = calls_well func.result k.known.depth k.known.regs func.registers instr k.types numbered;
           }
 
   -- ---- safety

@@ -6,6 +6,7 @@ pub mod Obeying
 pub mod Operands
 pub mod Operations
 pub mod Passing
+pub mod Plainly
 pub mod Running
 pub mod Stack
 pub mod Told

@@ -1,5 +1,5 @@
 // A whole run.
-ghost use Rattle.std.specs.Prelude.{◌≡◌, ◌<◌, ◌≤◌, List, true};
+ghost use Rattle.std.specs.Prelude.{◌≡◌, ◌<◌, ◌≤◌, [], List, true};
 ghost use Rattle.vale_base.specs.Limits.{ticks_limit};
 ghost use Rattle.vale_cert.specs.Certificate.{Certified};
 ghost use Rattle.vale_cert.specs.Input.{takes_input};
@@ -23,8 +23,10 @@ pub struct Finished {
     pub end: End,
 }
 
-/// Runs certified code: what is printed, when, and how it ends is what the code means, unless memory is wanting.
+/// Runs certified code: what is printed, when, and how it ends is what the code means, unless memory is wanting. There are
+/// no objects yet, so the code has no kinds.
 pub fn run(alloc: Global, code: &Verified, input: Input, ticks: u64) -> Finished
+    requires no_kinds { code.now.code.kinds ≡ [] }
     requires takes { takes_input code.now.code (given_of input) ≡ true }
     requires none { input ≡ Input.None }
     requires some { 0 < ticks }
@@ -37,6 +39,7 @@ pub fn run(alloc: Global, code: &Verified, input: Input, ticks: u64) -> Finished
 /// The same of a code that some facts certify, which need not be at hand: a machine goes by the code alone.
 pub fn run_certified(alloc: Global, code: &Code, input: Input, ticks: u64) -> Finished
     requires certified { (facts : List FuncFacts) × Certified code.now facts }
+    requires no_kinds { code.now.kinds ≡ [] }
     requires takes { takes_input code.now (given_of input) ≡ true }
     requires none { input ≡ Input.None }
     requires some { 0 < ticks }

@@ -68,6 +68,7 @@ impl Machine {
         ticks: u64,
     ) -> Result<Machine, Memory>
         requires certified { (facts : List FuncFacts) × Certified code.now facts }
+        requires no_kinds { code.now.kinds ≡ [] }
         requires takes { takes_input code.now (given_of input) ≡ true }
         requires none { input ≡ Input.None }
         requires some { 0 < ticks }
@@ -80,13 +81,14 @@ impl Machine {
     }
 
     /// The machine before the first instruction of `main`, or the want of memory. The input has the form that `main` takes;
-    /// up to now it is none, since there is no heap for an array. The ticks are 1 to 2^62.
+    /// up to now it is none and the code has no kinds, since there is no heap for objects. The ticks are 1 to 2^62.
     pub fn start(
         alloc: Global,
         code: &Verified,
         input: Input,
         ticks: u64,
     ) -> Result<Machine, Memory>
+        requires no_kinds { code.now.code.kinds ≡ [] }
         requires takes { takes_input code.now.code (given_of input) ≡ true }
         requires none { input ≡ Input.None }
         requires some { 0 < ticks }
