@@ -209,8 +209,8 @@ of_owner body = of_kinds (struct [] ∷ []) [] (plain (t.Own (kind 0) ∷ []) t.
 owner_overwritten : of_owner (i.Int 0 (pos 7) ∷ i.RetVoid ∷ []) ≡ fails 3 1
 owner_overwritten = refl
 
-owner_left_behind : of_owner (i.RetVoid ∷ []) ≡ fails 3 1
-owner_left_behind = refl
+owner_left_there : of_owner (i.RetVoid ∷ []) ≡ fails 3 1
+owner_left_there = refl
 
 owner_handed_on : of_owner (i.Call 0 1 (0 ∷ []) at ∷ i.RetVoid ∷ []) ≡ None
 owner_handed_on = refl
@@ -254,6 +254,10 @@ label_forgets_an_owner : first_fault
     (facts [] ∷ facts (label 1 (Empty ∷ Empty ∷ Empty ∷ Empty ∷ []) ∷ []) ∷ []) ≡ fails 5 1
 label_forgets_an_owner = refl
 
+-- a value where none is returned, empty or not
+nothing_is_returned_as_a_value : of_main (i.Ret 0 ∷ []) [] ≡ fails 2 0
+nothing_is_returned_as_a_value = refl
+
 jump_to_no_label : of_main (i.Jump 0 ∷ []) [] ≡ fails 7 0
 jump_to_no_label = refl
 
@@ -263,8 +267,8 @@ jump_to_itself = refl
 past_the_end : of_main (i.Tick ∷ []) [] ≡ fails 7 0
 past_the_end = refl
 
-behind_the_end : of_main (i.RetVoid ∷ i.RetVoid ∷ []) [] ≡ fails 7 1
-behind_the_end = refl
+after_the_end : of_main (i.RetVoid ∷ i.RetVoid ∷ []) [] ≡ fails 7 1
+after_the_end = refl
 
 -- before every other rule at the first instruction
 labels_that_fall : of_main (i.Print 0 1 ∷ i.Tick ∷ i.RetVoid ∷ []) (label 2 (Empty ∷ Empty ∷ Empty ∷ Empty ∷ []) ∷ label 1 (Empty ∷ Empty ∷ Empty ∷ Empty ∷ []) ∷ []) ≡ fails 7 0
