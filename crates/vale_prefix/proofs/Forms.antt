@@ -600,8 +600,8 @@ module _ (names : List (List ℕ)) (o : Option Inner) (law : Law o) where
     links_by most true e ts = once_read (ALink n) (RankLinks n) (one_link_of n) (link_turn p (suc n)) more_links (λ _. no_links) no_more no_links (λ ts. refl) ts (link_turns (RankLinks n) (λ names d ts. (no_links, (λ e. tt), refl)) ts)
     links_by most false e ts = into (all_links e) (turns_read (ALink n) (SomeLinks n) (more_links_of n) (some_links n) (link_turn p (suc n)) more_links (λ _. no_links) no_more
         (link_turns (SomeLinks n) (λ names d ts. (no_links, refl))) (λ ts. into (λ names d ts rest h. (no_links, h)) (done no_links ts)) most ts) where
-      all_links : eqb (suc n) 3 ≡ false → Within (SomeLinks n) (RankLinks n)
-      all_links e names d ts rest (ls, h) = (ls, (λ three. absurd (differs (eqb (suc n) 3) e (eq-eqb (suc n) 3 three))), h)
+          all_links : eqb (suc n) 3 ≡ false → Within (SomeLinks n) (RankLinks n)
+          all_links e names d ts rest (ls, h) = (ls, (λ three. absurd (differs (eqb (suc n) 3) e (eq-eqb (suc n) 3 three))), h)
 
     pub links_read : (ts : List Token) → Reads (RankLinks n) ts (links_at p (suc n) ts)
     unfolding links_at

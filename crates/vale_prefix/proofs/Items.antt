@@ -260,7 +260,7 @@ module _ (names : List (List ℕ)) where
   unfolding head_at
   head_reads d ts = into head_of (step (purity_reads ts) some_func (λ p. step (word_reads w.Func p.1) some_called (λ f. step (name_reads names f.1) some_parens
       (λ n. lowered (Sign_ s.OpenParen) (Deep Params) (Sign_ s.CloseParen ▸▸ AResult) _ _ n.1 (some_sign s.OpenParen) (some_deep Params some_params) some_closed (λ e a. deep (params_read e a.1))
-          (λ a ps. step (sign_reads s.CloseParen ps.1) some_result (λ c. last _ (result_reads d c.1) (λ x. refl))) d (sign_at s.OpenParen n.1) (sign_reads s.OpenParen n.1)))))
+      (λ a ps. step (sign_reads s.CloseParen ps.1) some_result (λ c. last _ (result_reads d c.1) (λ x. refl))) d (sign_at s.OpenParen n.1) (sign_reads s.OpenParen n.1)))))
 
   pub signature_reads : (d : ℕ) (ts : List Token) → Reads (AHead ▸▸ Sign_ s.Semicolon) ts (signature_at names d ts)
   unfolding signature_at

@@ -334,4 +334,4 @@ module _ {X E L : Type 0} (x : Two) (turn turn2 : Reader (Turn X E)) (more : X �
       let a2 : length ts < n = omega (arith, a) in
       let b2 : length us < n = omega (arith, b) in
       subst (λ (r : Read L). Local x Any ts us r (turns_at turn2 more end out (enough us) us)) (fuel turn more end out strict n (enough ts) ts a2 a)
-          (subst (λ (q : Read L). Local x Any ts us (turns_at turn more end out n ts) q) (fuel turn2 more end out strict2 n (enough us) us b2 b) (turns_by n ts us))
+      (subst (λ (q : Read L). Local x Any ts us (turns_at turn more end out n ts) q) (fuel turn2 more end out strict2 n (enough us) us b2 b) (turns_by n ts us))

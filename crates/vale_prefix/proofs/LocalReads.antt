@@ -357,9 +357,9 @@ module _ (x : Two) where
       pub commas_local : (close : Sign) (ts us : List Token) → Local x Any ts us (commas_at close item more nil ts) (commas_at close item2 more nil us)
       commas_local close ts us = by x Any ts us (λ b. cond b (Ok (nil, ts)) (item ts >>= λ v. others_at item more nil v.1 >>= λ vs. Ok (more v.0 vs.0, vs.1))) (λ b. cond b (Ok (nil, us)) (item2 us >>= λ v. others_at item2 more nil v.1 >>= λ vs. Ok (more v.0 vs.0, vs.1)))
           (begins close ts) (begins close us) (begins_same x close ts us) (commas_by ts us) where
-        commas_by : (ts us : List Token) (b : Bool) → Local x Any ts us (cond b (Ok (nil, ts)) (item ts >>= λ v. others_at item more nil v.1 >>= λ vs. Ok (more v.0 vs.0, vs.1))) (cond b (Ok (nil, us)) (item2 us >>= λ v. others_at item2 more nil v.1 >>= λ vs. Ok (more v.0 vs.0, vs.1)))
-        commas_by ts us true = done x Any _ _ ts us tt
-        commas_by ts us false = step (law ts us) (λ v z. step (others_local v.1 z.1) (λ a b. done x Any _ _ a.1 b.1 tt))
+            commas_by : (ts us : List Token) (b : Bool) → Local x Any ts us (cond b (Ok (nil, ts)) (item ts >>= λ v. others_at item more nil v.1 >>= λ vs. Ok (more v.0 vs.0, vs.1))) (cond b (Ok (nil, us)) (item2 us >>= λ v. others_at item2 more nil v.1 >>= λ vs. Ok (more v.0 vs.0, vs.1)))
+            commas_by ts us true = done x Any _ _ ts us tt
+            commas_by ts us false = step (law ts us) (λ v z. step (others_local v.1 z.1) (λ a b. done x Any _ _ a.1 b.1 tt))
 
   -- ---- operators
 

@@ -77,7 +77,7 @@ whole_then P Q a b w v = record {
       let less : w.levels ≤ d = omega (arith, le) in
       let less2 : v.levels ≤ d = omega (arith, le) in
       subst (λ (z : List Token). (P names d ▸ Q names d) z more) (sym (append_assoc a b more))
-          (b ++ more, w.whole names d (knows_left names a b knows) less (b ++ more), v.whole names d (knows_right names a b knows) less2 more);
+      (b ++ more, w.whole names d (knows_left names a b knows) less (b ++ more), v.whole names d (knows_right names a b knows) less2 more);
 }
 
 pub viable_then : (P Q : Parts) (a b : List Token) → Whole P a → Viable Q b → Viable (P ▸▸ Q) (a ++ b)

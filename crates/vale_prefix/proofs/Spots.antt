@@ -121,8 +121,8 @@ one_stop ts left left2 h h2 =
     let less : length left < length left2 → ⊥ = no_longer ts h.front left h2.front left2 h.there h2.there h.begins h2.no_further in
     let more : length left2 < length left → ⊥ = no_longer ts h2.front left2 h.front left h2.there h.there h2.begins h.no_further in
     tails h.front h2.front left left2 (sym h.there ∙ h2.there) (equal (length left) (length left2) less more) where
-  equal : (m n : ℕ) → (m < n → ⊥) → (n < m → ⊥) → m ≡ n
-  equal m n a b = omega (arith, a, b)
+      equal : (m n : ℕ) → (m < n → ⊥) → (n < m → ⊥) → m ≡ n
+      equal m n a b = omega (arith, a, b)
 
 spelled_by : (d : ℕ) (ts front left : List Token) (x : Tree) → ts ≡ front ++ left → spells_within d x ts → GoesNoFurther front left → ⊥
 spelled_by d ts front [] x e h stops = stops d x (subst (spells_within d x) (e ∙ append_nil front) h)

@@ -131,9 +131,11 @@ form_then a b w v g = record {
       let less : w.levels ≤ d = omega (arith, le) in
       let less2 : v.levels ≤ d = omega (arith, le) in
       let f = w.whole names d (knows_left names a b knows) less (b ++ more) in
-      let xs = v.whole names d (knows_right names a b knows) less2 more in
-      (more_stmts (form_stmt f.0) xs.0, subst (λ (z : List Token). (IsStmt names d (form_stmt f.0) ▸ AreStmts names d xs.0) z more) (sym (append_assoc a b more))
-          (b ++ more, (b ++ more, f.1, on (b ++ more) (g more)), xs.1));
+      let xs = v.whole names d (knows_right names a b knows) less2 more in (
+        more_stmts (form_stmt f.0) xs.0,
+        subst (λ (z : List Token). (IsStmt names d (form_stmt f.0) ▸ AreStmts names d xs.0) z more) (sym (append_assoc a b more))
+            (b ++ more, (b ++ more, f.1, on (b ++ more) (g more)), xs.1),
+      );
 } where
   on : (ts : List Token) → GoesOn ts → goes_on ts ts
   on [] g = absurd g
@@ -161,14 +163,32 @@ on_from : (ts a mid b end more : List Token) → ts ≡ a ++ mid → (GoesOn mid
 on_from ts a mid b end more e f g = subst (λ (z : List Token). GoesOn (z ++ more)) (sym (append_assoc a b end)) (subst GoesOn (sym (append_assoc a (b ++ end) more)) (goes_join ts a mid ((b ++ end) ++ more) e f g))
 
 front_by : (ts a mid : List Token) (x : Stmt) → ts ≡ a ++ mid → (Whole AStmt a ⊎ (Whole AForm a × GoesOn mid)) → (q : Read Stmts) → TookStmts mid q → TookStmts ts (with_front (more_stmts x) q)
-front_by ts a mid x e (inl w) (Ok y) h = (a ++ h.0, joined ts a mid h.0 y.1 e h.1, whole_within more_of (a ++ h.0) (whole_then AStmt SomeStmts a h.0 w h.2),
-    (λ g more. subst GoesOn (sym (append_assoc a h.0 more)) (goes_join ts a mid (h.0 ++ more) e (λ g. h.3 g more) g)))
-front_by ts a mid x e (inr w) (Ok y) h = (a ++ h.0, joined ts a mid h.0 y.1 e h.1, form_then a h.0 w.0 h.2 (h.3 w.1),
-    (λ g more. subst GoesOn (sym (append_assoc a h.0 more)) (goes_join ts a mid (h.0 ++ more) e (λ g. h.3 g more) g)))
-front_by ts a mid x e (inl w) (Err f) h = (a ++ h.0, joined ts a mid h.0 (from f) e h.1, h.2, subst (Whole SomeStmts) (sym (append_assoc a h.0 h.2)) (whole_within more_of (a ++ (h.0 ++ h.2)) (whole_then AStmt SomeStmts a (h.0 ++ h.2) w h.3)),
-    (λ g more. on_from ts a mid h.0 h.2 more e (λ g. h.4 g more) g))
-front_by ts a mid x e (inr w) (Err f) h = (a ++ h.0, joined ts a mid h.0 (from f) e h.1, h.2, subst (Whole SomeStmts) (sym (append_assoc a h.0 h.2)) (form_then a (h.0 ++ h.2) w.0 h.3 (h.4 w.1)),
-    (λ g more. on_from ts a mid h.0 h.2 more e (λ g. h.4 g more) g))
+front_by ts a mid x e (inl w) (Ok y) h = (
+  a ++ h.0,
+  joined ts a mid h.0 y.1 e h.1,
+  whole_within more_of (a ++ h.0) (whole_then AStmt SomeStmts a h.0 w h.2),
+  (λ g more. subst GoesOn (sym (append_assoc a h.0 more)) (goes_join ts a mid (h.0 ++ more) e (λ g. h.3 g more) g)),
+)
+front_by ts a mid x e (inr w) (Ok y) h = (
+  a ++ h.0,
+  joined ts a mid h.0 y.1 e h.1,
+  form_then a h.0 w.0 h.2 (h.3 w.1),
+  (λ g more. subst GoesOn (sym (append_assoc a h.0 more)) (goes_join ts a mid (h.0 ++ more) e (λ g. h.3 g more) g)),
+)
+front_by ts a mid x e (inl w) (Err f) h = (
+  a ++ h.0,
+  joined ts a mid h.0 (from f) e h.1,
+  h.2,
+  subst (Whole SomeStmts) (sym (append_assoc a h.0 h.2)) (whole_within more_of (a ++ (h.0 ++ h.2)) (whole_then AStmt SomeStmts a (h.0 ++ h.2) w h.3)),
+  (λ g more. on_from ts a mid h.0 h.2 more e (λ g. h.4 g more) g),
+)
+front_by ts a mid x e (inr w) (Err f) h = (
+  a ++ h.0,
+  joined ts a mid h.0 (from f) e h.1,
+  h.2,
+  subst (Whole SomeStmts) (sym (append_assoc a h.0 h.2)) (form_then a (h.0 ++ h.2) w.0 h.3 (h.4 w.1)),
+  (λ g more. on_from ts a mid h.0 h.2 more e (λ g. h.4 g more) g),
+)
 
 ended_by : (ts a mid : List Token) → ts ≡ a ++ mid → (GoesOn mid → ⊥) → GoesOn ts → (more : List Token) → GoesOn (a ++ more)
 ended_by ts a mid e closed g more = goes_join ts a mid more e (λ g. absurd (closed g)) g
