@@ -1,15 +1,17 @@
 -- Types that fit are equal where values of them are copied, and what is known of a local then.
-use Rattle.std.proofs.Common.{◌≡◌, ℕ, Bool, true, false, not, ◌==◌, List, [], ◌∷◌, Option, Some, None, if◌then◌else◌, refl, ap, ◌∙◌}
+use Rattle.std.proofs.Common.{◌≡◌, ℕ, Bool, true, false, not, ◌&&◌, ◌==◌, List, [], ◌∷◌, Option, Some, None, if◌then◌else◌, refl, ap, ◌∙◌}
+use Rattle.std.specs.List.{list_all}
 use Rattle.std.proofs.lemmas.Bool.{false≢true, and_parts, eqb-true}
 use Rattle.vale_syntax.specs.declared.built_in.BuiltIn.{BuiltIn}
 use Rattle.vale_syntax.specs.declared.built_in.BuiltIn.TheVariants as b
 use Rattle.vale_syntax.specs.declared.tree.BinaryOp.{BinaryOp}
 use Rattle.vale_syntax.specs.declared.tree.BinaryOp.TheVariants as o
 use Rattle.vale_syntax.specs.Tree.{Item, Head, head}
-use Rattle.vale_rules_spec.specs.Types.{Ty, void, int, bool, str, kind, array, ref, imm, iso, same, is_void, object_of, Local, view_here, as_frozen, local_seen, fits}
+use Rattle.vale_rules_spec.specs.Declarations.{head_params}
+use Rattle.vale_rules_spec.specs.Types.{Ty, void, int, bool, str, kind, array, ref, imm, iso, same, is_void, object_of, result_of, Local, view_here, as_frozen, local_seen, fits}
 use Rattle.vale_rules_spec.specs.Typed as t
 use Rattle.vale_rules_spec.specs.TypeRules.{all_fit, takes_operands, link_gives, takes_arguments, head_gives}
-use Rattle.vale_served_spec.specs.Served.{type_is_served, expr_is_served, node_is_served, exprs_are_served, built_in_is_served}
+use Rattle.vale_served_spec.specs.Served.{type_is_served, expr_is_served, node_is_served, exprs_are_served, built_in_is_served, block_is_served, param_is_served, function_is_served}
 use Rattle.vale_lowering.specs.Scopes.{head_result}
 
 pub impossible : {A : Type 0} → false ≡ true → A
@@ -138,3 +140,15 @@ same_takes items b.Slice xs c e = e
 same_takes items b.Byte xs c e = e
 same_takes items b.IsNumber xs c e = e
 same_takes items b.Number xs c e = e
+
+-- ---- what is known of a function all of which is served
+
+pub record ServedFunction (h : Head) (b : t.Block) : Type 0 where
+  pub copies : list_all param_is_served (head_params h) ≡ true
+  pub body : block_is_served b ≡ true
+
+pub served_function : (h : Head) (b : t.Block) → function_is_served (t.function_body h b) ≡ true → ServedFunction h b
+served_function (head is_pure n ps x) b e =
+    let a = and_parts (not is_pure && list_all param_is_served ps && type_is_served (result_of x)) (block_is_served b) e in
+    let c = and_parts (not is_pure && list_all param_is_served ps) (type_is_served (result_of x)) a.0 in
+    record { copies = (and_parts (not is_pure) (list_all param_is_served ps) c.0).1; body = a.1 }

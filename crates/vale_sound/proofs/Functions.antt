@@ -16,7 +16,7 @@ use Rattle.vale_served_spec.specs.Served.{type_is_served, block_is_served, funct
 use Rattle.vale_lowering.specs.Scopes.{head_result}
 use Rattle.vale_lower_facts.specs.WellTyped.{function_is_well_typed, all_are_well_typed}
 use Rattle.vale_sound.proofs.Fine.{one_rule, asked, of_node, of_plain, of_fine, of_both}
-use Rattle.vale_sound.proofs.Fits.{impossible, same_gives}
+use Rattle.vale_sound.proofs.Fits.{impossible, same_gives, served_function}
 use Rattle.vale_sound.proofs.Literals.{LawfulFunction, LawfulItem}
 use Rattle.vale_sound.proofs.Parts.{IsFound, Finds, void_meets}
 
@@ -29,9 +29,8 @@ module _ (names : List (List ℕ)) (items : List Item) (functions : List t.Funct
   function_meets : (f : Function) (v : t.Function) → LawfulFunction f → in_function names items f ≡ fine v → FunctionMeets v
   function_meets (function h b) v law is =
       of_node FunctionMeets (head_name h).at (λ v. function_rules (head_gives h) (block_returns v)) (λ v. t.function_body h v) (void_block names items (entry h) b) v is
-      (λ w each kept cov.
-      let front = not (is_pure (t.function_body h w)) && list_all (λ p. is_copy (type_of (param_type p))) (head_params h) && type_is_served (head_result h) in (
-        void_meets names items functions finds (entry h) b w law each (and_parts front (block_is_served w) cov).1,
+      (λ w each kept cov. (
+        void_meets names items functions finds (entry h) b w law each (served_function h w cov).body,
         λ some. asked (not (is_void (head_gives h))) (block_returns w) (one_rule 26 (not (is_void (head_gives h)) ⇒ block_returns w) kept)
             (ap (λ x. not (is_void x)) (same_gives h) ∙ ap not some),
       ))

@@ -27,7 +27,7 @@ use Rattle.vale_model.specs.Parts.{first_function, functions_of, is_pure}
 use Rattle.vale_served_spec.specs.Served.{type_is_served, block_is_served, function_is_served, item_is_served}
 use Rattle.vale_lowering.specs.Scopes.{head_result, result_type}
 use Rattle.vale_sound.proofs.Fine.{rule_kept, one_rule, asked, of_node, of_plain, of_fine, of_both}
-use Rattle.vale_sound.proofs.Fits.{impossible, not_true}
+use Rattle.vale_sound.proofs.Fits.{impossible, not_true, served_function}
 
 -- ---- no faults
 
@@ -203,12 +203,11 @@ module _ (names : List (List ℕ)) where
         number r.numbered.1 p.1 in
         let lawful = or_first (is_lawful_main names h) (any_lawful xs) some others in
         let c = and_parts (function_is_served f) (list_all item_is_served ys) cov in
-        let front = and_parts (not (is_pure f) && list_all (λ p. is_copy (type_of (param_type p))) (head_params h) && type_is_served (head_result h)) (block_is_served v) c.0 in
-        let copies = and_parts (not (is_pure f)) (list_all (λ p. is_copy (type_of (param_type p))) (head_params h)) (and_parts (not (is_pure f) && list_all (λ p. is_copy (type_of (param_type p))) (head_params h)) (type_is_served (head_result h)) front.0).0 in
+        let copies = (served_function h v c.0).copies in
         record {
           is = f;
           found = ap (λ c. if c then Some f else first_function is_main_function (flat_map functions_of ys)) is;
-          takes_nothing = no_params (head_params h) (lawful_takes h lawful) copies.1;
+          takes_nothing = no_params (head_params h) (lawful_takes h lawful) copies;
           gives_nothing = lawful_gives h lawful;
         }
     function_first before xs h b v ys false is rest cov r =

@@ -1,8 +1,10 @@
 use Rattle.std.proofs.Common.{sym, ap, ◌∙◌, refl}
 use Rattle.std.specs.Prelude.{map}
+use Rattle.std.proofs.lemmas.Bool.{false≢true}
 use Rattle.vale_core.specs.View.{view_core}
 use Rattle.vale_front.specs.Front.{ill_declared, ill_typed, ill_owned, not_served}
 use Rattle.vale_front.proofs.InterfaceLaws.{plain_without}
+use Rattle.vale_served_spec.specs.Served.{is_served}
 use Rattle.vale_syntax.specs.View.{view_item, view_tree}
 use Rattle.vale_front.proofs.judging.judge.Goals as goal
 
@@ -35,11 +37,16 @@ returns-in-Err-Is-own-clause-refused c =
     ill_owned judged c.in-Ok.decls (view_core c.in-Ok-type_all.core) c.in-Ok.ensures.declared c.in-Ok-type_all.ensures.typed c.in-Err-Is-own.fault why
     (rw c.in-Err-Is-own.field-0-is at c.of-in-Err-Is-own.ensures.code) (rw c.in-Err-Is-own.field-0-is at c.of-in-Err-Is-own.ensures.at)
 
-pub returns-then-missing-2-clause-refused : goal.returns-then-missing-2-clause-refused
-returns-then-missing-2-clause-refused c =
+pub returns-then-not-is_served-clause-refused : goal.returns-then-not-is_served-clause-refused
+returns-then-not-is_served-clause-refused c =
     let judged = sym c.has_interfaces.ensures ∙ c.if-has_interfaces.false in
-    let unserved = sym c.is_served.ensures ∙ c.if-is_served.true in
+    let unserved = rw c.in-Ok-own.ensures.same at (sym c.is_served.ensures ∙ c.if-not-is_served.true) in
     not_served judged c.in-Ok.decls (view_core c.in-Ok-type_all.core) c.in-Ok.ensures.declared c.in-Ok-type_all.ensures.typed (rw c.in-Ok-own.ensures.same at c.in-Ok-own.ensures.owned) unserved refl refl
+
+pub returns-then-not-is_served-clause-complete : goal.returns-then-not-is_served-clause-complete
+returns-then-not-is_served-clause-complete c = λ decls program s.
+    let unserved = rw c.in-Ok-own.ensures.same at (sym c.is_served.ensures ∙ c.if-not-is_served.true) in
+    absurd (false≢true (sym unserved ∙ ap is_served (c.in-Ok-type_all.ensures.all_typed program s.types) ∙ s.served))
 
 pub invariant_of-result : goal.invariant_of-result
 invariant_of-result c =
