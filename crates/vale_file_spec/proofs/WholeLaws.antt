@@ -75,6 +75,9 @@ file_near bytes e h =
 pub one_spelling : (a b : List ℕ) (v : ℕ) (code : Parts) (facts : List FuncFacts) → Spells a v code facts → Spells b v code facts → a ≡ b
 one_spelling a b v code facts p q = p.whole ∙ sym q.whole
 
+pub is_spelled : (bytes : List ℕ) (v : ℕ) (code : Parts) (facts : List FuncFacts) → front.Fits (tt, (v, (code, facts))) → bytes ≡ front.write (tt, (v, (code, facts))) → Spells bytes v code facts
+is_spelled bytes v code facts fits whole = record { fits = fits; whole = whole }
+
 ok_whole : (x y : Whole × List ℕ) → (let r : Result (Whole × List ℕ) Fault = Ok x in r) ≡ Ok y → x ≡ y
 ok_whole x y e = cc
 
