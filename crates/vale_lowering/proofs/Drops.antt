@@ -5,7 +5,7 @@ use Rattle.vale_state_spec.specs.World.{Int, Truth, Text, Own, Ref, Iso}
 use Rattle.vale_base.specs.declared.spot.Spot.{Spot}
 use Rattle.vale_code.specs.Registers.{Registers}
 use Rattle.vale_model.specs.Runs.{Locals, goes, returned, then_do, outer}
-use Rattle.vale_model.specs.Destruction.{Again, drop, drop_locals, leave}
+use Rattle.vale_model.specs.Destruction.{Again, drop, drop_owned, drop_locals, leave}
 use Rattle.vale_lowering.specs.Scopes.{Scope, entry}
 use Rattle.vale_lowering.proofs.Registers.{Held, HasPlain, Base, Named, Agrees, agrees_pop, agrees_down, agrees_once, with_at, one_above}
 use Rattle.vale_lowering.proofs.Reaches.{Fits, In, Put}
@@ -20,18 +20,23 @@ module _ (again : Again) (at : Spot) (calls : Calls) where
   drop_plain (Some (Ref m)) l w h = absurd h
   drop_plain (Some (Iso m)) l w h = absurd h
 
-  pub drop_fitting : (gives : Bool) (v : Held) (l : Locals) (w : State) → Fits gives v → drop again at v calls l w ≡ goes None l w
-  drop_fitting true None l w h = absurd h
-  drop_fitting true (Some v) l w h = drop_plain (Some v) l w h
-  drop_fitting false None l w h = refl
-  drop_fitting false (Some v) l w h = absurd h
+  pub drop_owned_plain : (owned : Bool) (v : Held) (l : Locals) (w : State) → HasPlain v → drop_owned again at owned v calls l w ≡ goes None l w
+  drop_owned_plain true v l w h = drop_plain v l w h
+  drop_owned_plain false v l w h = refl
+
+  pub drop_fitting : (gives owned : Bool) (v : Held) (l : Locals) (w : State) → Fits gives v → drop_owned again at owned v calls l w ≡ goes None l w
+  drop_fitting true owned None l w h = absurd h
+  drop_fitting true owned (Some v) l w h = drop_owned_plain owned (Some v) l w h
+  drop_fitting false true None l w h = refl
+  drop_fitting false false None l w h = refl
+  drop_fitting false owned (Some v) l w h = absurd h
 
   drops : (s : Scope) (l k : Locals) (w : State) → Named s l → drop_locals again at l calls k w ≡ goes None k w
   drops [] [] k w h = refl
   drops [] (y ∷ l) k w h = absurd h
   drops (x ∷ s) [] k w h = absurd h
   drops (x ∷ s) (y ∷ l) k w h =
-      ap (λ r. then_do r (λ u. drop_locals again at l calls)) (drop_plain y.value k w h.1) ∙ drops s l k w h.2
+      ap (λ r. then_do r (λ u. drop_locals again at l calls)) (drop_owned_plain y.owned y.value k w h.1) ∙ drops s l k w h.2
 
   pub leave_plain : {A : Type 0} (v : Held) (s : Scope) (l : Locals) (w : State) → Named s l → leave {A = A} again at v calls l w ≡ returned v w
   leave_plain v s l w h = ap (λ r. then_do r (λ u l w. returned v w)) (drops s l [] w h)

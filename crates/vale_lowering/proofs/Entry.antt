@@ -1,16 +1,20 @@
 -- Where a function begins: its parameters against the registers, and its code from its first place on.
 use Rattle.std.proofs.Common.{◌≡◌, ◌≢◌, ℕ, zero, suc, ◌+◌, ◌-◌, ◌<◌, List, [], ◌∷◌, ◌++◌, length, map, Some, None, refl, sym, ap, ◌∙◌, subst, ◌⊎◌, inl, inr, ⊎_elim, arith, length-append, append_assoc}
 use Rattle.std.specs.Prelude.{slice_get, replicate}
-use Rattle.vale_state_spec.specs.World.{Value}
+use Rattle.vale_state_spec.specs.World.{Value, Int, Truth, Text, Own, Ref, Iso}
+use Rattle.vale_syntax.specs.Tree.{Param, param}
+use Rattle.vale_rules_spec.specs.Types.{Ty, is_owned, type_of}
+use Rattle.vale_rules_spec.specs.Types as y
+use Rattle.vale_model.specs.Parts.{param_names}
 use Rattle.vale_model.specs.Runs.{Locals}
-use Rattle.vale_model.specs.Meaning.{bound}
+use Rattle.vale_model.specs.Meaning.{bound, given_to, parameter}
 use Rattle.vale_code.specs.Instructions.{instruction_in}
 use Rattle.vale_code.specs.Parts.{Parts}
 use Rattle.vale_code.specs.Registers.{Registers, read, registers_for}
 use Rattle.vale_code.specs.declared.func.Func.{Func}
 use Rattle.vale_code.specs.declared.instr.Instr.{Instr}
 use Rattle.vale_lowering.specs.Scopes.{Scope, entry, parameters}
-use Rattle.vale_lowering.proofs.Registers.{Held, ArePlain, pick, pick_same, pick_other, look, Falls, falls_up, Named, Stand}
+use Rattle.vale_lowering.proofs.Registers.{Held, IsPlain, ArePlain, pick, pick_same, pick_other, look, Falls, falls_up, Named, Stand}
 use Rattle.vale_lowering.proofs.Reaches.{HasAt}
 
 -- ---- code
@@ -73,26 +77,44 @@ pub record Enters (s : Scope) (l : Locals) (regs : Registers) : Type 0 where
   pub named : Named s l
   pub all : (r : ℕ) → read regs r ≡ look s l (read regs) r
 
-bound_enters : (ns : List ℕ) (vs : List Value) (r : ℕ) (s : Scope) (l k : Locals) (regs : Registers) → ArePlain vs → Stand r vs regs → Enters s l regs → bound ns vs l ≡ Some k → Enters (parameters r ns s) k regs
+-- a plain value stays what it is
+given_plain : (x : Ty) (v : Value) → IsPlain v → given_to x v ≡ v
+given_plain (y.imm x) (Int z) p = refl
+given_plain (y.imm x) (Truth b) p = refl
+given_plain (y.imm x) (Text t) p = refl
+given_plain (y.imm x) (Own m) p = absurd p
+given_plain (y.imm x) (Ref m) p = absurd p
+given_plain (y.imm x) (Iso m) p = absurd p
+given_plain y.void v p = refl
+given_plain y.int v p = refl
+given_plain y.bool v p = refl
+given_plain y.str v p = refl
+given_plain (y.kind m) v p = refl
+given_plain (y.array x) v p = refl
+given_plain (y.ref x) v p = refl
+given_plain (y.iso x) v p = refl
+
+bound_enters : (ps : List Param) (vs : List Value) (r : ℕ) (s : Scope) (l k : Locals) (regs : Registers) → ArePlain vs → Stand r vs regs → Enters s l regs → bound ps vs l ≡ Some k → Enters (parameters r (param_names ps) s) k regs
 bound_enters [] [] r s l k regs pvs st e b = subst (λ m. Enters s m regs) (let f : l ≡ k = cc in f) e
 bound_enters [] (v ∷ vs) r s l k regs pvs st e b = absurd (let f : ⊥ = cc in f)
-bound_enters (m ∷ ns) [] r s l k regs pvs st e b = absurd (let f : ⊥ = cc in f)
-bound_enters (m ∷ ns) (v ∷ vs) r s l k regs pvs st e b =
-    bound_enters ns vs (r + 1) (entry m r ∷ s) (record { name = Some m; value = Some v } ∷ l) k regs pvs.1 st.1
-    (record { named = (refl, pvs.0, e.named); all = λ q. e.all q ∙ same q }) b
+bound_enters (p ∷ ps) [] r s l k regs pvs st e b = absurd (let f : ⊥ = cc in f)
+bound_enters (param m x ∷ ps) (v ∷ vs) r s l k regs pvs st e b =
+    bound_enters ps vs (r + 1) (entry m.name.0 r ∷ s) (parameter (param m x) v ∷ l) k regs pvs.1 st.1
+    (subst (λ u. Enters (entry m.name.0 r ∷ s) (record { name = Some m.name.0; value = Some u; owned = is_owned (type_of x) } ∷ l) regs) (sym (given_plain (type_of x) v pvs.0))
+    (record { named = (refl, pvs.0, e.named); all = λ q. e.all q ∙ same q })) b
   where
     same : (q : ℕ) → look s l (read regs) q ≡ pick q r (Some v) (look s l (read regs) q)
     same q = sym (e.all q) ∙ picked q r (Some v) regs st.0 ∙ ap (pick q r (Some v)) (e.all q)
 
-pub enters : (ns : List ℕ) (vs : List Value) (k : Locals) (regs : Registers) → ArePlain vs → Stand 0 vs regs → bound ns vs [] ≡ Some k → Enters (parameters 0 ns []) k regs
-enters ns vs k regs pvs st b = bound_enters ns vs 0 [] [] k regs pvs st (record { named = tt; all = λ q. refl }) b
+pub enters : (ps : List Param) (vs : List Value) (k : Locals) (regs : Registers) → ArePlain vs → Stand 0 vs regs → bound ps vs [] ≡ Some k → Enters (parameters 0 (param_names ps) []) k regs
+enters ps vs k regs pvs st b = bound_enters ps vs 0 [] [] k regs pvs st (record { named = tt; all = λ q. refl }) b
 
 -- as many values as parameters are bound
-pub are_bound : (ns : List ℕ) (vs : List Value) (l : Locals) → length ns ≡ length vs → (k : Locals) × (bound ns vs l ≡ Some k)
+pub are_bound : (ps : List Param) (vs : List Value) (l : Locals) → length (param_names ps) ≡ length vs → (k : Locals) × (bound ps vs l ≡ Some k)
 are_bound [] [] l e = (l, refl)
 are_bound [] (v ∷ vs) l e = absurd (let f : ⊥ = cc in f)
-are_bound (m ∷ ns) [] l e = absurd (let f : ⊥ = cc in f)
-are_bound (m ∷ ns) (v ∷ vs) l e = are_bound ns vs (record { name = Some m; value = Some v } ∷ l) (let f : length ns ≡ length vs = cc in f)
+are_bound (param m x ∷ ps) [] l e = absurd (let f : ⊥ = cc in f)
+are_bound (param m x ∷ ps) (v ∷ vs) l e = are_bound ps vs (parameter (param m x) v ∷ l) (let f : length (param_names ps) ≡ length vs = cc in f)
 
 falls_from : (ns : List ℕ) (r : ℕ) (s : Scope) → Falls r s → Falls (r + length ns) (parameters r ns s)
 falls_from [] r s f = falls_up s r (r + 0) (omega arith) f

@@ -31,7 +31,7 @@ use Rattle.vale_code.specs.Run as run
 use Rattle.vale_code.specs.declared.func.Func.{Func}
 use Rattle.vale_code.specs.declared.ty.Ty.{Ty as CodeTy}
 use Rattle.vale_lowering.specs.Scopes.{code_type, number_of_function, result_type}
-use Rattle.vale_lowering.specs.Lowered.{form_of, names_in, lowered}
+use Rattle.vale_lowering.specs.Lowered.{form_of, lowered}
 use Rattle.vale_lowering.proofs.Reaches.{Where, conf, Reaches}
 use Rattle.vale_lowering.proofs.Lookups.{found_function, passes}
 use Rattle.vale_lowering.proofs.Calls.{program_code, functions, code_of_function, func_at, text_of_function}
@@ -82,14 +82,14 @@ module _ (parts : Parts) (ticks : ℕ) where
   stopped gives n c (ended e w) (inr a) = inr (e, w, a, refl, refl)
 
   -- `main` without parameters, from its entry
-  main_entered : (m : ℕ) (f : Function) → ticks ≡ m → slice_get (functions parts) main_number ≡ Some f → is_pure f ≡ false → names_in f ≡ [] → Matches code (enter main_number Plain (code_of_function parts f) main_frame None [] [] (begin m)) (called_by false (level parts m) f [] main_frame [] [] (begin m))
+  main_entered : (m : ℕ) (f : Function) → ticks ≡ m → slice_get (functions parts) main_number ≡ Some f → is_pure f ≡ false → head_params (head_of f) ≡ [] → Matches code (enter main_number Plain (code_of_function parts f) main_frame None [] [] (begin m)) (called_by false (level parts m) f [] main_frame [] [] (begin m))
   main_entered zero f t here pure none = inr (Cut, begin 0, (0, None, refl), refl, refl)
   main_entered (suc n) (function_body h b) t here pure none =
       let f = function_body h b in
       let w : State = record (begin (suc n)) { left = n; spent = 0 + 1 } in
-      subst (λ ns. Matches code (On (conf (root (is_copy (result_type f))) 0 (registers_for (code_of_function parts f).registers []) w)) (with_bound (bound ns [] []) (λ calls. body_run (level parts n) b (main_frame ∷ calls)) [] [] w)) (sym none)
+      subst (λ ps. Matches code (On (conf (root (is_copy (result_type f))) 0 (registers_for (code_of_function parts f).registers []) w)) (with_bound (bound ps [] []) (λ calls. body_run (level parts n) b (main_frame ∷ calls)) [] [] w)) (sym none)
       (stopped (is_copy (result_type f)) n (conf (root (is_copy (result_type f))) 0 _ w) (body_run (level parts n) b (main_frame ∷ []) [] w)
-      (body_runs parts n (all_follow parts n) (root (is_copy (result_type f))) f [] here pure refl tt (ap length none) b [] w refl (ap (λ ns. bound ns [] []) none) (omega arith)))
+      (body_runs parts n (all_follow parts n) (root (is_copy (result_type f))) f [] here pure refl tt (ap (λ ps. length (param_names ps)) none) b [] w refl (ap (λ ps. bound ps [] []) none) (omega arith)))
 
   -- what `main` is given, where it takes something
   takes : (x : Ty) (tys : List CodeTy) (go : List Value → State → Next) → with_input (code_type x ∷ tys) None (begin ticks) go ≡ wrong (begin ticks)
@@ -111,7 +111,7 @@ module _ (parts : Parts) (ticks : ℕ) where
       let here = found_function test (functions parts) f e in
       let named : text_at code (code_of_function parts f).name ≡ codes "main" = text_of_function parts main_number f here ∙ called_main parts.names (name_of f) (passes test (functions parts) f e) in
       subst (λ t. Matches code (enter main_number Plain (code_of_function parts f) (function_frame t first_spot) None [] [] (begin ticks)) (called_by false (level parts ticks) f [] main_frame [] [] (begin ticks))) (sym named)
-      (main_entered ticks f refl here pure (ap param_names none))
+      (main_entered ticks f refl here pure none)
   by_params f (q ∷ ps) e pure some = wrongs _ (called_by false (level parts ticks) f [] main_frame [] [] (begin ticks)) (takes (type_of (param_type q)) _ _)
 
   by_purity : (f : Function) (b : Bool) → first_function test (functions parts) ≡ Some f → is_pure f ≡ b → Matches code (with_form (form_in (form_of b)) (code_of_function parts f) (begin ticks) started) (called_by b (level parts ticks) f [] main_frame [] [] (begin ticks))

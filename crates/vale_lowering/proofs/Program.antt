@@ -5,9 +5,10 @@ use Rattle.vale_state_spec.specs.State.{State}
 use Rattle.vale_state_spec.specs.World.{Value}
 use Rattle.vale_base.specs.declared.spot.Spot.{Spot}
 use Rattle.vale_base.specs.declared.trap.FrameAt.{FrameAt}
+use Rattle.vale_rules_spec.specs.Declarations.{head_params}
 use Rattle.vale_rules_spec.specs.Types.{is_copy}
 use Rattle.vale_rules_spec.specs.Typed.{Function, function_body, Block, block}
-use Rattle.vale_model.specs.Kinds.{body_of}
+use Rattle.vale_model.specs.Kinds.{head_of, body_of}
 use Rattle.vale_model.specs.Parts.{Parts, is_pure}
 use Rattle.vale_model.specs.Runs.{Locals, Result, goes, returned, ended, valued}
 use Rattle.vale_model.specs.Destruction.{Again, leave}
@@ -86,13 +87,13 @@ module _ (parts : Parts) (n : ℕ) (follows : Follows parts (level parts n) n) w
         (inr (leaves_void (program_code parts) k n (0 + length block_instrs) regs w is_in at.0, subst (λ g. Fits g None) (sym e) tt, few))
 
     -- a function's body from its entry
-    pub body_runs : (b : Block) (l : Locals) (w : State) → body_of f ≡ b → bound names vs [] ≡ Some l → w.left ≤ n → Reaches (program_code parts) k n 0 Never (conf k 0 regs0 w) (body_run again b (calls_in k) l w)
+    pub body_runs : (b : Block) (l : Locals) (w : State) → body_of f ≡ b → bound (head_params (head_of f)) vs [] ≡ Some l → w.left ≤ n → Reaches (program_code parts) k n 0 Never (conf k 0 regs0 w) (body_run again b (calls_in k) l w)
     body_runs (block at end x ss) l w same b few =
         then_reaches (program_code parts) k n (0 + length block_instrs) 0 (Put false (length names) (length names + 1) scope (read regs0)) Never (conf k 0 regs0 w) (block_run again (block at end x ss) (calls_in k) l w) _
         (subst (λ b. Reaches (program_code parts) k n (0 + length block_instrs) (Put false (length names) (length names + 1) scope (read regs0)) (conf k 0 regs0 w) (block_run again b (calls_in k) l w)) same
         (block_runs parts k is_in n again follows (body_of f) false 0 (length names) (length names + 1) scope (read regs0) l regs0 w
         (falls_up scope (length names) (length names + 1) (omega arith) falls) (omega arith) (fresh_above scope (length names) (length names) falls (omega arith))
-        (let en = enters names vs l regs0 plain (arguments_stand (code_of_function parts f).registers vs) b in record { names = en.named; each = λ r lt. en.all r }) few
+        (let en = enters (head_params (head_of f)) vs l regs0 plain (arguments_stand (code_of_function parts f).registers vs) b in record { names = en.named; each = λ r lt. en.all r }) few
         (has_front (program_code parts) k.function block_instrs _ 0 has)))
         (λ v l w regs ag few. at_end k.gives refl end v l w regs ag few (has_back (program_code parts) k.function block_instrs _ 0 has))
 
@@ -108,7 +109,7 @@ module _ (parts : Parts) (n : ℕ) (follows : Follows parts (level parts n) n) w
   calls_more j (function_body h b) vs frame to after below l w less here pure plain many =
       let f = function_body h b in
       let k : Where = record { call = frame; function = j; dest = to; below = after ∷ below; gives = is_copy (result_type f) } in
-      let m = are_bound (names_in f) vs [] many in
+      let m = are_bound (head_params h) vs [] many in
       subst (λ o. ComesBack (program_code parts) (suc n) l (is_copy (result_type f)) to after below (entered parts j f vs frame to (after ∷ below) w) (with_bound o (λ calls. body_run again b (frame ∷ calls)) (under (after ∷ below)) l w)) (sym m.1)
       (returns_to (is_copy (result_type f)) to after below frame j l (entered parts j f vs frame to (after ∷ below) w) (body_run again b (calls_in k) m.0 w)
       (body_runs k f vs here pure refl plain many b m.0 w refl m.1 (omega (arith, less))))

@@ -288,8 +288,8 @@ agrees_set s l l' base h r v regs c a =
 -- ---- scopes
 
 -- the value in register h becomes a local
-pub agrees_push : (s : Scope) (l : Locals) (base : Base) (h n : ℕ) (v : Value) (regs : Registers) → IsPlain v → Falls h s → Agrees (h + 1) s l (with_at h (Some v) base) regs → Agrees (h + 1) (entry n h ∷ s) (record { name = Some n; value = Some v } ∷ l) base regs
-agrees_push s l base h n v regs p f a =
+pub agrees_push : (s : Scope) (l : Locals) (base : Base) (h n : ℕ) (owned : Bool) (v : Value) (regs : Registers) → IsPlain v → Falls h s → Agrees (h + 1) s l (with_at h (Some v) base) regs → Agrees (h + 1) (entry n h ∷ s) (record { name = Some n; value = Some v; owned = owned } ∷ l) base regs
+agrees_push s l base h n owned v regs p f a =
     record { names = (refl, p, a.names); each = λ r lt. a.each r lt ∙ sym (look_dest s l base h r (Some v) (fresh_above s h h f (omega arith))) }
 
 pub agrees_pop : (s : Scope) (l : Locals) (base : Base) (h n : ℕ) (regs : Registers) → Agrees (h + 1) (entry n h ∷ s) l base regs → Agrees h s (outer l) base regs
@@ -298,8 +298,8 @@ agrees_pop s (y ∷ l) base h n regs a =
     record { names = a.names.2; each = λ r lt. let ne : r ≢ h = omega arith in a.each r (omega arith) ∙ pick_other r h y.value (look s l base r) ne }
 
 -- a value waits in its register
-pub agrees_wait : (s : Scope) (l : Locals) (base : Base) (h k : ℕ) (v : Value) (regs : Registers) → IsPlain v → Agrees k s l base regs → Agrees k (waiting h ∷ s) (record { name = None; value = Some v } ∷ l) base regs
-agrees_wait s l base h k v regs p a = record { names = (refl, p, a.names); each = a.each }
+pub agrees_wait : (s : Scope) (l : Locals) (base : Base) (h k : ℕ) (owned : Bool) (v : Value) (regs : Registers) → IsPlain v → Agrees k s l base regs → Agrees k (waiting h ∷ s) (record { name = None; value = Some v; owned = owned } ∷ l) base regs
+agrees_wait s l base h k owned v regs p a = record { names = (refl, p, a.names); each = a.each }
 
 pub agrees_done : (s : Scope) (l : Locals) (base : Base) (h k : ℕ) (regs : Registers) → Agrees k (waiting h ∷ s) l base regs → Agrees k s (outer l) base regs
 agrees_done s [] base h k regs a = absurd a.names

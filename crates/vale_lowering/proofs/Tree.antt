@@ -6,11 +6,11 @@ use Rattle.vale_state_spec.specs.World.{Value, Int, Truth, Text}
 use Rattle.vale_base.specs.declared.spot.Spot.{Spot}
 use Rattle.vale_text.specs.Operations.{is_int}
 use Rattle.vale_syntax.specs.declared.tree.NameAt.{NameAt}
-use Rattle.vale_rules_spec.specs.Types.{Ty, void, is_copy}
+use Rattle.vale_rules_spec.specs.Types.{Ty, void, is_copy, is_owned}
 use Rattle.vale_rules_spec.specs.Typed.{Callee, built_in, constructor, function, Expr, expr, Node, set, chain, unary, steps, number, quote, truth, name, call, paren, array, iso, form, Exprs, no_exprs, more_exprs, link, Links, no_links, more_links, Form, branch, pure, parallel_range, parallel_each, else_if, Elses, no_else, otherwise, more_elses, Block, block, declare, destructure, return_nothing, return_value, while, foreach, form_stmt, express, Stmts, no_stmts, last, more_stmts, type}
 use Rattle.vale_model.specs.Parts.{Parts}
 use Rattle.vale_model.specs.Runs.{Locals, Result, goes, returned, ended, Run, then_do, the_value, valued, give, held_by, with_held, outer, innermost, while_waits}
-use Rattle.vale_model.specs.Destruction.{Again, drop, leave, with_local}
+use Rattle.vale_model.specs.Destruction.{Again, drop_owned, leave, with_local}
 use Rattle.vale_model.specs.Expressions.{expr_run, node_run, exprs_run, links_run, link_run, set_run, form_run, elses_run, block_run, stmts_run, stmt_run, callee_run, iteration_body, expr_spot}
 use Rattle.vale_code.specs.Instructions.{onward, with_choice}
 use Rattle.vale_code.specs.Parts.{Parts as Code}
@@ -29,7 +29,7 @@ use Rattle.vale_lowering.proofs.Operators.{links, unaries}
 use Rattle.vale_lowering.proofs.Counts.{count_runs}
 use Rattle.vale_lowering.proofs.BuiltIns.{built_ins}
 use Rattle.vale_lowering.proofs.Lookups.{text_or_none, agree_same}
-use Rattle.vale_lowering.proofs.Drops.{drop_plain, drop_fitting, leave_plain, in_fits, in_keeps, put_names, put_keeps, put_pop, put_in, in_put}
+use Rattle.vale_lowering.proofs.Drops.{drop_owned_plain, drop_fitting, leave_plain, in_fits, in_keeps, put_names, put_keeps, put_pop, put_in, in_put}
 use Rattle.vale_lowering.proofs.Calls.{program_code, texts, around, Follows, call_runs}
 
 and_first : (a b : Bool) → (a && b) ≡ true → a ≡ true
@@ -86,23 +86,23 @@ module _ (parts : Parts) (k : Where) (is : IsIn (program_code parts) k) (n : ℕ
 
   -- ---- the set of a local
 
-  set_runs : (q : Expr) (v : Value) (p h : ℕ) (s : Scope) (base : Base) (l : Locals) (regs : Registers) (w : State) → Falls h s → Val h s base v l regs → w.left ≤ n → Runs (set_code q h s) (In true h s base) p regs w (while_waits v (set_run again v q) (calls_in k) l w)
-  set_runs (expr x (name m is_outer moved)) v p h s base l regs w fa ag few has =
+  set_runs : (q : Expr) (owned : Bool) (v : Value) (p h : ℕ) (s : Scope) (base : Base) (l : Locals) (regs : Registers) (w : State) → Falls h s → Val h s base v l regs → w.left ≤ n → Runs (set_code q h s) (In true h s base) p regs w (while_waits owned v (set_run again v q) (calls_in k) l w)
+  set_runs (expr x (name m is_outer moved)) owned v p h s base l regs w fa ag few has =
       exchanges code k n p h s base l (with_held m.name.0 (Some v) l) regs w v (place_of m.name.0 s) (held_by m.name.0 l)
-      (λ u. then_do (then_do (then_do (the_value u (calls_in k) (record { name = None; value = Some v } ∷ l) w) (λ u l w. goes u (with_held m.name.0 (Some v) l) w)) (λ u. give (Some u) (calls_in k))) (λ r l w. goes r (outer l) w))
+      (λ u. then_do (then_do (then_do (the_value u (calls_in k) (record { name = None; value = Some v; owned = owned } ∷ l) w) (λ u l w. goes u (with_held m.name.0 (Some v) l) w)) (λ u. give (Some u) (calls_in k))) (λ r l w. goes r (outer l) w))
       fa ag few (meets m.name.0 h s l fa ag.1.names) (changes m.name.0 h v s l ag.0 fa ag.1.names) (λ u. refl) has
-  set_runs (expr x (set at e q)) v p h s base l regs w fa ag few has = is_stuck code k n p (p + 1) h (In true h s base) regs w (while_waits v (set_run again v (expr x (set at e q))) (calls_in k) l w) has
-  set_runs (expr x (chain e ls)) v p h s base l regs w fa ag few has = is_stuck code k n p (p + 1) h (In true h s base) regs w (while_waits v (set_run again v (expr x (chain e ls))) (calls_in k) l w) has
-  set_runs (expr x (unary at op e)) v p h s base l regs w fa ag few has = is_stuck code k n p (p + 1) h (In true h s base) regs w (while_waits v (set_run again v (expr x (unary at op e))) (calls_in k) l w) has
-  set_runs (expr x (steps e ss)) v p h s base l regs w fa ag few has = is_stuck code k n p (p + 1) h (In true h s base) regs w (while_waits v (set_run again v (expr x (steps e ss))) (calls_in k) l w) has
-  set_runs (expr x (number at z)) v p h s base l regs w fa ag few has = is_stuck code k n p (p + 1) h (In true h s base) regs w (while_waits v (set_run again v (expr x (number at z))) (calls_in k) l w) has
-  set_runs (expr x (quote at t)) v p h s base l regs w fa ag few has = is_stuck code k n p (p + 1) h (In true h s base) regs w (while_waits v (set_run again v (expr x (quote at t))) (calls_in k) l w) has
-  set_runs (expr x (truth at b)) v p h s base l regs w fa ag few has = is_stuck code k n p (p + 1) h (In true h s base) regs w (while_waits v (set_run again v (expr x (truth at b))) (calls_in k) l w) has
-  set_runs (expr x (call m f es)) v p h s base l regs w fa ag few has = is_stuck code k n p (p + 1) h (In true h s base) regs w (while_waits v (set_run again v (expr x (call m f es))) (calls_in k) l w) has
-  set_runs (expr x (paren at e)) v p h s base l regs w fa ag few has = is_stuck code k n p (p + 1) h (In true h s base) regs w (while_waits v (set_run again v (expr x (paren at e))) (calls_in k) l w) has
-  set_runs (expr x (array at t es)) v p h s base l regs w fa ag few has = is_stuck code k n p (p + 1) h (In true h s base) regs w (while_waits v (set_run again v (expr x (array at t es))) (calls_in k) l w) has
-  set_runs (expr x (iso at b)) v p h s base l regs w fa ag few has = is_stuck code k n p (p + 1) h (In true h s base) regs w (while_waits v (set_run again v (expr x (iso at b))) (calls_in k) l w) has
-  set_runs (expr x (form f)) v p h s base l regs w fa ag few has = is_stuck code k n p (p + 1) h (In true h s base) regs w (while_waits v (set_run again v (expr x (form f))) (calls_in k) l w) has
+  set_runs (expr x (set at e q)) owned v p h s base l regs w fa ag few has = is_stuck code k n p (p + 1) h (In true h s base) regs w (while_waits owned v (set_run again v (expr x (set at e q))) (calls_in k) l w) has
+  set_runs (expr x (chain e ls)) owned v p h s base l regs w fa ag few has = is_stuck code k n p (p + 1) h (In true h s base) regs w (while_waits owned v (set_run again v (expr x (chain e ls))) (calls_in k) l w) has
+  set_runs (expr x (unary at op e)) owned v p h s base l regs w fa ag few has = is_stuck code k n p (p + 1) h (In true h s base) regs w (while_waits owned v (set_run again v (expr x (unary at op e))) (calls_in k) l w) has
+  set_runs (expr x (steps e ss)) owned v p h s base l regs w fa ag few has = is_stuck code k n p (p + 1) h (In true h s base) regs w (while_waits owned v (set_run again v (expr x (steps e ss))) (calls_in k) l w) has
+  set_runs (expr x (number at z)) owned v p h s base l regs w fa ag few has = is_stuck code k n p (p + 1) h (In true h s base) regs w (while_waits owned v (set_run again v (expr x (number at z))) (calls_in k) l w) has
+  set_runs (expr x (quote at t)) owned v p h s base l regs w fa ag few has = is_stuck code k n p (p + 1) h (In true h s base) regs w (while_waits owned v (set_run again v (expr x (quote at t))) (calls_in k) l w) has
+  set_runs (expr x (truth at b)) owned v p h s base l regs w fa ag few has = is_stuck code k n p (p + 1) h (In true h s base) regs w (while_waits owned v (set_run again v (expr x (truth at b))) (calls_in k) l w) has
+  set_runs (expr x (call m f es)) owned v p h s base l regs w fa ag few has = is_stuck code k n p (p + 1) h (In true h s base) regs w (while_waits owned v (set_run again v (expr x (call m f es))) (calls_in k) l w) has
+  set_runs (expr x (paren at e)) owned v p h s base l regs w fa ag few has = is_stuck code k n p (p + 1) h (In true h s base) regs w (while_waits owned v (set_run again v (expr x (paren at e))) (calls_in k) l w) has
+  set_runs (expr x (array at t es)) owned v p h s base l regs w fa ag few has = is_stuck code k n p (p + 1) h (In true h s base) regs w (while_waits owned v (set_run again v (expr x (array at t es))) (calls_in k) l w) has
+  set_runs (expr x (iso at b)) owned v p h s base l regs w fa ag few has = is_stuck code k n p (p + 1) h (In true h s base) regs w (while_waits owned v (set_run again v (expr x (iso at b))) (calls_in k) l w) has
+  set_runs (expr x (form f)) owned v p h s base l regs w fa ag few has = is_stuck code k n p (p + 1) h (In true h s base) regs w (while_waits owned v (set_run again v (expr x (form f))) (calls_in k) l w) has
 
   -- ---- calls
 
@@ -139,22 +139,22 @@ module _ (parts : Parts) (k : Where) (is : IsIn (program_code parts) k) (n : ℕ
           )
 
   -- a local lives while the rest of its block runs
-  scoped : (gives : Bool) (end : Spot) (m d h p : ℕ) (v : Value) (cs : List Instr) (s : Scope) (base : Base) (l : Locals) (regs : Registers) (w : State) (rest : Run (Option Value)) → Runs cs (Put gives d (h + 1) (entry m h ∷ s) base) p regs w (rest (calls_in k) (record { name = Some m; value = Some v } ∷ l) w) → Runs cs (Put gives d h s base) p regs w (with_local again end m v rest (calls_in k) l w)
-  scoped gives end m d h p v cs s base l regs w rest run has =
+  scoped : (gives : Bool) (end : Spot) (m d h p : ℕ) (owned : Bool) (v : Value) (cs : List Instr) (s : Scope) (base : Base) (l : Locals) (regs : Registers) (w : State) (rest : Run (Option Value)) → Runs cs (Put gives d (h + 1) (entry m h ∷ s) base) p regs w (rest (calls_in k) (record { name = Some m; value = Some v; owned = owned } ∷ l) w) → Runs cs (Put gives d h s base) p regs w (with_local again end m owned v rest (calls_in k) l w)
+  scoped gives end m d h p owned v cs s base l regs w rest run has =
       then_reaches code k n (p + length cs) (p + length cs) (Put gives d (h + 1) (entry m h ∷ s) base) (Put gives d h s base) (conf k p regs w) _ _ (run has)
       (λ u l w regs ag few.
       subst (λ r. Reaches code k n (p + length cs) (Put gives d h s base) (conf k (p + length cs) regs w) (then_do r (λ x l w. goes u l w)))
-      (sym (drop_plain again end (calls_in k) (innermost l) (outer l) w (innermost_plain (entry m h) s l (put_names gives d (h + 1) (entry m h ∷ s) base u l regs ag))))
+      (sym (drop_owned_plain again end (calls_in k) owned (innermost l) (outer l) w (innermost_plain (entry m h) s l (put_names gives d (h + 1) (entry m h ∷ s) base u l regs ag))))
       (stays code k n (p + length cs) (Put gives d h s base) u (outer l) regs w (put_pop gives d h m s base u l regs ag) few))
 
   -- ---- statements
 
   -- a value that isn't used
-  unused : (gives : Bool) (at : Spot) (cs : List Instr) (p h : ℕ) (s : Scope) (base : Base) (regs : Registers) (w : State) (r : Result (Option Value)) → Runs cs (In gives h s base) p regs w r → Runs cs (Keeps {A = Option Value} h s base) p regs w (then_do r (λ v. drop again at v (calls_in k)))
-  unused gives at cs p h s base regs w r run has =
+  unused : (gives owned : Bool) (at : Spot) (cs : List Instr) (p h : ℕ) (s : Scope) (base : Base) (regs : Registers) (w : State) (r : Result (Option Value)) → Runs cs (In gives h s base) p regs w r → Runs cs (Keeps {A = Option Value} h s base) p regs w (then_do r (λ v. drop_owned again at owned v (calls_in k)))
+  unused gives owned at cs p h s base regs w r run has =
       then_reaches code k n (p + length cs) (p + length cs) (In gives h s base) (Keeps {A = Option Value} h s base) (conf k p regs w) r _ (run has)
       (λ v l w regs ag few.
-      subst (λ x. Reaches code k n (p + length cs) (Keeps {A = Option Value} h s base) (conf k (p + length cs) regs w) x) (sym (drop_fitting again at (calls_in k) gives v l w (in_fits gives h s base v l regs ag)))
+      subst (λ x. Reaches code k n (p + length cs) (Keeps {A = Option Value} h s base) (conf k (p + length cs) regs w) x) (sym (drop_fitting again at (calls_in k) gives owned v l w (in_fits gives h s base v l regs ag)))
       (stays code k n (p + length cs) (Keeps {A = Option Value} h s base) None l regs w (in_keeps gives h s base v l regs ag) few))
 
   returns : (at : Spot) (cs : List Instr) (p h : ℕ) (s : Scope) (base : Base) (regs : Registers) (w : State) (r : Result (Option Value)) → k.gives ≡ true → Falls h s → Runs cs (In true h s base) p regs w r → Runs (cs ++ (i.Ret h ∷ [])) (Keeps {A = Option Value} h s base) p regs w (then_do r (λ v. leave again at v (calls_in k)))
@@ -174,23 +174,23 @@ module _ (parts : Parts) (k : Where) (is : IsIn (program_code parts) k) (n : ℕ
 
   -- ---- the set of a local, whose old value isn't used
 
-  store_runs : (q : Expr) (drop_at : Spot) (v : Value) (p h : ℕ) (s : Scope) (base : Base) (l : Locals) (regs : Registers) (w : State) → Falls h s → Val h s base v l regs → w.left ≤ n → Runs (store_code q h s) (Keeps {A = Option Value} h s base) p regs w (then_do (while_waits v (set_run again v q) (calls_in k) l w) (λ u. drop again drop_at u (calls_in k)))
-  store_runs (expr x (name m is_outer moved)) drop_at v p h s base l regs w fa ag few has =
+  store_runs : (q : Expr) (drop_at : Spot) (owned dropped : Bool) (v : Value) (p h : ℕ) (s : Scope) (base : Base) (l : Locals) (regs : Registers) (w : State) → Falls h s → Val h s base v l regs → w.left ≤ n → Runs (store_code q h s) (Keeps {A = Option Value} h s base) p regs w (then_do (while_waits owned v (set_run again v q) (calls_in k) l w) (λ u. drop_owned again drop_at dropped u (calls_in k)))
+  store_runs (expr x (name m is_outer moved)) drop_at owned dropped v p h s base l regs w fa ag few has =
       stores code k n p h s base l (with_held m.name.0 (Some v) l) regs w v (place_of m.name.0 s) (held_by m.name.0 l)
-      (λ u. then_do (then_do (then_do (then_do (the_value u (calls_in k) (record { name = None; value = Some v } ∷ l) w) (λ u l w. goes u (with_held m.name.0 (Some v) l) w)) (λ u. give (Some u) (calls_in k))) (λ r l w. goes r (outer l) w)) (λ u. drop again drop_at u (calls_in k)))
+      (λ u. then_do (then_do (then_do (then_do (the_value u (calls_in k) (record { name = None; value = Some v; owned = owned } ∷ l) w) (λ u l w. goes u (with_held m.name.0 (Some v) l) w)) (λ u. give (Some u) (calls_in k))) (λ r l w. goes r (outer l) w)) (λ u. drop_owned again drop_at dropped u (calls_in k)))
       fa ag few (meets m.name.0 h s l fa ag.1.names) (changes m.name.0 h v s l ag.0 fa ag.1.names) (λ u pu. drop_plain again drop_at (calls_in k) (Some u) (with_held m.name.0 (Some v) l) w pu) has
-  store_runs (expr x (chain e ls)) drop_at v p h s base l regs w fa ag few has = is_stuck code k n p (p + 1) h (Keeps {A = Option Value} h s base) regs w (then_do (while_waits v (set_run again v (expr x (chain e ls))) (calls_in k) l w) (λ u. drop again drop_at u (calls_in k))) has
-  store_runs (expr x (unary at op e)) drop_at v p h s base l regs w fa ag few has = is_stuck code k n p (p + 1) h (Keeps {A = Option Value} h s base) regs w (then_do (while_waits v (set_run again v (expr x (unary at op e))) (calls_in k) l w) (λ u. drop again drop_at u (calls_in k))) has
-  store_runs (expr x (steps e ss)) drop_at v p h s base l regs w fa ag few has = is_stuck code k n p (p + 1) h (Keeps {A = Option Value} h s base) regs w (then_do (while_waits v (set_run again v (expr x (steps e ss))) (calls_in k) l w) (λ u. drop again drop_at u (calls_in k))) has
-  store_runs (expr x (number at z)) drop_at v p h s base l regs w fa ag few has = is_stuck code k n p (p + 1) h (Keeps {A = Option Value} h s base) regs w (then_do (while_waits v (set_run again v (expr x (number at z))) (calls_in k) l w) (λ u. drop again drop_at u (calls_in k))) has
-  store_runs (expr x (quote at t)) drop_at v p h s base l regs w fa ag few has = is_stuck code k n p (p + 1) h (Keeps {A = Option Value} h s base) regs w (then_do (while_waits v (set_run again v (expr x (quote at t))) (calls_in k) l w) (λ u. drop again drop_at u (calls_in k))) has
-  store_runs (expr x (truth at b)) drop_at v p h s base l regs w fa ag few has = is_stuck code k n p (p + 1) h (Keeps {A = Option Value} h s base) regs w (then_do (while_waits v (set_run again v (expr x (truth at b))) (calls_in k) l w) (λ u. drop again drop_at u (calls_in k))) has
-  store_runs (expr x (call m f es)) drop_at v p h s base l regs w fa ag few has = is_stuck code k n p (p + 1) h (Keeps {A = Option Value} h s base) regs w (then_do (while_waits v (set_run again v (expr x (call m f es))) (calls_in k) l w) (λ u. drop again drop_at u (calls_in k))) has
-  store_runs (expr x (paren at e)) drop_at v p h s base l regs w fa ag few has = is_stuck code k n p (p + 1) h (Keeps {A = Option Value} h s base) regs w (then_do (while_waits v (set_run again v (expr x (paren at e))) (calls_in k) l w) (λ u. drop again drop_at u (calls_in k))) has
-  store_runs (expr x (array at t es)) drop_at v p h s base l regs w fa ag few has = is_stuck code k n p (p + 1) h (Keeps {A = Option Value} h s base) regs w (then_do (while_waits v (set_run again v (expr x (array at t es))) (calls_in k) l w) (λ u. drop again drop_at u (calls_in k))) has
-  store_runs (expr x (iso at b)) drop_at v p h s base l regs w fa ag few has = is_stuck code k n p (p + 1) h (Keeps {A = Option Value} h s base) regs w (then_do (while_waits v (set_run again v (expr x (iso at b))) (calls_in k) l w) (λ u. drop again drop_at u (calls_in k))) has
-  store_runs (expr x (form f)) drop_at v p h s base l regs w fa ag few has = is_stuck code k n p (p + 1) h (Keeps {A = Option Value} h s base) regs w (then_do (while_waits v (set_run again v (expr x (form f))) (calls_in k) l w) (λ u. drop again drop_at u (calls_in k))) has
-  store_runs (expr x (set at e q)) drop_at v p h s base l regs w fa ag few has = is_stuck code k n p (p + 1) h (Keeps {A = Option Value} h s base) regs w (then_do (while_waits v (set_run again v (expr x (set at e q))) (calls_in k) l w) (λ u. drop again drop_at u (calls_in k))) has
+  store_runs (expr x (chain e ls)) drop_at owned dropped v p h s base l regs w fa ag few has = is_stuck code k n p (p + 1) h (Keeps {A = Option Value} h s base) regs w (then_do (while_waits owned v (set_run again v (expr x (chain e ls))) (calls_in k) l w) (λ u. drop_owned again drop_at dropped u (calls_in k))) has
+  store_runs (expr x (unary at op e)) drop_at owned dropped v p h s base l regs w fa ag few has = is_stuck code k n p (p + 1) h (Keeps {A = Option Value} h s base) regs w (then_do (while_waits owned v (set_run again v (expr x (unary at op e))) (calls_in k) l w) (λ u. drop_owned again drop_at dropped u (calls_in k))) has
+  store_runs (expr x (steps e ss)) drop_at owned dropped v p h s base l regs w fa ag few has = is_stuck code k n p (p + 1) h (Keeps {A = Option Value} h s base) regs w (then_do (while_waits owned v (set_run again v (expr x (steps e ss))) (calls_in k) l w) (λ u. drop_owned again drop_at dropped u (calls_in k))) has
+  store_runs (expr x (number at z)) drop_at owned dropped v p h s base l regs w fa ag few has = is_stuck code k n p (p + 1) h (Keeps {A = Option Value} h s base) regs w (then_do (while_waits owned v (set_run again v (expr x (number at z))) (calls_in k) l w) (λ u. drop_owned again drop_at dropped u (calls_in k))) has
+  store_runs (expr x (quote at t)) drop_at owned dropped v p h s base l regs w fa ag few has = is_stuck code k n p (p + 1) h (Keeps {A = Option Value} h s base) regs w (then_do (while_waits owned v (set_run again v (expr x (quote at t))) (calls_in k) l w) (λ u. drop_owned again drop_at dropped u (calls_in k))) has
+  store_runs (expr x (truth at b)) drop_at owned dropped v p h s base l regs w fa ag few has = is_stuck code k n p (p + 1) h (Keeps {A = Option Value} h s base) regs w (then_do (while_waits owned v (set_run again v (expr x (truth at b))) (calls_in k) l w) (λ u. drop_owned again drop_at dropped u (calls_in k))) has
+  store_runs (expr x (call m f es)) drop_at owned dropped v p h s base l regs w fa ag few has = is_stuck code k n p (p + 1) h (Keeps {A = Option Value} h s base) regs w (then_do (while_waits owned v (set_run again v (expr x (call m f es))) (calls_in k) l w) (λ u. drop_owned again drop_at dropped u (calls_in k))) has
+  store_runs (expr x (paren at e)) drop_at owned dropped v p h s base l regs w fa ag few has = is_stuck code k n p (p + 1) h (Keeps {A = Option Value} h s base) regs w (then_do (while_waits owned v (set_run again v (expr x (paren at e))) (calls_in k) l w) (λ u. drop_owned again drop_at dropped u (calls_in k))) has
+  store_runs (expr x (array at t es)) drop_at owned dropped v p h s base l regs w fa ag few has = is_stuck code k n p (p + 1) h (Keeps {A = Option Value} h s base) regs w (then_do (while_waits owned v (set_run again v (expr x (array at t es))) (calls_in k) l w) (λ u. drop_owned again drop_at dropped u (calls_in k))) has
+  store_runs (expr x (iso at b)) drop_at owned dropped v p h s base l regs w fa ag few has = is_stuck code k n p (p + 1) h (Keeps {A = Option Value} h s base) regs w (then_do (while_waits owned v (set_run again v (expr x (iso at b))) (calls_in k) l w) (λ u. drop_owned again drop_at dropped u (calls_in k))) has
+  store_runs (expr x (form f)) drop_at owned dropped v p h s base l regs w fa ag few has = is_stuck code k n p (p + 1) h (Keeps {A = Option Value} h s base) regs w (then_do (while_waits owned v (set_run again v (expr x (form f))) (calls_in k) l w) (λ u. drop_owned again drop_at dropped u (calls_in k))) has
+  store_runs (expr x (set at e q)) drop_at owned dropped v p h s base l regs w fa ag few has = is_stuck code k n p (p + 1) h (Keeps {A = Option Value} h s base) regs w (then_do (while_waits owned v (set_run again v (expr x (set at e q))) (calls_in k) l w) (λ u. drop_owned again drop_at dropped u (calls_in k))) has
 
   -- ---- by induction on the tree
 
@@ -244,7 +244,7 @@ module _ (parts : Parts) (k : Where) (is : IsIn (program_code parts) k) (n : ℕ
     node_runs (set at q e) x gives p h s base l regs w fa ag few has =
         given gives (value_code a e p h s ++ set_code q h s) p h s base regs w (node_run again x (set at q e) (calls_in k) l w)
         (joined (value_code a e p h s) (set_code q h s) (Val h s base) (In true h s base) p regs w (valued (expr_run again e) (calls_in k) l w) _ (value_runs e p h s base l regs w fa ag few)
-        (λ v l w regs ag few. set_runs q v (p + length (value_code a e p h s)) h s base l regs w fa ag few)) has
+        (λ v l w regs ag few. set_runs q (is_owned (type e)) v (p + length (value_code a e p h s)) h s base l regs w fa ag few)) has
     node_runs (call m f es) x gives p h s base l regs w fa ag few has =
         joined (args_code a es p h s) (callee_code a gives m f (count es) h) (All (count es) h s base) (In gives h s base) p regs w (exprs_run again es (calls_in k) l w) (λ vs. callee_run again m f vs (calls_in k)) (args_runs es p h s base l regs w fa ag few)
         (λ vs l w regs ag few. callee_runs gives m f vs (count es) (p + length (args_code a es p h s)) h s base l regs w fa ag few) has
@@ -266,9 +266,9 @@ module _ (parts : Parts) (k : Where) (is : IsIn (program_code parts) k) (n : ℕ
         let cs = args_code a es q (h + 1) (waiting h ∷ s) in
         let up : h < h + 1 = omega arith in
         let base' = with_at h (Some v) base in
-        then_reaches code k n (q + length cs) (q + length cs) (All (count es) (h + 1) s base') (All (suc (count es)) h s base) (conf k q regs w) (while_waits v (exprs_run again es) (calls_in k) l w) (λ vs l w. goes (v ∷ vs) l w)
-        (then_reaches code k n (q + length cs) (q + length cs) (All (count es) (h + 1) (waiting h ∷ s) base') (All (count es) (h + 1) s base') (conf k q regs w) (exprs_run again es (calls_in k) (record { name = None; value = Some v } ∷ l) w) (λ vs l w. goes vs (outer l) w)
-        (args_runs es q (h + 1) (waiting h ∷ s) base' (record { name = None; value = Some v } ∷ l) regs w (up, fa) (agrees_wait s l base' h (h + 1) v regs ag.0 ag.1) few has)
+        then_reaches code k n (q + length cs) (q + length cs) (All (count es) (h + 1) s base') (All (suc (count es)) h s base) (conf k q regs w) (while_waits (is_owned (type e)) v (exprs_run again es) (calls_in k) l w) (λ vs l w. goes (v ∷ vs) l w)
+        (then_reaches code k n (q + length cs) (q + length cs) (All (count es) (h + 1) (waiting h ∷ s) base') (All (count es) (h + 1) s base') (conf k q regs w) (exprs_run again es (calls_in k) (record { name = None; value = Some v; owned = is_owned (type e) } ∷ l) w) (λ vs l w. goes vs (outer l) w)
+        (args_runs es q (h + 1) (waiting h ∷ s) base' (record { name = None; value = Some v; owned = is_owned (type e) } ∷ l) regs w (up, fa) (agrees_wait s l base' h (h + 1) (is_owned (type e)) v regs ag.0 ag.1) few has)
         (λ vs l w regs rest few. stays code k n (q + length cs) (All (count es) (h + 1) s base') vs (outer l) regs w (rest.0, rest.1, agrees_done s l (with_all (h + 1) vs base') h (h + 1 + count es) regs rest.2) few))
         (λ vs l w regs rest few.
         let more : h + 1 + count es ≡ h + suc (count es) = omega arith in
@@ -327,8 +327,8 @@ module _ (parts : Parts) (k : Where) (is : IsIn (program_code parts) k) (n : ℕ
         let ne : d ≢ h = omega arith in
         joined (value_code a e p h s) (stmts_code a gives ss (p + length (value_code a e p h s)) d (h + 1) (entry m.name.0 h ∷ s)) (Val h s base) (Put gives d h s base) p regs w (valued (expr_run again e) (calls_in k) l w) _ (value_runs e p h s base l regs w fa ag few)
         (λ v l w regs ag few.
-        scoped gives end m.name.0 d h (p + length (value_code a e p h s)) v (stmts_code a gives ss (p + length (value_code a e p h s)) d (h + 1) (entry m.name.0 h ∷ s)) s base l regs w (stmts_run again end ss)
-        (stmts_runs ss end gives (p + length (value_code a e p h s)) d (h + 1) (entry m.name.0 h ∷ s) base (record { name = Some m.name.0; value = Some v } ∷ l) regs w (up, fa) (omega arith) (ne, fr) (agrees_push s l base h m.name.0 v regs ag.0 fa ag.1) few)) has
+        scoped gives end m.name.0 d h (p + length (value_code a e p h s)) (is_owned x) v (stmts_code a gives ss (p + length (value_code a e p h s)) d (h + 1) (entry m.name.0 h ∷ s)) s base l regs w (stmts_run again end ss)
+        (stmts_runs ss end gives (p + length (value_code a e p h s)) d (h + 1) (entry m.name.0 h ∷ s) base (record { name = Some m.name.0; value = Some v; owned = is_owned x } ∷ l) regs w (up, fa) (omega arith) (ne, fr) (agrees_push s l base h m.name.0 (is_owned x) v regs ag.0 fa ag.1) few)) has
     stmts_runs (more_stmts (destructure at ns xs e) ss) end gives p d h s base l regs w fa lt fr ag few has =
         is_stuck code k n p (p + 1) h (Put gives d h s base) regs w (stmts_run again end (more_stmts (destructure at ns xs e) ss) (calls_in k) l w) has
     stmts_runs (more_stmts (return_nothing at) ss) end gives p d h s base l regs w fa lt fr ag few has =
@@ -357,7 +357,7 @@ module _ (parts : Parts) (k : Where) (is : IsIn (program_code parts) k) (n : ℕ
         let q = p + length ce in
         let cf = value_code a f q (h + 1) s in
         let body = λ (q : ℕ). block_code a false b q h (r + 1) inner in
-        let run = λ (z : ℤ). iteration_body again m (Int z) b in
+        let run = λ (z : ℤ). iteration_body again m false (Int z) b in
         let ne : h ≢ r = omega arith in
         joined (stmt_code a (foreach at m e f b) p h s) (stmts_code a gives ss (p + length (stmt_code a (foreach at m e f b) p h s)) d h s) (In false h s base) (Put gives d h s base) p regs w (stmt_run again (foreach at m e f b) (calls_in k) l w) _
         (joined ce (cf ++ count_code (q + length cf) h at body) (Val h s base) (In false h s base) p regs w (valued (expr_run again e) (calls_in k) l w) _ (value_runs e p h s base l regs w fa ag few)
@@ -367,8 +367,8 @@ module _ (parts : Parts) (k : Where) (is : IsIn (program_code parts) k) (n : ℕ
         count_runs code k n (q + length cf) h s base at body run fa has l regs w few
         (λ q x base l regs w hx ag few has.
         weaker code k n _ (Put false h r s base) (Keeps {A = Option Value} r s base) (conf k q regs w) (run x (calls_in k) l w) (put_keeps h r s base)
-        (scoped false bend m.name.0 h r q (Int x) (body q) s base l regs w (stmts_run again bend bs)
-        (stmts_runs bs bend false q h (r + 1) inner base (record { name = Some m.name.0; value = Some (Int x) } ∷ l) regs w (omega arith, falls_up s h r (omega arith) fa) (omega arith) (ne, fresh_above s h h fa (omega arith)) (agrees_push s l base r m.name.0 (Int x) regs hx (falls_up s h r (omega arith) fa) ag) few) has))
+        (scoped false bend m.name.0 h r q false (Int x) (body q) s base l regs w (stmts_run again bend bs)
+        (stmts_runs bs bend false q h (r + 1) inner base (record { name = Some m.name.0; value = Some (Int x); owned = false } ∷ l) regs w (omega arith, falls_up s h r (omega arith) fa) (omega arith) (ne, fresh_above s h h fa (omega arith)) (agrees_push s l base r m.name.0 false (Int x) regs hx (falls_up s h r (omega arith) fa) ag) few) has))
         v u ag.0 ag')))
         (λ v l w regs ag few. stmts_runs ss end gives _ d h s base l regs w fa lt fr (in_keeps false h s base v l regs ag) few) has
     stmts_runs (more_stmts (form_stmt f) ss) end gives p d h s base l regs w fa lt fr ag few has =
@@ -376,25 +376,25 @@ module _ (parts : Parts) (k : Where) (is : IsIn (program_code parts) k) (n : ℕ
         (λ v l w regs ag few. stmts_runs ss end gives _ d h s base l regs w fa lt fr (in_keeps false h s base v l regs ag) few) has
     stmts_runs (more_stmts (express e) ss) end gives p d h s base l regs w fa lt fr ag few has =
         joined (unused_code a e p h s) (stmts_code a gives ss (p + length (unused_code a e p h s)) d h s) (Keeps {A = Option Value} h s base) (Put gives d h s base) p regs w (stmt_run again (express e) (calls_in k) l w) (λ u. stmts_run again end ss (calls_in k))
-        (unused_runs e (expr_spot e) p h s base l regs w fa ag few)
+        (unused_runs e (expr_spot e) (is_owned (type e)) p h s base l regs w fa ag few)
         (λ v l w regs ag few. stmts_runs ss end gives _ d h s base l regs w fa lt fr ag few) has
 
     -- an expression whose value isn't used
-    unused_runs : (e : Expr) (drop_at : Spot) (p h : ℕ) (s : Scope) (base : Base) (l : Locals) (regs : Registers) (w : State) → Falls h s → Agrees h s l base regs → w.left ≤ n → Runs (unused_code a e p h s) (Keeps {A = Option Value} h s base) p regs w (then_do (expr_run again e (calls_in k) l w) (λ v. drop again drop_at v (calls_in k)))
-    unused_runs (expr x (set at q e)) drop_at p h s base l regs w fa ag few has =
+    unused_runs : (e : Expr) (drop_at : Spot) (dropped : Bool) (p h : ℕ) (s : Scope) (base : Base) (l : Locals) (regs : Registers) (w : State) → Falls h s → Agrees h s l base regs → w.left ≤ n → Runs (unused_code a e p h s) (Keeps {A = Option Value} h s base) p regs w (then_do (expr_run again e (calls_in k) l w) (λ v. drop_owned again drop_at dropped v (calls_in k)))
+    unused_runs (expr x (set at q e)) drop_at dropped p h s base l regs w fa ag few has =
         subst (λ r. Reaches code k n (p + length (value_code a e p h s ++ store_code q h s)) (Keeps {A = Option Value} h s base) (conf k p regs w) r)
-        (sym (then_then (valued (expr_run again e) (calls_in k) l w) (λ v. while_waits v (set_run again v q) (calls_in k)) (λ v. drop again drop_at v (calls_in k))))
-        (joined (value_code a e p h s) (store_code q h s) (Val h s base) (Keeps {A = Option Value} h s base) p regs w (valued (expr_run again e) (calls_in k) l w) (λ v l w. then_do (while_waits v (set_run again v q) (calls_in k) l w) (λ u. drop again drop_at u (calls_in k))) (value_runs e p h s base l regs w fa ag few)
-        (λ v l w regs ag few. store_runs q drop_at v (p + length (value_code a e p h s)) h s base l regs w fa ag few) has)
-    unused_runs (expr x (chain e ls)) drop_at p h s base l regs w fa ag few has = unused (is_copy x.value) drop_at (node_code a (is_copy x.value) (chain e ls) p h s) p h s base regs w (node_run again x.value (chain e ls) (calls_in k) l w) (node_runs (chain e ls) x.value (is_copy x.value) p h s base l regs w fa ag few) has
-    unused_runs (expr x (unary at op e)) drop_at p h s base l regs w fa ag few has = unused (is_copy x.value) drop_at (node_code a (is_copy x.value) (unary at op e) p h s) p h s base regs w (node_run again x.value (unary at op e) (calls_in k) l w) (node_runs (unary at op e) x.value (is_copy x.value) p h s base l regs w fa ag few) has
-    unused_runs (expr x (steps e ss)) drop_at p h s base l regs w fa ag few has = unused (is_copy x.value) drop_at (node_code a (is_copy x.value) (steps e ss) p h s) p h s base regs w (node_run again x.value (steps e ss) (calls_in k) l w) (node_runs (steps e ss) x.value (is_copy x.value) p h s base l regs w fa ag few) has
-    unused_runs (expr x (number at z)) drop_at p h s base l regs w fa ag few has = unused (is_copy x.value) drop_at (node_code a (is_copy x.value) (number at z) p h s) p h s base regs w (node_run again x.value (number at z) (calls_in k) l w) (node_runs (number at z) x.value (is_copy x.value) p h s base l regs w fa ag few) has
-    unused_runs (expr x (quote at t)) drop_at p h s base l regs w fa ag few has = unused (is_copy x.value) drop_at (node_code a (is_copy x.value) (quote at t) p h s) p h s base regs w (node_run again x.value (quote at t) (calls_in k) l w) (node_runs (quote at t) x.value (is_copy x.value) p h s base l regs w fa ag few) has
-    unused_runs (expr x (truth at b)) drop_at p h s base l regs w fa ag few has = unused (is_copy x.value) drop_at (node_code a (is_copy x.value) (truth at b) p h s) p h s base regs w (node_run again x.value (truth at b) (calls_in k) l w) (node_runs (truth at b) x.value (is_copy x.value) p h s base l regs w fa ag few) has
-    unused_runs (expr x (name m is_outer moved)) drop_at p h s base l regs w fa ag few has = unused (is_copy x.value) drop_at (node_code a (is_copy x.value) (name m is_outer moved) p h s) p h s base regs w (node_run again x.value (name m is_outer moved) (calls_in k) l w) (node_runs (name m is_outer moved) x.value (is_copy x.value) p h s base l regs w fa ag few) has
-    unused_runs (expr x (call m f es)) drop_at p h s base l regs w fa ag few has = unused (is_copy x.value) drop_at (node_code a (is_copy x.value) (call m f es) p h s) p h s base regs w (node_run again x.value (call m f es) (calls_in k) l w) (node_runs (call m f es) x.value (is_copy x.value) p h s base l regs w fa ag few) has
-    unused_runs (expr x (paren at e)) drop_at p h s base l regs w fa ag few has = unused (is_copy x.value) drop_at (node_code a (is_copy x.value) (paren at e) p h s) p h s base regs w (node_run again x.value (paren at e) (calls_in k) l w) (node_runs (paren at e) x.value (is_copy x.value) p h s base l regs w fa ag few) has
-    unused_runs (expr x (array at t es)) drop_at p h s base l regs w fa ag few has = unused (is_copy x.value) drop_at (node_code a (is_copy x.value) (array at t es) p h s) p h s base regs w (node_run again x.value (array at t es) (calls_in k) l w) (node_runs (array at t es) x.value (is_copy x.value) p h s base l regs w fa ag few) has
-    unused_runs (expr x (iso at b)) drop_at p h s base l regs w fa ag few has = unused (is_copy x.value) drop_at (node_code a (is_copy x.value) (iso at b) p h s) p h s base regs w (node_run again x.value (iso at b) (calls_in k) l w) (node_runs (iso at b) x.value (is_copy x.value) p h s base l regs w fa ag few) has
-    unused_runs (expr x (form f)) drop_at p h s base l regs w fa ag few has = unused (is_copy x.value) drop_at (node_code a (is_copy x.value) (form f) p h s) p h s base regs w (node_run again x.value (form f) (calls_in k) l w) (node_runs (form f) x.value (is_copy x.value) p h s base l regs w fa ag few) has
+        (sym (then_then (valued (expr_run again e) (calls_in k) l w) (λ v. while_waits (is_owned (type e)) v (set_run again v q) (calls_in k)) (λ v. drop_owned again drop_at dropped v (calls_in k))))
+        (joined (value_code a e p h s) (store_code q h s) (Val h s base) (Keeps {A = Option Value} h s base) p regs w (valued (expr_run again e) (calls_in k) l w) (λ v l w. then_do (while_waits (is_owned (type e)) v (set_run again v q) (calls_in k) l w) (λ u. drop_owned again drop_at dropped u (calls_in k))) (value_runs e p h s base l regs w fa ag few)
+        (λ v l w regs ag few. store_runs q drop_at (is_owned (type e)) dropped v (p + length (value_code a e p h s)) h s base l regs w fa ag few) has)
+    unused_runs (expr x (chain e ls)) drop_at dropped p h s base l regs w fa ag few has = unused (is_copy x.value) dropped drop_at (node_code a (is_copy x.value) (chain e ls) p h s) p h s base regs w (node_run again x.value (chain e ls) (calls_in k) l w) (node_runs (chain e ls) x.value (is_copy x.value) p h s base l regs w fa ag few) has
+    unused_runs (expr x (unary at op e)) drop_at dropped p h s base l regs w fa ag few has = unused (is_copy x.value) dropped drop_at (node_code a (is_copy x.value) (unary at op e) p h s) p h s base regs w (node_run again x.value (unary at op e) (calls_in k) l w) (node_runs (unary at op e) x.value (is_copy x.value) p h s base l regs w fa ag few) has
+    unused_runs (expr x (steps e ss)) drop_at dropped p h s base l regs w fa ag few has = unused (is_copy x.value) dropped drop_at (node_code a (is_copy x.value) (steps e ss) p h s) p h s base regs w (node_run again x.value (steps e ss) (calls_in k) l w) (node_runs (steps e ss) x.value (is_copy x.value) p h s base l regs w fa ag few) has
+    unused_runs (expr x (number at z)) drop_at dropped p h s base l regs w fa ag few has = unused (is_copy x.value) dropped drop_at (node_code a (is_copy x.value) (number at z) p h s) p h s base regs w (node_run again x.value (number at z) (calls_in k) l w) (node_runs (number at z) x.value (is_copy x.value) p h s base l regs w fa ag few) has
+    unused_runs (expr x (quote at t)) drop_at dropped p h s base l regs w fa ag few has = unused (is_copy x.value) dropped drop_at (node_code a (is_copy x.value) (quote at t) p h s) p h s base regs w (node_run again x.value (quote at t) (calls_in k) l w) (node_runs (quote at t) x.value (is_copy x.value) p h s base l regs w fa ag few) has
+    unused_runs (expr x (truth at b)) drop_at dropped p h s base l regs w fa ag few has = unused (is_copy x.value) dropped drop_at (node_code a (is_copy x.value) (truth at b) p h s) p h s base regs w (node_run again x.value (truth at b) (calls_in k) l w) (node_runs (truth at b) x.value (is_copy x.value) p h s base l regs w fa ag few) has
+    unused_runs (expr x (name m is_outer moved)) drop_at dropped p h s base l regs w fa ag few has = unused (is_copy x.value) dropped drop_at (node_code a (is_copy x.value) (name m is_outer moved) p h s) p h s base regs w (node_run again x.value (name m is_outer moved) (calls_in k) l w) (node_runs (name m is_outer moved) x.value (is_copy x.value) p h s base l regs w fa ag few) has
+    unused_runs (expr x (call m f es)) drop_at dropped p h s base l regs w fa ag few has = unused (is_copy x.value) dropped drop_at (node_code a (is_copy x.value) (call m f es) p h s) p h s base regs w (node_run again x.value (call m f es) (calls_in k) l w) (node_runs (call m f es) x.value (is_copy x.value) p h s base l regs w fa ag few) has
+    unused_runs (expr x (paren at e)) drop_at dropped p h s base l regs w fa ag few has = unused (is_copy x.value) dropped drop_at (node_code a (is_copy x.value) (paren at e) p h s) p h s base regs w (node_run again x.value (paren at e) (calls_in k) l w) (node_runs (paren at e) x.value (is_copy x.value) p h s base l regs w fa ag few) has
+    unused_runs (expr x (array at t es)) drop_at dropped p h s base l regs w fa ag few has = unused (is_copy x.value) dropped drop_at (node_code a (is_copy x.value) (array at t es) p h s) p h s base regs w (node_run again x.value (array at t es) (calls_in k) l w) (node_runs (array at t es) x.value (is_copy x.value) p h s base l regs w fa ag few) has
+    unused_runs (expr x (iso at b)) drop_at dropped p h s base l regs w fa ag few has = unused (is_copy x.value) dropped drop_at (node_code a (is_copy x.value) (iso at b) p h s) p h s base regs w (node_run again x.value (iso at b) (calls_in k) l w) (node_runs (iso at b) x.value (is_copy x.value) p h s base l regs w fa ag few) has
+    unused_runs (expr x (form f)) drop_at dropped p h s base l regs w fa ag few has = unused (is_copy x.value) dropped drop_at (node_code a (is_copy x.value) (form f) p h s) p h s base regs w (node_run again x.value (form f) (calls_in k) l w) (node_runs (form f) x.value (is_copy x.value) p h s base l regs w fa ag few) has

@@ -173,8 +173,8 @@ move_longer n name = record { goes_on = move_goes n name; longer = λ calls l s 
 pub exchange_longer : (n name : ℕ) (new : Value) → AlwaysLonger n (exchange name new) (exchange name new)
 exchange_longer n name new = record { goes_on = exchange_goes n name new; longer = λ calls l s x le lt. relocated_longer n calls l s x (λ v. v) (λ v l. with_held name (Some new) l) le lt (the_value_longer n (held_by name l)) }
 
-pub while_waits_longer : {A : Type 0} (n : ℕ) (v : Value) {m m' : Run A} → AlwaysLonger n m m' → AlwaysLonger n (while_waits v m) (while_waits v m')
-while_waits_longer n v {m} {m'} h = record { goes_on = while_waits_goes n v m' h.goes_on; longer = λ calls l s x le lt. relocated_longer n calls (record { name = None; value = Some v } ∷ l) s x (λ r. r) (λ r l. outer l) le lt h }
+pub while_waits_longer : {A : Type 0} (n : ℕ) (owned : Bool) (v : Value) {m m' : Run A} → AlwaysLonger n m m' → AlwaysLonger n (while_waits owned v m) (while_waits owned v m')
+while_waits_longer n owned v {m} {m'} h = record { goes_on = while_waits_goes n owned v m' h.goes_on; longer = λ calls l s x le lt. relocated_longer n calls (record { name = None; value = Some v; owned = owned } ∷ l) s x (λ r. r) (λ r l. outer l) le lt h }
 
 -- ---- loops
 

@@ -7,7 +7,7 @@ use Rattle.vale_base.specs.declared.trap.FrameAt.{FrameAt}
 use Rattle.vale_rules_spec.specs.Declarations.{head_params}
 use Rattle.vale_rules_spec.specs.Types.{Ty}
 use Rattle.vale_rules_spec.specs.Typed.{Expr, Block, block, Function, function_body, Typed}
-use Rattle.vale_model.specs.Parts.{Parts, parts_of, param_names, main_of}
+use Rattle.vale_model.specs.Parts.{Parts, parts_of, main_of}
 use Rattle.vale_model.specs.Runs.{Locals, Result, goes, returned, ended, Run, under}
 use Rattle.vale_model.specs.Destruction.{Again, drop_values}
 use Rattle.vale_model.specs.Loops.{state_in}
@@ -45,7 +45,7 @@ module _ (p : Parts) (a a' : Again) (n : ℕ) (follows : Alongside a a' n) where
   body_longer (block at end x ss) = bind_longer (suc n) _ _ _ _ (block_longer p a a' n follows (block at end x ss)) (λ v. leave_longer p a a' n follows (Option Value) end v)
 
   function_longer : (f : Function) (vs : List Value) (frame : FrameAt) → AlwaysLonger (suc n) (function_run (with_parts p a) f vs frame) (function_run (with_parts p a') f vs frame)
-  function_longer (function_body h b) vs frame = with_bound_longer (suc n) (bound (param_names (head_params h)) vs []) _ _ (under_longer (suc n) frame (body_longer b))
+  function_longer (function_body h b) vs frame = with_bound_longer (suc n) (bound (head_params h) vs []) _ _ (under_longer (suc n) frame (body_longer b))
 
   turn_longer : (c : Expr) (b : Block) → AlwaysLonger (suc n) (turn_run (with_parts p a) c b) (turn_run (with_parts p a') c b)
   turn_longer c b =

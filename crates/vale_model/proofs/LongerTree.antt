@@ -16,14 +16,14 @@ use Rattle.vale_syntax.specs.declared.tree.BinaryOp.{BinaryOp}
 use Rattle.vale_syntax.specs.declared.tree.BinaryOp.TheVariants.{Or, And, Equal, NotEqual, Less, LessEqual, Greater, GreaterEqual, Add, Sub, Mul, Div, Rem}
 use Rattle.vale_syntax.specs.declared.tree.UnaryOp.{UnaryOp}
 use Rattle.vale_syntax.specs.declared.tree.UnaryOp.TheVariants.{Minus, Not, Borrow, Merge}
-use Rattle.vale_rules_spec.specs.Types.{Ty, void, seen_object}
+use Rattle.vale_rules_spec.specs.Types.{Ty, void, is_owned, is_owner, seen_object}
 use Rattle.vale_rules_spec.specs.Types as y
-use Rattle.vale_rules_spec.specs.Typed.{Callee, built_in, constructor, function, Expr, expr, Node, set, chain, unary, steps, number, quote, truth, name, call, paren, array, iso, form, Exprs, no_exprs, more_exprs, link, Links, no_links, more_links, Step, field, method, index, Steps, no_steps, more_steps, Form, branch, pure, parallel_range, parallel_each, else_if, Elses, no_else, otherwise, more_elses, Block, block, Stmt, declare, destructure, return_nothing, return_value, while, foreach, form_stmt, express, Stmts, no_stmts, last, more_stmts, Function}
+use Rattle.vale_rules_spec.specs.Typed.{Callee, built_in, constructor, function, Expr, expr, Node, set, chain, unary, steps, number, quote, truth, name, call, paren, array, iso, form, Exprs, no_exprs, more_exprs, link, Links, no_links, more_links, Step, field, method, index, Steps, no_steps, more_steps, Form, branch, pure, parallel_range, parallel_each, else_if, Elses, no_else, otherwise, more_elses, Block, block, Stmt, declare, destructure, return_nothing, return_value, while, foreach, form_stmt, express, Stmts, no_stmts, last, more_stmts, Function, type}
 use Rattle.vale_model.specs.Parts.{Parts, name_text, is_pure, function_named, method_of, field_place, kind_of, type_of_kind, kind_text}
 use Rattle.vale_model.specs.Runs.{Locals, goes, returned, Run, then_do, ◌>>=◌, give, trap, step, valued, innermost, outer}
-use Rattle.vale_model.specs.Destruction.{Again, destructor_in, destroyed_by, destroyed, destroy, drop, drop_values, drop_locals, leave, with_local, with_locals}
+use Rattle.vale_model.specs.Destruction.{Again, destructor_in, destroyed_by, destroyed, destroy, drop, drop_owned, drop_values, drop_locals, leave, with_local, with_locals}
 use Rattle.vale_model.specs.Loops.{in_region, iteration, collected, in_order, each_alone, loop, indices, numbered, emptied, taken_apart, loop_value}
-use Rattle.vale_model.specs.Expressions.{operated, link_run, unary_run, called_by, called, dispatched_to, dispatched_on, dispatched, built_in_run, made, callee_run, on_place, frozen_run, expr_spot, numbers_of, expr_run, node_run, exprs_run, links_run, step_run, steps_run, set_run, set_steps, set_step, form_run, iteration_body, elses_run, block_run, stmts_run, stmt_run}
+use Rattle.vale_model.specs.Expressions.{operated, link_run, unary_run, called_by, called, dispatched_to, dispatched_on, dispatched, built_in_run, made, callee_run, on_place, frozen_run, end_of_block, expr_spot, numbers_of, expr_run, node_run, exprs_run, links_run, step_run, steps_run, set_run, set_steps, set_step, form_run, iteration_body, elses_run, block_run, stmts_run, stmt_run}
 use Rattle.vale_text.proofs.StateLaws.{later_refl, dies_later, freeze_later, thaw_later, freeze_iteration_later, thaw_iteration_later, join_isolate_later, counting_as_later, print_goes, make_goes, load_goes, swap_goes, element_goes, swap_element_goes, len_goes, push_goes, pop_goes, merge_goes, ints_goes, slice_goes, byte_goes, text_of_goes, is_number_goes, number_goes, opposite_goes}
 use Rattle.vale_model.proofs.RunLaws.{then_goes, step_goes, change_goes, loop_goes, taken_apart_goes}
 use Rattle.vale_model.proofs.TreeLaws.{Follows, operated_goes, destroy_goes, drop_goes, leave_goes, with_local_goes, dispatched_goes}
@@ -110,8 +110,8 @@ pub record Alongside (a a' : Again) (n : ℕ) : Type 0 where
   pub fields_on : (vs : List Value) (frame : FrameAt) → AlwaysLonger n (a.fields vs frame) (a'.fields vs frame)
 
 -- a value, after the drop of the innermost local
-abbrev dropped : {A : Type 0} → Again → Spot → A → Run A
-dropped c end r = λ calls l s. then_do (drop c end (innermost l) calls (outer l) s) (λ u l s. goes r l s)
+abbrev dropped : {A : Type 0} → Again → Spot → Bool → A → Run A
+dropped c end owned r = λ calls l s. then_do (drop_owned c end owned (innermost l) calls (outer l) s) (λ u l s. goes r l s)
 
 abbrev pub with_parts : Parts → Again → Again
 with_parts p a = record a { parts = p }
@@ -163,13 +163,17 @@ module _ (p : Parts) (a a' : Again) (n : ℕ) (follows : Alongside a a' n) where
   drop_longer at (Some (Text z)) = nothing_longer (suc n)
   drop_longer at (Some (Ref z)) = nothing_longer (suc n)
 
+  drop_owned_longer : (at : Spot) (owned : Bool) (v : Option Value) → AlwaysLonger (suc n) (drop_owned again at owned v) (drop_owned again' at owned v)
+  drop_owned_longer at true v = drop_longer at v
+  drop_owned_longer at false v = nothing_longer (suc n)
+
   pub drop_values_longer : (at : Spot) (vs : List Value) → AlwaysLonger (suc n) (drop_values again at vs) (drop_values again' at vs)
   drop_values_longer at [] = nothing_longer (suc n)
   drop_values_longer at (v ∷ vs) = bind_longer (suc n) _ _ _ _ (drop_longer at (Some v)) (λ _. drop_values_longer at vs)
 
   drop_locals_longer : (at : Spot) (l : Locals) → AlwaysLonger (suc n) (drop_locals again at l) (drop_locals again' at l)
   drop_locals_longer at [] = nothing_longer (suc n)
-  drop_locals_longer at (x ∷ l) = bind_longer (suc n) _ _ _ _ (drop_longer at x.value) (λ _. drop_locals_longer at l)
+  drop_locals_longer at (x ∷ l) = bind_longer (suc n) _ _ _ _ (drop_owned_longer at x.owned x.value) (λ _. drop_locals_longer at l)
 
   pub leave_longer : (A : Type 0) (at : Spot) (v : Option Value) → AlwaysLonger {A = A} (suc n) (leave again at v) (leave again' at v)
   leave_longer A at v = record {
@@ -180,31 +184,33 @@ module _ (p : Parts) (a a' : Again) (n : ℕ) (follows : Alongside a a' n) where
         (λ u l t lt. (later_refl t, tt)) (λ u l s x le lt. (x, le, refl)) ((drop_locals_longer at l).longer calls [] s x le lt);
   }
 
-  dropped_longer : {A : Type 0} (end : Spot) (r : A) → AlwaysLonger (suc n) (dropped again end r) (dropped again' end r)
-  dropped_longer end r = record {
-    goes_on = record { from = λ calls l s lt. then_goes s (suc n) (drop again' end (innermost l) calls (outer l) s) (λ u l s. goes r l s) lt ((drop_goes again' n goes_with end (innermost l)).from calls (outer l) s lt) (λ u l t lt. (later_refl t, tt)) };
+  dropped_longer : {A : Type 0} (end : Spot) (owned : Bool) (r : A) → AlwaysLonger (suc n) (dropped again end owned r) (dropped again' end owned r)
+  dropped_longer end owned r = record {
+    goes_on = record { from = λ calls l s lt. then_goes s (suc n) (drop_owned again' end owned (innermost l) calls (outer l) s) (λ u l s. goes r l s) lt ((drop_owned_longer end owned (innermost l)).goes_on.from calls (outer l) s lt) (λ u l t lt. (later_refl t, tt)) };
     longer = λ calls l s x le lt.
-        then_longer (suc n) (drop again end (innermost l) calls (outer l) s) (drop again' end (innermost l) calls (outer l) (beside s x)) (λ u l s. goes r l s) (λ u l s. goes r l s)
-        (few_left (suc n) (beside s x) (drop again' end (innermost l) calls (outer l) (beside s x)) lt ((drop_longer end (innermost l)).goes_on.from calls (outer l) (beside s x) lt))
-        (λ u l t lt. (later_refl t, tt)) (λ u l s x le lt. (x, le, refl)) ((drop_longer end (innermost l)).longer calls (outer l) s x le lt);
+        then_longer (suc n) (drop_owned again end owned (innermost l) calls (outer l) s) (drop_owned again' end owned (innermost l) calls (outer l) (beside s x)) (λ u l s. goes r l s) (λ u l s. goes r l s)
+        (few_left (suc n) (beside s x) (drop_owned again' end owned (innermost l) calls (outer l) (beside s x)) lt ((drop_owned_longer end owned (innermost l)).goes_on.from calls (outer l) (beside s x) lt))
+        (λ u l t lt. (later_refl t, tt)) (λ u l s x le lt. (x, le, refl)) ((drop_owned_longer end owned (innermost l)).longer calls (outer l) s x le lt);
   }
 
-  with_local_longer : {A : Type 0} (end : Spot) (k : ℕ) (v : Value) (m m' : Run A) → AlwaysLonger (suc n) m m' → AlwaysLonger (suc n) (with_local again end k v m) (with_local again' end k v m')
-  with_local_longer end k v m m' h = record {
-    goes_on = with_local_goes again' n goes_with end k v m' h.goes_on;
+  with_local_longer : {A : Type 0} (end : Spot) (k : ℕ) (owned : Bool) (v : Value) (m m' : Run A) → AlwaysLonger (suc n) m m' → AlwaysLonger (suc n) (with_local again end k owned v m) (with_local again' end k owned v m')
+  with_local_longer end k owned v m m' h = record {
+    goes_on = with_local_goes again' n goes_with end k owned v m' h.goes_on;
     longer = λ calls l s x le lt.
-        then_longer (suc n) (m calls (record { name = Some k; value = Some v } ∷ l) s) (m' calls (record { name = Some k; value = Some v } ∷ l) (beside s x)) _ _
-        (few_left (suc n) (beside s x) (m' calls (record { name = Some k; value = Some v } ∷ l) (beside s x)) lt (h.goes_on.from calls (record { name = Some k; value = Some v } ∷ l) (beside s x) lt))
-        (λ r l t lt. (dropped_longer end r).goes_on.from calls l t lt)
-        (λ r l s x le lt. (dropped_longer end r).longer calls l s x le lt)
-        (h.longer calls (record { name = Some k; value = Some v } ∷ l) s x le lt);
+        then_longer (suc n) (m calls (record { name = Some k; value = Some v; owned = owned } ∷ l) s) (m' calls (record { name = Some k; value = Some v; owned = owned } ∷ l) (beside s x)) _ _
+        (few_left (suc n) (beside s x) (m' calls (record { name = Some k; value = Some v; owned = owned } ∷ l) (beside s x)) lt (h.goes_on.from calls (record { name = Some k; value = Some v; owned = owned } ∷ l) (beside s x) lt))
+        (λ r l t lt. (dropped_longer end owned r).goes_on.from calls l t lt)
+        (λ r l s x le lt. (dropped_longer end owned r).longer calls l s x le lt)
+        (h.longer calls (record { name = Some k; value = Some v; owned = owned } ∷ l) s x le lt);
   }
 
-  with_locals_longer : {A : Type 0} (end : Spot) (xs : List ℕ) (vs : List Value) (m m' : Run A) → AlwaysLonger (suc n) m m' → AlwaysLonger (suc n) (with_locals again end xs vs m) (with_locals again' end xs vs m')
-  with_locals_longer end [] [] m m' h = h
-  with_locals_longer end [] (v ∷ vs) m m' h = wrong_longer (suc n)
-  with_locals_longer end (k ∷ xs) [] m m' h = wrong_longer (suc n)
-  with_locals_longer end (k ∷ xs) (v ∷ vs) m m' h = with_local_longer end k v _ _ (with_locals_longer end xs vs m m' h)
+  with_locals_longer : {A : Type 0} (end : Spot) (ks : List ℕ) (xs : List Ty) (vs : List Value) (m m' : Run A) → AlwaysLonger (suc n) m m' → AlwaysLonger (suc n) (with_locals again end ks xs vs m) (with_locals again' end ks xs vs m')
+  with_locals_longer end [] [] [] m m' h = h
+  with_locals_longer end [] [] (v ∷ vs) m m' h = wrong_longer (suc n)
+  with_locals_longer end [] (x ∷ xs) vs m m' h = wrong_longer (suc n)
+  with_locals_longer end (k ∷ ks) [] vs m m' h = wrong_longer (suc n)
+  with_locals_longer end (k ∷ ks) (x ∷ xs) [] m m' h = wrong_longer (suc n)
+  with_locals_longer end (k ∷ ks) (x ∷ xs) (v ∷ vs) m m' h = with_local_longer end k (is_owned x) v _ _ (with_locals_longer end ks xs vs m m' h)
 
   -- ---- calls
 
@@ -353,7 +359,7 @@ module _ (p : Parts) (a a' : Again) (n : ℕ) (follows : Alongside a a' n) where
     node_longer x (chain e ls) = bind_longer (suc n) _ _ _ _ (valued_longer (suc n) (expr_longer e)) (λ v. links_longer v ls)
     node_longer x (unary at op e) = bind_longer (suc n) _ _ _ _ (valued_longer (suc n) (expr_longer e)) (λ v. unary_longer at op v)
     node_longer x (steps e ss) = bind_longer (suc n) _ _ _ _ (valued_longer (suc n) (expr_longer e)) (λ v. steps_longer v ss)
-    node_longer x (set at r e) = bind_longer (suc n) _ _ _ _ (valued_longer (suc n) (expr_longer e)) (λ v. while_waits_longer (suc n) v (set_longer v r))
+    node_longer x (set at r e) = bind_longer (suc n) _ _ _ _ (valued_longer (suc n) (expr_longer e)) (λ v. while_waits_longer (suc n) (is_owned (type e)) v (set_longer v r))
     node_longer x (call k f es) = bind_longer (suc n) _ _ _ _ (exprs_longer es) (λ vs. callee_longer k f vs)
     node_longer x (array at t es) = bind_longer (suc n) _ _ _ _ (exprs_longer es) (λ vs. made_longer at x vs)
     node_longer x (iso at b) = bind_longer (suc n) _ _ _ _ (frozen_longer at end_of_isolate _ _ (block_longer b)) (λ v. give_longer (suc n) (isolated v))
@@ -361,7 +367,7 @@ module _ (p : Parts) (a a' : Again) (n : ℕ) (follows : Alongside a a' n) where
 
     exprs_longer : (es : Exprs) → AlwaysLonger (suc n) (exprs_run again es) (exprs_run again' es)
     exprs_longer no_exprs = give_longer (suc n) []
-    exprs_longer (more_exprs e es) = bind_longer (suc n) _ _ _ _ (valued_longer (suc n) (expr_longer e)) (λ v. bind_longer (suc n) _ _ _ _ (while_waits_longer (suc n) v (exprs_longer es)) (λ vs. give_longer (suc n) (v ∷ vs)))
+    exprs_longer (more_exprs e es) = bind_longer (suc n) _ _ _ _ (valued_longer (suc n) (expr_longer e)) (λ v. bind_longer (suc n) _ _ _ _ (while_waits_longer (suc n) (is_owned (type e)) v (exprs_longer es)) (λ vs. give_longer (suc n) (v ∷ vs)))
 
     links_longer : (v : Value) (ls : Links) → AlwaysLonger (suc n) (links_run again v ls) (links_run again' v ls)
     links_longer v no_links = give_longer (suc n) (Some v)
@@ -404,12 +410,12 @@ module _ (p : Parts) (a a' : Again) (n : ℕ) (follows : Alongside a a' n) where
 
     form_longer : (x : Ty) (f : Form) → AlwaysLonger (suc n) (form_run again x f) (form_run again' x f)
     form_longer x (branch at c b es) = bind_longer (suc n) _ _ _ _ (valued_longer (suc n) (expr_longer c)) (λ v. choose_longer (suc n) v (block_longer b) (elses_longer es))
-    form_longer x (pure at b) = frozen_longer at end_of_pure _ _ (block_longer b)
-    form_longer x (parallel_range at k c e b) = bind_longer (suc n) _ _ _ _ (valued_longer (suc n) (expr_longer c)) (λ v. bind_longer (suc n) _ _ _ _ (valued_longer (suc n) (expr_longer e)) (λ w. bind_longer (suc n) _ _ _ _ (number_in_longer (suc n) v) (λ from. bind_longer (suc n) _ _ _ _ (number_in_longer (suc n) w) (λ to. bind_longer (suc n) _ _ _ _ (numbered_longer (suc n) at from to) (λ firsts. bind_longer (suc n) _ _ _ _ (loop_longer n at firsts _ _ (λ first. body_longer k first b)) (λ vs. loop_value_longer n p at x vs))))))
-    form_longer x (parallel_each at k e b) = bind_longer (suc n) _ _ _ _ (valued_longer (suc n) (expr_longer e)) (λ v. bind_longer (suc n) _ _ _ _ (taken_apart_longer n v) (λ firsts. bind_longer (suc n) _ _ _ _ (loop_longer n at firsts _ _ (λ first. body_longer k first b)) (λ vs. loop_value_longer n p at x vs)))
+    form_longer x (pure at b) = frozen_longer at (λ v. end_of_block (is_owner x)) _ _ (block_longer b)
+    form_longer x (parallel_range at k c e b) = bind_longer (suc n) _ _ _ _ (valued_longer (suc n) (expr_longer c)) (λ v. bind_longer (suc n) _ _ _ _ (valued_longer (suc n) (expr_longer e)) (λ w. bind_longer (suc n) _ _ _ _ (number_in_longer (suc n) v) (λ from. bind_longer (suc n) _ _ _ _ (number_in_longer (suc n) w) (λ to. bind_longer (suc n) _ _ _ _ (numbered_longer (suc n) at from to) (λ firsts. bind_longer (suc n) _ _ _ _ (loop_longer n at firsts _ _ (λ first. body_longer k false first b)) (λ vs. loop_value_longer n p at x vs))))))
+    form_longer x (parallel_each at k e b) = bind_longer (suc n) _ _ _ _ (valued_longer (suc n) (expr_longer e)) (λ v. bind_longer (suc n) _ _ _ _ (taken_apart_longer n v) (λ firsts. bind_longer (suc n) _ _ _ _ (loop_longer n at firsts _ _ (λ first. body_longer k true first b)) (λ vs. loop_value_longer n p at x vs)))
 
-    body_longer : (k : NameAt) (first : Value) (b : Block) → AlwaysLonger (suc n) (iteration_body again k first b) (iteration_body again' k first b)
-    body_longer k first (block at end x ss) = with_local_longer end k.name.0 first _ _ (stmts_longer end ss)
+    body_longer : (k : NameAt) (owned : Bool) (first : Value) (b : Block) → AlwaysLonger (suc n) (iteration_body again k owned first b) (iteration_body again' k owned first b)
+    body_longer k owned first (block at end x ss) = with_local_longer end k.name.0 owned first _ _ (stmts_longer end ss)
 
     elses_longer : (es : Elses) → AlwaysLonger (suc n) (elses_run again es) (elses_run again' es)
     elses_longer no_else = nothing_longer (suc n)
@@ -422,8 +428,8 @@ module _ (p : Parts) (a a' : Again) (n : ℕ) (follows : Alongside a a' n) where
     stmts_longer : (end : Spot) (ss : Stmts) → AlwaysLonger (suc n) (stmts_run again end ss) (stmts_run again' end ss)
     stmts_longer end no_stmts = nothing_longer (suc n)
     stmts_longer end (last e) = expr_longer e
-    stmts_longer end (more_stmts (declare k x e) ss) = bind_longer (suc n) _ _ _ _ (valued_longer (suc n) (expr_longer e)) (λ v. with_local_longer end k.name.0 v _ _ (stmts_longer end ss))
-    stmts_longer end (more_stmts (destructure at ks xs e) ss) = bind_longer (suc n) _ _ _ _ (valued_longer (suc n) (expr_longer e)) (λ v. bind_longer (suc n) _ _ _ _ (taken_apart_longer n v) (λ vs. with_locals_longer end (numbers_of ks) vs _ _ (stmts_longer end ss)))
+    stmts_longer end (more_stmts (declare k x e) ss) = bind_longer (suc n) _ _ _ _ (valued_longer (suc n) (expr_longer e)) (λ v. with_local_longer end k.name.0 (is_owned x) v _ _ (stmts_longer end ss))
+    stmts_longer end (more_stmts (destructure at ks xs e) ss) = bind_longer (suc n) _ _ _ _ (valued_longer (suc n) (expr_longer e)) (λ v. bind_longer (suc n) _ _ _ _ (taken_apart_longer n v) (λ vs. with_locals_longer end (numbers_of ks) xs vs _ _ (stmts_longer end ss)))
     stmts_longer end (more_stmts (return_nothing at) ss) = bind_longer (suc n) _ _ _ _ (stmt_longer (return_nothing at)) (λ _. stmts_longer end ss)
     stmts_longer end (more_stmts (return_value at e) ss) = bind_longer (suc n) _ _ _ _ (stmt_longer (return_value at e)) (λ _. stmts_longer end ss)
     stmts_longer end (more_stmts (while at c b) ss) = bind_longer (suc n) _ _ _ _ (stmt_longer (while at c b)) (λ _. stmts_longer end ss)
@@ -437,6 +443,6 @@ module _ (p : Parts) (a a' : Again) (n : ℕ) (follows : Alongside a a' n) where
     stmt_longer (return_nothing at) = leave_longer (Option Value) at None
     stmt_longer (return_value at e) = bind_longer (suc n) _ _ _ _ (expr_longer e) (λ v. leave_longer (Option Value) at v)
     stmt_longer (while at c b) = bind_longer (suc n) _ _ _ _ (valued_longer (suc n) (expr_longer c)) (λ v. choose_longer (suc n) v (tick_longer n _ _ (follows.turns_on c b)) (nothing_longer (suc n)))
-    stmt_longer (foreach at k c e b) = bind_longer (suc n) _ _ _ _ (valued_longer (suc n) (expr_longer c)) (λ v. bind_longer (suc n) _ _ _ _ (valued_longer (suc n) (expr_longer e)) (λ w. bind_longer (suc n) _ _ _ _ (number_in_longer (suc n) v) (λ from. bind_longer (suc n) _ _ _ _ (number_in_longer (suc n) w) (λ to. turns_longer n (width_of from to) from _ _ (λ z. body_longer k (Int z) b)))))
+    stmt_longer (foreach at k c e b) = bind_longer (suc n) _ _ _ _ (valued_longer (suc n) (expr_longer c)) (λ v. bind_longer (suc n) _ _ _ _ (valued_longer (suc n) (expr_longer e)) (λ w. bind_longer (suc n) _ _ _ _ (number_in_longer (suc n) v) (λ from. bind_longer (suc n) _ _ _ _ (number_in_longer (suc n) w) (λ to. turns_longer n (width_of from to) from _ _ (λ z. body_longer k false (Int z) b)))))
     stmt_longer (form_stmt f) = form_longer void f
-    stmt_longer (express e) = bind_longer (suc n) _ _ _ _ (expr_longer e) (λ v. drop_longer (expr_spot e) v)
+    stmt_longer (express e) = bind_longer (suc n) _ _ _ _ (expr_longer e) (λ v. drop_owned_longer (expr_spot e) (is_owned (type e)) v)

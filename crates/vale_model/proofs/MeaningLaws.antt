@@ -9,7 +9,7 @@ use Rattle.vale_base.specs.declared.trap.FrameAt.{FrameAt}
 use Rattle.vale_rules_spec.specs.Declarations.{head_params}
 use Rattle.vale_rules_spec.specs.Types.{Ty}
 use Rattle.vale_rules_spec.specs.Typed.{Expr, Block, block, Function, function_body, Typed}
-use Rattle.vale_model.specs.Parts.{Parts, parts_of, param_names, main_of}
+use Rattle.vale_model.specs.Parts.{Parts, parts_of, main_of}
 use Rattle.vale_model.specs.Runs.{Locals, Result, goes, returned, ended, Run, ◌>>=◌, nothing, tick, valued, under}
 use Rattle.vale_model.specs.Destruction.{Again, drop_values, destroyed, destroy}
 use Rattle.vale_model.specs.Expressions.{block_run, expr_run, made}
@@ -36,7 +36,7 @@ module _ (again : Again) (n : ℕ) (follows : Follows again n) where
   body_goes (block at end x ss) = bind_goes (suc n) (block_run again (block at end x ss)) _ (block_goes again n follows (block at end x ss)) (λ v. leave_goes again n follows (Option Value) end v)
 
   pub function_goes : (f : Function) (vs : List Value) (frame : FrameAt) → AlwaysGoesOn (suc n) (function_run again f vs frame)
-  function_goes (function_body h b) vs frame = with_bound_goes (suc n) (bound (param_names (head_params h)) vs []) (under frame (body_run again b)) (under_goes (suc n) frame (body_run again b) (body_goes b))
+  function_goes (function_body h b) vs frame = with_bound_goes (suc n) (bound (head_params h) vs []) (under frame (body_run again b)) (under_goes (suc n) frame (body_run again b) (body_goes b))
 
   pub turn_goes : (c : Expr) (b : Block) → AlwaysGoesOn (suc n) (turn_run again c b)
   turn_goes c b =

@@ -108,8 +108,8 @@ move_goes n name = record { from = λ calls l s lt. relocated_goes n calls l s (
 pub exchange_goes : (n name : ℕ) (new : Value) → AlwaysGoesOn n (exchange name new)
 exchange_goes n name new = record { from = λ calls l s lt. relocated_goes n calls l s (the_value (held_by name l)) (λ v. v) (λ v l. with_held name (Some new) l) lt (the_value_goes n (held_by name l)) }
 
-pub while_waits_goes : {A : Type 0} (n : ℕ) (v : Value) (m : Run A) → AlwaysGoesOn n m → AlwaysGoesOn n (while_waits v m)
-while_waits_goes n v m h = record { from = λ calls l s lt. relocated_goes n calls (record { name = None; value = Some v } ∷ l) s m (λ r. r) (λ r l. outer l) lt h }
+pub while_waits_goes : {A : Type 0} (n : ℕ) (owned : Bool) (v : Value) (m : Run A) → AlwaysGoesOn n m → AlwaysGoesOn n (while_waits owned v m)
+while_waits_goes n owned v m h = record { from = λ calls l s lt. relocated_goes n calls (record { name = None; value = Some v; owned = owned } ∷ l) s m (λ r. r) (λ r l. outer l) lt h }
 
 -- ---- loops
 

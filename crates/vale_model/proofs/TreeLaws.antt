@@ -14,14 +14,14 @@ use Rattle.vale_syntax.specs.declared.tree.BinaryOp.{BinaryOp}
 use Rattle.vale_syntax.specs.declared.tree.BinaryOp.TheVariants.{Or, And, Equal, NotEqual, Less, LessEqual, Greater, GreaterEqual, Add, Sub, Mul, Div, Rem}
 use Rattle.vale_syntax.specs.declared.tree.UnaryOp.{UnaryOp}
 use Rattle.vale_syntax.specs.declared.tree.UnaryOp.TheVariants.{Minus, Not, Borrow, Merge}
-use Rattle.vale_rules_spec.specs.Types.{Ty, void, seen_object}
+use Rattle.vale_rules_spec.specs.Types.{Ty, void, is_owned, is_owner, seen_object}
 use Rattle.vale_rules_spec.specs.Types as y
-use Rattle.vale_rules_spec.specs.Typed.{Callee, built_in, constructor, function, Expr, expr, Node, set, chain, unary, steps, number, quote, truth, name, call, paren, array, iso, form, Exprs, no_exprs, more_exprs, link, Links, no_links, more_links, Step, field, method, index, Steps, no_steps, more_steps, Form, branch, pure, parallel_range, parallel_each, else_if, Elses, no_else, otherwise, more_elses, Block, block, Stmt, declare, destructure, return_nothing, return_value, while, foreach, form_stmt, express, Stmts, no_stmts, last, more_stmts, Function}
+use Rattle.vale_rules_spec.specs.Typed.{Callee, built_in, constructor, function, Expr, expr, Node, set, chain, unary, steps, number, quote, truth, name, call, paren, array, iso, form, Exprs, no_exprs, more_exprs, link, Links, no_links, more_links, Step, field, method, index, Steps, no_steps, more_steps, Form, branch, pure, parallel_range, parallel_each, else_if, Elses, no_else, otherwise, more_elses, Block, block, Stmt, declare, destructure, return_nothing, return_value, while, foreach, form_stmt, express, Stmts, no_stmts, last, more_stmts, Function, type}
 use Rattle.vale_model.specs.Parts.{name_text, is_pure, function_named, method_of, field_place, kind_of, type_of_kind, kind_text}
 use Rattle.vale_model.specs.Runs.{Locals, goes, returned, Run, ◌>>=◌, give, nothing, step, change, tick, deep, valued, read, move, exchange, while_waits, innermost, outer}
-use Rattle.vale_model.specs.Destruction.{Again, destructor_in, destroyed_by, destroyed, destroy, drop, drop_values, drop_locals, leave, with_local, with_locals}
+use Rattle.vale_model.specs.Destruction.{Again, destructor_in, destroyed_by, destroyed, destroy, drop, drop_owned, drop_values, drop_locals, leave, with_local, with_locals}
 use Rattle.vale_model.specs.Loops.{number_in, loop, numbered, taken_apart}
-use Rattle.vale_model.specs.Expressions.{plus, operated, link_run, unary_run, called_by, called, dispatched_to, dispatched_on, dispatched, built_in_run, made, callee_run, on_place, frozen_run, expr_spot, numbers_of, expr_run, node_run, exprs_run, links_run, step_run, steps_run, set_run, set_steps, set_step, form_run, iteration_body, elses_run, block_run, stmts_run, stmt_run}
+use Rattle.vale_model.specs.Expressions.{plus, operated, link_run, unary_run, called_by, called, dispatched_to, dispatched_on, dispatched, built_in_run, made, callee_run, on_place, frozen_run, end_of_block, expr_spot, numbers_of, expr_run, node_run, exprs_run, links_run, step_run, steps_run, set_run, set_steps, set_step, form_run, iteration_body, elses_run, block_run, stmts_run, stmt_run}
 use Rattle.vale_text.specs.Progress.{StepGoesOn}
 use Rattle.vale_model.specs.Progress.{AlwaysGoesOn}
 use Rattle.vale_text.proofs.StateLaws.{later_refl, dies_later, freeze_later, thaw_later, join_isolate_later, print_goes, make_goes, load_goes, swap_goes, element_goes, swap_element_goes, len_goes, push_goes, pop_goes, merge_goes, ints_goes, join_goes, slice_goes, byte_goes, text_of_goes, is_number_goes, number_goes, opposite_goes, compare_goes}
@@ -85,29 +85,35 @@ module _ (again : Again) (n : ℕ) (follows : Follows again n) where
   drop_goes at (Some (Text z)) = nothing_goes (suc n)
   drop_goes at (Some (Ref z)) = nothing_goes (suc n)
 
+  drop_owned_goes : (at : Spot) (owned : Bool) (v : Option Value) → AlwaysGoesOn (suc n) (drop_owned again at owned v)
+  drop_owned_goes at true v = drop_goes at v
+  drop_owned_goes at false v = nothing_goes (suc n)
+
   pub drop_values_goes : (at : Spot) (vs : List Value) → AlwaysGoesOn (suc n) (drop_values again at vs)
   drop_values_goes at [] = nothing_goes (suc n)
   drop_values_goes at (v ∷ vs) = bind_goes (suc n) (drop again at (Some v)) _ (drop_goes at (Some v)) (λ _. drop_values_goes at vs)
 
   drop_locals_goes : (at : Spot) (l : Locals) → AlwaysGoesOn (suc n) (drop_locals again at l)
   drop_locals_goes at [] = nothing_goes (suc n)
-  drop_locals_goes at (x ∷ l) = bind_goes (suc n) (drop again at x.value) _ (drop_goes at x.value) (λ _. drop_locals_goes at l)
+  drop_locals_goes at (x ∷ l) = bind_goes (suc n) (drop_owned again at x.owned x.value) _ (drop_owned_goes at x.owned x.value) (λ _. drop_locals_goes at l)
 
   pub leave_goes : (A : Type 0) (at : Spot) (v : Option Value) → AlwaysGoesOn {A = A} (suc n) (leave again at v)
   leave_goes A at v = record { from = λ calls l s lt. then_goes s (suc n) (drop_locals again at l calls [] s) (λ u l s. returned v s) lt ((drop_locals_goes at l).from calls [] s lt) (λ u l t lt. (later_refl t, tt)) }
 
-  pub with_local_goes : {A : Type 0} (end : Spot) (x : ℕ) (v : Value) (m : Run A) → AlwaysGoesOn (suc n) m → AlwaysGoesOn (suc n) (with_local again end x v m)
-  with_local_goes end x v m h = record {
-    from = λ calls l s lt. then_goes s (suc n) (m calls (record { name = Some x; value = Some v } ∷ l) s) _ lt
-        (h.from calls (record { name = Some x; value = Some v } ∷ l) s lt)
-        (λ r l t lt. then_goes t (suc n) (drop again end (innermost l) calls (outer l) t) (λ u l s. goes r l s) lt ((drop_goes end (innermost l)).from calls (outer l) t lt) (λ u l t lt. (later_refl t, tt)));
+  pub with_local_goes : {A : Type 0} (end : Spot) (k : ℕ) (owned : Bool) (v : Value) (m : Run A) → AlwaysGoesOn (suc n) m → AlwaysGoesOn (suc n) (with_local again end k owned v m)
+  with_local_goes end k owned v m h = record {
+    from = λ calls l s lt. then_goes s (suc n) (m calls (record { name = Some k; value = Some v; owned = owned } ∷ l) s) _ lt
+        (h.from calls (record { name = Some k; value = Some v; owned = owned } ∷ l) s lt)
+        (λ r l t lt. then_goes t (suc n) (drop_owned again end owned (innermost l) calls (outer l) t) (λ u l s. goes r l s) lt ((drop_owned_goes end owned (innermost l)).from calls (outer l) t lt) (λ u l t lt. (later_refl t, tt)));
   }
 
-  with_locals_goes : {A : Type 0} (end : Spot) (xs : List ℕ) (vs : List Value) (m : Run A) → AlwaysGoesOn (suc n) m → AlwaysGoesOn (suc n) (with_locals again end xs vs m)
-  with_locals_goes end [] [] m h = h
-  with_locals_goes end [] (v ∷ vs) m h = wrong_goes (suc n)
-  with_locals_goes end (x ∷ xs) [] m h = wrong_goes (suc n)
-  with_locals_goes end (x ∷ xs) (v ∷ vs) m h = with_local_goes end x v (with_locals again end xs vs m) (with_locals_goes end xs vs m h)
+  with_locals_goes : {A : Type 0} (end : Spot) (ks : List ℕ) (xs : List Ty) (vs : List Value) (m : Run A) → AlwaysGoesOn (suc n) m → AlwaysGoesOn (suc n) (with_locals again end ks xs vs m)
+  with_locals_goes end [] [] [] m h = h
+  with_locals_goes end [] [] (v ∷ vs) m h = wrong_goes (suc n)
+  with_locals_goes end [] (x ∷ xs) vs m h = wrong_goes (suc n)
+  with_locals_goes end (k ∷ ks) [] vs m h = wrong_goes (suc n)
+  with_locals_goes end (k ∷ ks) (x ∷ xs) [] m h = wrong_goes (suc n)
+  with_locals_goes end (k ∷ ks) (x ∷ xs) (v ∷ vs) m h = with_local_goes end k (is_owned x) v (with_locals again end ks xs vs m) (with_locals_goes end ks xs vs m h)
 
   -- ---- calls
 
@@ -252,7 +258,7 @@ module _ (again : Again) (n : ℕ) (follows : Follows again n) where
     node_goes x (chain e ls) = bind_goes (suc n) (valued (expr_run again e)) _ (valued_goes (suc n) (expr_run again e) (expr_goes e)) (λ v. links_goes v ls)
     node_goes x (unary at op e) = bind_goes (suc n) (valued (expr_run again e)) _ (valued_goes (suc n) (expr_run again e) (expr_goes e)) (λ v. unary_goes at op v)
     node_goes x (steps e ss) = bind_goes (suc n) (valued (expr_run again e)) _ (valued_goes (suc n) (expr_run again e) (expr_goes e)) (λ v. steps_goes v ss)
-    node_goes x (set at q e) = bind_goes (suc n) (valued (expr_run again e)) _ (valued_goes (suc n) (expr_run again e) (expr_goes e)) (λ v. while_waits_goes (suc n) v (set_run again v q) (set_goes v q))
+    node_goes x (set at q e) = bind_goes (suc n) (valued (expr_run again e)) _ (valued_goes (suc n) (expr_run again e) (expr_goes e)) (λ v. while_waits_goes (suc n) (is_owned (type e)) v (set_run again v q) (set_goes v q))
     node_goes x (call k f es) = bind_goes (suc n) (exprs_run again es) _ (exprs_goes es) (λ vs. callee_goes k f vs)
     node_goes x (array at t es) = bind_goes (suc n) (exprs_run again es) _ (exprs_goes es) (λ vs. made_goes at x vs)
     node_goes x (iso at b) = bind_goes (suc n) (frozen_run at end_of_isolate (block_run again b)) _ (frozen_goes at end_of_isolate (block_run again b) (block_goes b)) (λ v. give_goes (suc n) (isolated v))
@@ -262,7 +268,7 @@ module _ (again : Again) (n : ℕ) (follows : Follows again n) where
     exprs_goes no_exprs = give_goes (suc n) []
     exprs_goes (more_exprs e es) =
         bind_goes (suc n) (valued (expr_run again e)) _ (valued_goes (suc n) (expr_run again e) (expr_goes e))
-        (λ v. bind_goes (suc n) (while_waits v (exprs_run again es)) _ (while_waits_goes (suc n) v (exprs_run again es) (exprs_goes es)) (λ vs. give_goes (suc n) (v ∷ vs)))
+        (λ v. bind_goes (suc n) (while_waits (is_owned (type e)) v (exprs_run again es)) _ (while_waits_goes (suc n) (is_owned (type e)) v (exprs_run again es) (exprs_goes es)) (λ vs. give_goes (suc n) (v ∷ vs)))
 
     links_goes : (v : Value) (ls : Links) → AlwaysGoesOn (suc n) (links_run again v ls)
     links_goes v no_links = give_goes (suc n) (Some v)
@@ -307,23 +313,23 @@ module _ (again : Again) (n : ℕ) (follows : Follows again n) where
 
     form_goes : (x : Ty) (f : Form) → AlwaysGoesOn (suc n) (form_run again x f)
     form_goes x (branch at c b es) = bind_goes (suc n) (valued (expr_run again c)) _ (valued_goes (suc n) (expr_run again c) (expr_goes c)) (λ v. choose_goes (suc n) v (block_run again b) (elses_run again es) (block_goes b) (elses_goes es))
-    form_goes x (pure at b) = frozen_goes at end_of_pure (block_run again b) (block_goes b)
+    form_goes x (pure at b) = frozen_goes at (λ v. end_of_block (is_owner x)) (block_run again b) (block_goes b)
     form_goes x (parallel_range at k a e b) =
         bind_goes (suc n) (valued (expr_run again a)) _ (valued_goes (suc n) (expr_run again a) (expr_goes a))
         (λ v. bind_goes (suc n) (valued (expr_run again e)) _ (valued_goes (suc n) (expr_run again e) (expr_goes e))
         (λ w. bind_goes (suc n) (number_in v) _ (number_in_goes (suc n) v)
         (λ from. bind_goes (suc n) (number_in w) _ (number_in_goes (suc n) w)
         (λ to. bind_goes (suc n) (numbered at from to) _ (numbered_goes (suc n) at from to)
-        (λ firsts. bind_goes (suc n) (loop at firsts (λ first. iteration_body again k first b)) _ (loop_goes n at firsts (λ first. iteration_body again k first b) (λ first. body_goes k first b))
+        (λ firsts. bind_goes (suc n) (loop at firsts (λ first. iteration_body again k false first b)) _ (loop_goes n at firsts (λ first. iteration_body again k false first b) (λ first. body_goes k false first b))
         (λ vs. loop_value_goes n again.parts at x vs))))))
     form_goes x (parallel_each at k e b) =
         bind_goes (suc n) (valued (expr_run again e)) _ (valued_goes (suc n) (expr_run again e) (expr_goes e))
         (λ v. bind_goes (suc n) (taken_apart v) _ (taken_apart_goes n v)
-        (λ firsts. bind_goes (suc n) (loop at firsts (λ first. iteration_body again k first b)) _ (loop_goes n at firsts (λ first. iteration_body again k first b) (λ first. body_goes k first b))
+        (λ firsts. bind_goes (suc n) (loop at firsts (λ first. iteration_body again k true first b)) _ (loop_goes n at firsts (λ first. iteration_body again k true first b) (λ first. body_goes k true first b))
         (λ vs. loop_value_goes n again.parts at x vs)))
 
-    body_goes : (k : NameAt) (first : Value) (b : Block) → AlwaysGoesOn (suc n) (iteration_body again k first b)
-    body_goes k first (block at end x ss) = with_local_goes end k.name.0 first (stmts_run again end ss) (stmts_goes end ss)
+    body_goes : (k : NameAt) (owned : Bool) (first : Value) (b : Block) → AlwaysGoesOn (suc n) (iteration_body again k owned first b)
+    body_goes k owned first (block at end x ss) = with_local_goes end k.name.0 owned first (stmts_run again end ss) (stmts_goes end ss)
 
     elses_goes : (es : Elses) → AlwaysGoesOn (suc n) (elses_run again es)
     elses_goes no_else = nothing_goes (suc n)
@@ -336,10 +342,10 @@ module _ (again : Again) (n : ℕ) (follows : Follows again n) where
     stmts_goes : (end : Spot) (ss : Stmts) → AlwaysGoesOn (suc n) (stmts_run again end ss)
     stmts_goes end no_stmts = nothing_goes (suc n)
     stmts_goes end (last e) = expr_goes e
-    stmts_goes end (more_stmts (declare k x e) ss) = bind_goes (suc n) (valued (expr_run again e)) _ (valued_goes (suc n) (expr_run again e) (expr_goes e)) (λ v. with_local_goes end k.name.0 v (stmts_run again end ss) (stmts_goes end ss))
+    stmts_goes end (more_stmts (declare k x e) ss) = bind_goes (suc n) (valued (expr_run again e)) _ (valued_goes (suc n) (expr_run again e) (expr_goes e)) (λ v. with_local_goes end k.name.0 (is_owned x) v (stmts_run again end ss) (stmts_goes end ss))
     stmts_goes end (more_stmts (destructure at ks xs e) ss) =
         bind_goes (suc n) (valued (expr_run again e)) _ (valued_goes (suc n) (expr_run again e) (expr_goes e))
-        (λ v. bind_goes (suc n) (taken_apart v) _ (taken_apart_goes n v) (λ vs. with_locals_goes end (numbers_of ks) vs (stmts_run again end ss) (stmts_goes end ss)))
+        (λ v. bind_goes (suc n) (taken_apart v) _ (taken_apart_goes n v) (λ vs. with_locals_goes end (numbers_of ks) xs vs (stmts_run again end ss) (stmts_goes end ss)))
     stmts_goes end (more_stmts (return_nothing at) ss) = bind_goes (suc n) (stmt_run again (return_nothing at)) _ (stmt_goes (return_nothing at)) (λ _. stmts_goes end ss)
     stmts_goes end (more_stmts (return_value at e) ss) = bind_goes (suc n) (stmt_run again (return_value at e)) _ (stmt_goes (return_value at e)) (λ _. stmts_goes end ss)
     stmts_goes end (more_stmts (while at c b) ss) = bind_goes (suc n) (stmt_run again (while at c b)) _ (stmt_goes (while at c b)) (λ _. stmts_goes end ss)
@@ -358,6 +364,6 @@ module _ (again : Again) (n : ℕ) (follows : Follows again n) where
         (λ v. bind_goes (suc n) (valued (expr_run again e)) _ (valued_goes (suc n) (expr_run again e) (expr_goes e))
         (λ w. bind_goes (suc n) (number_in v) _ (number_in_goes (suc n) v)
         (λ from. bind_goes (suc n) (number_in w) _ (number_in_goes (suc n) w)
-        (λ to. turns_goes n (width_of from to) from (λ x. iteration_body again k (Int x) b) (λ x. body_goes k (Int x) b)))))
+        (λ to. turns_goes n (width_of from to) from (λ x. iteration_body again k false (Int x) b) (λ x. body_goes k false (Int x) b)))))
     stmt_goes (form_stmt f) = form_goes void f
-    stmt_goes (express e) = bind_goes (suc n) (expr_run again e) _ (expr_goes e) (λ v. drop_goes (expr_spot e) v)
+    stmt_goes (express e) = bind_goes (suc n) (expr_run again e) _ (expr_goes e) (λ v. drop_owned_goes (expr_spot e) (is_owned (type e)) v)

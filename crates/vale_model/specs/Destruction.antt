@@ -1,11 +1,11 @@
 -- Scopes and destruction: an object dies, which takes its values out, and then they are dropped in order; one with a destructor
 -- is destroyed by calling it with the owner.
-use Rattle.std.specs.Prelude.{ℕ, List, [], ◌∷◌, Option, Some, None}
+use Rattle.std.specs.Prelude.{ℕ, Bool, true, false, List, [], ◌∷◌, Option, Some, None}
 use Rattle.vale_state_spec.specs.State.{dies, drop_frame, join_isolate, object_of}
 use Rattle.vale_state_spec.specs.World.{Value, Own, Iso, Object}
 use Rattle.vale_base.specs.declared.spot.Spot.{Spot}
 use Rattle.vale_base.specs.declared.trap.FrameAt.{FrameAt}
-use Rattle.vale_rules_spec.specs.Types.{Ty, kind}
+use Rattle.vale_rules_spec.specs.Types.{Ty, kind, is_owned}
 use Rattle.vale_rules_spec.specs.Typed.{Function, Expr, Block}
 use Rattle.vale_model.specs.Parts.{Parts, destructor_of, type_of_kind, kind_text}
 use Rattle.vale_model.specs.Runs.{Locals, goes, returned, Run, then_do, ◌>>=◌, nothing, wrong, change, tick, deep, outer, innermost}
@@ -48,6 +48,11 @@ drop again at (Some (Iso n)) = do
   destroy again at n
 drop again at _ = nothing
 
+-- what a part of a type leaves is dropped where the type is that of an owner or an isolate
+abbrev pub drop_owned : Again → Spot → Bool → Option Value → Run (Option Value)
+drop_owned again at true v = drop again at v
+drop_owned again at false v = nothing
+
 abbrev pub drop_values : Again → Spot → List Value → Run (Option Value)
 drop_values again at [] = nothing
 drop_values again at (v ∷ vs) = do
@@ -57,7 +62,7 @@ drop_values again at (v ∷ vs) = do
 abbrev pub drop_locals : Again → Spot → Locals → Run (Option Value)
 drop_locals again at [] = nothing
 drop_locals again at (x ∷ l) = do
-  _ ← drop again at x.value
+  _ ← drop_owned again at x.owned x.value
   drop_locals again at l
 
 -- The function returns: its locals and the values that wait are dropped, the innermost first.
@@ -65,11 +70,12 @@ abbrev pub leave : {A : Type 0} → Again → Spot → Option Value → Run A
 leave again at v = λ calls l s. then_do (drop_locals again at l calls [] s) (λ u l s. returned v s)
 
 -- A local has this value while the part runs, and is dropped after it, at the closing brace of its scope.
-abbrev pub with_local : {A : Type 0} → Again → Spot → ℕ → Value → Run A → Run A
-with_local again end n v m = λ calls l s. then_do (m calls (record { name = Some n; value = Some v } ∷ l) s)
-    (λ r l s. then_do (drop again end (innermost l) calls (outer l) s) (λ u l s. goes r l s))
+abbrev pub with_local : {A : Type 0} → Again → Spot → ℕ → Bool → Value → Run A → Run A
+with_local again end n owned v m = λ calls l s. then_do (m calls (record { name = Some n; value = Some v; owned = owned } ∷ l) s)
+    (λ r l s. then_do (drop_owned again end owned (innermost l) calls (outer l) s) (λ u l s. goes r l s))
 
-abbrev pub with_locals : {A : Type 0} → Again → Spot → List ℕ → List Value → Run A → Run A
-with_locals again end [] [] m = m
-with_locals again end (n ∷ ns) (v ∷ vs) m = with_local again end n v (with_locals again end ns vs m)
-with_locals again end _ _ m = wrong
+-- locals of these types
+abbrev pub with_locals : {A : Type 0} → Again → Spot → List ℕ → List Ty → List Value → Run A → Run A
+with_locals again end [] [] [] m = m
+with_locals again end (n ∷ ns) (x ∷ xs) (v ∷ vs) m = with_local again end n (is_owned x) v (with_locals again end ns xs vs m)
+with_locals again end _ _ _ m = wrong

@@ -1,6 +1,6 @@
 -- What the expressions, statements and blocks of a program do, from left to right: a rule for each of them.
 use Rattle.std.specs.Prelude.{ℕ, Bool, true, false, List, [], ◌∷◌, Option, Some, None}
-use Rattle.vale_state_spec.specs.State.{State, Answer, fails, Looked, found, dead, nowhere, look, load, element, swap, swap_element, len, push, pop, make, merge, print, freeze, thaw, RegionEnd, end_of_pure, end_of_isolate, isolated, function_frame, method_frame, width_of}
+use Rattle.vale_state_spec.specs.State.{State, Answer, fails, Looked, found, dead, nowhere, look, load, element, swap, swap_element, len, push, pop, make, merge, print, freeze, thaw, RegionEnd, merged, cleared, end_of_pure, end_of_isolate, isolated, function_frame, method_frame, width_of}
 use Rattle.vale_state_spec.specs.World.{Value, Int, Truth, Text, Ref}
 use Rattle.vale_base.specs.declared.spot.Spot.{Spot}
 use Rattle.vale_base.specs.declared.trap.FrameAt.{FrameAt}
@@ -13,12 +13,12 @@ use Rattle.vale_syntax.specs.declared.tree.BinaryOp.{BinaryOp}
 use Rattle.vale_syntax.specs.declared.tree.BinaryOp.TheVariants.{Or, And, Equal, NotEqual, Less, LessEqual, Greater, GreaterEqual, Add, Sub, Mul, Div, Rem}
 use Rattle.vale_syntax.specs.declared.tree.UnaryOp.{UnaryOp}
 use Rattle.vale_syntax.specs.declared.tree.UnaryOp.TheVariants.{Minus, Not, Borrow, Merge}
-use Rattle.vale_rules_spec.specs.Types.{Ty, void, View, seen_object}
+use Rattle.vale_rules_spec.specs.Types.{Ty, void, is_owned, is_owner, View, seen_object}
 use Rattle.vale_rules_spec.specs.Types as y
-use Rattle.vale_rules_spec.specs.Typed.{Callee, built_in, constructor, function, Expr, expr, Node, set, chain, unary, steps, number, quote, truth, name, call, paren, array, iso, form, Exprs, no_exprs, more_exprs, link, Links, no_links, more_links, Step, field, method, index, Steps, no_steps, more_steps, Form, branch, pure, parallel_range, parallel_each, else_if, Elses, no_else, otherwise, more_elses, Block, block, Stmt, declare, destructure, return_nothing, return_value, while, foreach, form_stmt, express, Stmts, no_stmts, last, more_stmts, Function}
+use Rattle.vale_rules_spec.specs.Typed.{Callee, built_in, constructor, function, Expr, expr, Node, set, chain, unary, steps, number, quote, truth, name, call, paren, array, iso, form, Exprs, no_exprs, more_exprs, link, Links, no_links, more_links, Step, field, method, index, Steps, no_steps, more_steps, Form, branch, pure, parallel_range, parallel_each, else_if, Elses, no_else, otherwise, more_elses, Block, block, Stmt, declare, destructure, return_nothing, return_value, while, foreach, form_stmt, express, Stmts, no_stmts, last, more_stmts, Function, type}
 use Rattle.vale_model.specs.Parts.{name_text, is_pure, function_named, method_of, field_place, kind_of, type_of_kind}
 use Rattle.vale_model.specs.Runs.{Run, ◌>>=◌, give, nothing, wrong, trap, step, change, tick, deep, valued, choose, read, move, exchange, while_waits}
-use Rattle.vale_model.specs.Destruction.{Again, drop, leave, with_local, with_locals}
+use Rattle.vale_model.specs.Destruction.{Again, drop, drop_owned, leave, with_local, with_locals}
 use Rattle.vale_model.specs.Loops.{number_in, turns, loop, numbered, taken_apart, loop_value}
 
 -- ---- operators
@@ -135,6 +135,11 @@ frozen_run at end body = do
   _ ← change (thaw (end v))
   give v
 
+-- a `pure` block that gives an owner leaves its objects to the enclosing region
+abbrev pub end_of_block : Bool → RegionEnd
+end_of_block true = merged
+end_of_block false = cleared
+
 -- ---- spots
 
 abbrev pub form_spot : Form → Spot
@@ -206,7 +211,7 @@ abbrev mutual
   -- the value, then the place
   node_run again x (set at p e) = do
     v ← valued (expr_run again e)
-    while_waits v (set_run again v p)
+    while_waits (is_owned (type e)) v (set_run again v p)
   node_run again x (call n f es) = do
     vs ← exprs_run again es
     callee_run again n f vs
@@ -223,7 +228,7 @@ abbrev mutual
   exprs_run again no_exprs = give []
   exprs_run again (more_exprs e es) = do
     v ← valued (expr_run again e)
-    vs ← while_waits v (exprs_run again es)
+    vs ← while_waits (is_owned (type e)) v (exprs_run again es)
     give (v ∷ vs)
 
   pub links_run : Again → Value → Links → Run (Option Value)
@@ -279,25 +284,25 @@ abbrev mutual
   form_run again x (branch at c b es) = do
     v ← valued (expr_run again c)
     choose v (block_run again b) (elses_run again es)
-  form_run again x (pure at b) = frozen_run at end_of_pure (block_run again b)
+  form_run again x (pure at b) = frozen_run at (λ v. end_of_block (is_owner x)) (block_run again b)
   form_run again x (parallel_range at n a e b) = do
     v ← valued (expr_run again a)
     w ← valued (expr_run again e)
     from ← number_in v
     to ← number_in w
     firsts ← numbered at from to
-    vs ← loop at firsts (λ first. iteration_body again n first b)
+    vs ← loop at firsts (λ first. iteration_body again n false first b)
     loop_value again.parts at x vs
   -- the array dies before the first iteration
   form_run again x (parallel_each at n e b) = do
     v ← valued (expr_run again e)
     firsts ← taken_apart v
-    vs ← loop at firsts (λ first. iteration_body again n first b)
+    vs ← loop at firsts (λ first. iteration_body again n true first b)
     loop_value again.parts at x vs
 
   -- an iteration's block, with its number or its isolate as a local
-  pub iteration_body : Again → NameAt → Value → Block → Run (Option Value)
-  iteration_body again n first (block at end x ss) = with_local again end n.name.0 first (stmts_run again end ss)
+  pub iteration_body : Again → NameAt → Bool → Value → Block → Run (Option Value)
+  iteration_body again n owned first (block at end x ss) = with_local again end n.name.0 owned first (stmts_run again end ss)
 
   pub elses_run : Again → Elses → Run (Option Value)
   elses_run again no_else = nothing
@@ -316,11 +321,11 @@ abbrev mutual
   stmts_run again end (last e) = expr_run again e
   stmts_run again end (more_stmts (declare n x e) ss) = do
     v ← valued (expr_run again e)
-    with_local again end n.name.0 v (stmts_run again end ss)
+    with_local again end n.name.0 (is_owned x) v (stmts_run again end ss)
   stmts_run again end (more_stmts (destructure at ns xs e) ss) = do
     v ← valued (expr_run again e)
     vs ← taken_apart v
-    with_locals again end (numbers_of ns) vs (stmts_run again end ss)
+    with_locals again end (numbers_of ns) xs vs (stmts_run again end ss)
   stmts_run again end (more_stmts x ss) = do
     _ ← stmt_run again x
     stmts_run again end ss
@@ -340,9 +345,9 @@ abbrev mutual
     w ← valued (expr_run again e)
     from ← number_in v
     to ← number_in w
-    turns (width_of from to) from (λ x. iteration_body again n (Int x) b)
+    turns (width_of from to) from (λ x. iteration_body again n false (Int x) b)
   stmt_run again (form_stmt f) = form_run again void f
   -- a value that isn't used is dropped
   stmt_run again (express e) = do
     v ← expr_run again e
-    drop again (expr_spot e) v
+    drop_owned again (expr_spot e) (is_owned (type e)) v

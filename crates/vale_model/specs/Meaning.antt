@@ -1,25 +1,33 @@
 -- What a program means: the outcome of its `main` (docs/LANGUAGE.md, "Running").
 use Rattle.std.specs.Prelude.{ℕ, zero, suc, List, [], ◌∷◌, Option, Some, None}
 use Rattle.vale_state_spec.specs.Outcome.{Done, Cut, Outcome}
-use Rattle.vale_state_spec.specs.State.{begin, main_frame, outcome, Given, given}
+use Rattle.vale_state_spec.specs.State.{begin, main_frame, outcome, lent, Given, given}
 use Rattle.vale_state_spec.specs.World.{Value}
 use Rattle.vale_base.specs.declared.trap.FrameAt.{FrameAt}
 use Rattle.vale_syntax.specs.Tree.{Param, param}
 use Rattle.vale_rules_spec.specs.Declarations.{head_params}
-use Rattle.vale_rules_spec.specs.Types.{Ty, void, type_of}
+use Rattle.vale_rules_spec.specs.Types.{Ty, void, imm, is_owned, type_of}
 use Rattle.vale_rules_spec.specs.Typed.{Expr, Block, block, Function, function_body, Typed}
-use Rattle.vale_model.specs.Parts.{Parts, parts_of, param_names, main_of}
+use Rattle.vale_model.specs.Parts.{Parts, parts_of, main_of}
 use Rattle.vale_model.specs.Kinds.{head_of}
-use Rattle.vale_model.specs.Runs.{Locals, Result, goes, returned, ended, Run, ◌>>=◌, nothing, wrong, tick, valued, choose, under}
+use Rattle.vale_model.specs.Runs.{Local, Locals, Result, goes, returned, ended, Run, ◌>>=◌, nothing, wrong, tick, valued, choose, under}
 use Rattle.vale_model.specs.Destruction.{Again, drop_values, leave}
 use Rattle.vale_model.specs.Expressions.{block_run, expr_run, called, made}
 
 -- ---- functions
 
+-- a parameter `&imm X` gets a reference to what its argument leads to
+abbrev pub given_to : Ty → Value → Value
+given_to (imm x) v = lent v
+given_to _ v = v
+
+abbrev pub parameter : Param → Value → Local
+parameter (param n x) v = record { name = Some n.name.0; value = Some (given_to (type_of x) v); owned = is_owned (type_of x) }
+
 -- the parameters with their values, the last innermost
-abbrev pub bound : List ℕ → List Value → Locals → Option Locals
+abbrev pub bound : List Param → List Value → Locals → Option Locals
 bound [] [] l = Some l
-bound (n ∷ ns) (v ∷ vs) l = bound ns vs (record { name = Some n; value = Some v } ∷ l)
+bound (p ∷ ps) (v ∷ vs) l = bound ps vs (parameter p v ∷ l)
 bound _ _ l = None
 
 -- a function that returned goes on where it was called
@@ -39,7 +47,7 @@ with_bound None m = wrong
 with_bound (Some k) m = λ calls l s. back_to l (m calls k s)
 
 abbrev pub function_run : Again → Function → List Value → FrameAt → Run (Option Value)
-function_run again (function_body h b) vs frame = with_bound (bound (param_names (head_params h)) vs []) (under frame (body_run again b))
+function_run again (function_body h b) vs frame = with_bound (bound (head_params h) vs []) (under frame (body_run again b))
 
 -- ---- what goes on after a tick
 

@@ -8,11 +8,12 @@ use Rattle.vale_base.specs.declared.trap.FrameAt.{FrameAt}
 use Rattle.vale_base.specs.declared.trap.TrapKind.{TrapKind}
 use Rattle.vale_base.specs.declared.trap.TrapKind.TheVariants.{CallDepth}
 
--- A local by its name and what it holds: nothing, once it has been moved. A value that waits for the rest of its expression is
--- a local without a name.
+-- A local by its name, what it holds (nothing, once it has been moved), and whether its type is that of an owner or an isolate. A
+-- value that waits for the rest of its expression is a local without a name.
 pub record Local : Type 0 where
   pub name : Option ℕ
   pub value : Option Value
+  pub owned : Bool
 
 -- the innermost first
 abbrev pub Locals : Type 0
@@ -132,5 +133,5 @@ innermost [] = None
 innermost (x ∷ l) = x.value
 
 -- a value waits while the part runs
-abbrev pub while_waits : {A : Type 0} → Value → Run A → Run A
-while_waits v m = λ calls l s. then_do (m calls (record { name = None; value = Some v } ∷ l) s) (λ r l s. goes r (outer l) s)
+abbrev pub while_waits : {A : Type 0} → Bool → Value → Run A → Run A
+while_waits owned v m = λ calls l s. then_do (m calls (record { name = None; value = Some v; owned = owned } ∷ l) s) (λ r l s. goes r (outer l) s)
