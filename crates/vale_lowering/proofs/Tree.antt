@@ -178,7 +178,7 @@ module _ (parts : Parts) (k : Where) (is : IsIn (program_code parts) k) (n : ℕ
   store_runs (expr x (name m is_outer moved)) drop_at owned dropped v p h s base l regs w fa ag few has =
       stores code k n p h s base l (with_held m.name.0 (Some v) l) regs w v (place_of m.name.0 s) (held_by m.name.0 l)
       (λ u. then_do (then_do (then_do (then_do (the_value u (calls_in k) (record { name = None; value = Some v; owned = owned } ∷ l) w) (λ u l w. goes u (with_held m.name.0 (Some v) l) w)) (λ u. give (Some u) (calls_in k))) (λ r l w. goes r (outer l) w)) (λ u. drop_owned again drop_at dropped u (calls_in k)))
-      fa ag few (meets m.name.0 h s l fa ag.1.names) (changes m.name.0 h v s l ag.0 fa ag.1.names) (λ u pu. drop_plain again drop_at (calls_in k) (Some u) (with_held m.name.0 (Some v) l) w pu) has
+      fa ag few (meets m.name.0 h s l fa ag.1.names) (changes m.name.0 h v s l ag.0 fa ag.1.names) (λ u pu. drop_owned_plain again drop_at (calls_in k) dropped (Some u) (with_held m.name.0 (Some v) l) w pu) has
   store_runs (expr x (chain e ls)) drop_at owned dropped v p h s base l regs w fa ag few has = is_stuck code k n p (p + 1) h (Keeps {A = Option Value} h s base) regs w (then_do (while_waits owned v (set_run again v (expr x (chain e ls))) (calls_in k) l w) (λ u. drop_owned again drop_at dropped u (calls_in k))) has
   store_runs (expr x (unary at op e)) drop_at owned dropped v p h s base l regs w fa ag few has = is_stuck code k n p (p + 1) h (Keeps {A = Option Value} h s base) regs w (then_do (while_waits owned v (set_run again v (expr x (unary at op e))) (calls_in k) l w) (λ u. drop_owned again drop_at dropped u (calls_in k))) has
   store_runs (expr x (steps e ss)) drop_at owned dropped v p h s base l regs w fa ag few has = is_stuck code k n p (p + 1) h (Keeps {A = Option Value} h s base) regs w (then_do (while_waits owned v (set_run again v (expr x (steps e ss))) (calls_in k) l w) (λ u. drop_owned again drop_at dropped u (calls_in k))) has

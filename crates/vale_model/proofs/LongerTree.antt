@@ -26,7 +26,7 @@ use Rattle.vale_model.specs.Loops.{in_region, iteration, collected, in_order, ea
 use Rattle.vale_model.specs.Expressions.{operated, link_run, unary_run, called_by, called, dispatched_to, dispatched_on, dispatched, built_in_run, made, callee_run, on_place, frozen_run, end_of_block, expr_spot, numbers_of, expr_run, node_run, exprs_run, links_run, step_run, steps_run, set_run, set_steps, set_step, form_run, iteration_body, elses_run, block_run, stmts_run, stmt_run}
 use Rattle.vale_text.proofs.StateLaws.{later_refl, dies_later, freeze_later, thaw_later, freeze_iteration_later, thaw_iteration_later, join_isolate_later, counting_as_later, print_goes, make_goes, load_goes, swap_goes, element_goes, swap_element_goes, len_goes, push_goes, pop_goes, merge_goes, ints_goes, slice_goes, byte_goes, text_of_goes, is_number_goes, number_goes, opposite_goes}
 use Rattle.vale_model.proofs.RunLaws.{then_goes, step_goes, change_goes, loop_goes, taken_apart_goes}
-use Rattle.vale_model.proofs.TreeLaws.{Follows, operated_goes, destroy_goes, drop_goes, leave_goes, with_local_goes, dispatched_goes}
+use Rattle.vale_model.proofs.TreeLaws.{Follows, operated_goes, destroy_goes, leave_goes, with_local_goes, dispatched_goes}
 use Rattle.vale_model.proofs.LongerLaws.{Beside, beside, Longer, AlwaysLonger, then_longer, few_left, bind_longer, give_longer, nothing_longer, wrong_longer, trap_longer, step_longer, change_longer, tick_longer, deep_longer, under_longer, fewer_longer, valued_longer, choose_longer, read_longer, move_longer, exchange_longer, while_waits_longer, number_in_longer, turns_longer, freeze_iteration_changes, thaw_iteration_changes}
 use Rattle.vale_model.proofs.LongerSteps.{dies_changes, freeze_changes, thaw_changes, join_isolate_changes, print_longer, make_longer, load_longer, swap_longer, element_longer, swap_element_longer, len_longer, push_longer, pop_longer, merge_longer, ints_longer, slice_longer, byte_longer, text_of_longer, is_number_longer, number_longer, opposite_longer, operated_longer}
 

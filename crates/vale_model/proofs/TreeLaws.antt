@@ -76,7 +76,7 @@ module _ (again : Again) (n : ℕ) (follows : Follows again n) where
   pub destroy_goes : (at : Spot) (m : ℕ) → AlwaysGoesOn (suc n) (destroy again at m)
   destroy_goes at m = record { from = λ calls l s lt. (destroyed_goes at m (object_of m s)).from calls l s lt }
 
-  pub drop_goes : (at : Spot) (v : Option Value) → AlwaysGoesOn (suc n) (drop again at v)
+  drop_goes : (at : Spot) (v : Option Value) → AlwaysGoesOn (suc n) (drop again at v)
   drop_goes at None = nothing_goes (suc n)
   drop_goes at (Some (Own m)) = destroy_goes at m
   drop_goes at (Some (Iso m)) = bind_goes (suc n) (change (join_isolate m)) _ (change_goes (suc n) (join_isolate m) (join_isolate_later m)) (λ _. destroy_goes at m)
