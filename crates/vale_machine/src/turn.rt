@@ -8,6 +8,7 @@ ghost use Rattle.vale_code.specs.Instructions.{fetch};
 ghost use Rattle.vale_code.specs.Run.{step};
 ghost use Rattle.vale_machine.specs.Lawful.{IsFit, IsRunnable, may_want, may_want_at};
 ghost use Rattle.vale_machine.specs.UnderWay.{Ends, IsRunning, IsStillUnderWay, IsUnderWay, Turned, WantsForTrap};
+ghost use Rattle.vale_machine.specs.Kept.{HasFirst, KeepsPieces};
 ghost use Rattle.vale_machine.specs.View.{HasMemory, IfGoing, IsLaid, IsOver, KeepsTicks, Stepped, active, below, config_of, state_of};
 
 use crate::cell::Cell;
@@ -47,6 +48,7 @@ impl Machine {
         ensures memory { may_want instr.now ≡ false → HasMemory result }
         ensures laid { IfGoing result (IsLaid code.now self.new) }
         ensures ticks { KeepsTicks self.old self.new }
+        ensures kept { KeepsPieces result self.old self.new }
     {
         match instr {
             Instr::Int { to, number } => self.set(*to, Cell::Int(*number)),
@@ -133,6 +135,7 @@ impl Machine {
         ensures memory { may_want_at (fetch code.now self.old.top.function self.old.top.place) ≡ false → HasMemory result }
         ensures laid { IfGoing result (IsLaid code.now self.new) }
         ensures ticks { KeepsTicks self.old self.new }
+        ensures kept { KeepsPieces result self.old self.new }
     {
         match fetched(code, self.top.function, self.top.place) {
             Some(instr) => self.obey(code, instr),
@@ -160,7 +163,7 @@ impl Machine {
     #[inline(never)]
     pub(crate) fn end_of(&self, code: &Code, step: Step) -> End
         requires { IsOver step }
-        ensures step { (taken : List Piece) (next : Next) → Stepped code.now taken step next self.now → Ends result next (state_of taken self.now) }
+        ensures step { (taken : List Piece) (next : Next) → Stepped code.now taken step next self.now → HasFirst step next (state_of taken self.now) → Ends result next (state_of taken self.now) }
         // It wants memory of its own only to tell a trap.
         ensures memory { (taken : List Piece) (next : Next) → HasMemory step → Stepped code.now taken step next self.now → WantsForTrap (Turn.Ended result) next }
     {
