@@ -3,15 +3,15 @@ use Rattle.std.proofs.Common.{◌≡◌, ℕ, zero, suc, ◌+◌, ◌*◌, ◌%�
 use Rattle.std.specs.Int.{bit_at, bit_not}
 use Rattle.std.proofs.lemmas.Bool.{cases_eq}
 use Rattle.std.proofs.lemmas.List.{get_or-set_same, get_or-set_other, length-set, set-get_or}
-use Rattle.vale_page.specs.Cell.{Cell, Empty, Filled, Link, AreGiven}
+use Rattle.vale_memory.specs.Cell.{Cell, Empty, Filled, Link, AreGiven}
 use Rattle.vale_page.specs.BlockState.{generation_in, body_in, body_bit, spent, IsChain, IsSlots, IsClaimed, IsFilling, IsTaken, IsFreed, IsReset, IsLaid, IsSound}
 use Rattle.vale_page.specs.declared.block.Block.{Block}
-use Rattle.vale_page.specs.declared.column.Column.{Column}
-use Rattle.vale_page.specs.declared.column.Slot.{Slot}
+use Rattle.vale_memory.specs.declared.column.Column.{Column}
+use Rattle.vale_memory.specs.declared.column.Slot.{Slot}
 use Rattle.vale_page.proofs.ChainLemmas.{chain_pop, chain_push, chain_set, empty_set}
-use Rattle.vale_page.specs.ColumnLends.{with_cells}
+use Rattle.vale_memory.specs.ColumnLends.{with_cells}
 use Rattle.std.proofs.lemmas.Nat.Bits.{bit_at_clear_same, bit_at_clear_other, bit_at_set_same, bit_at_set_other}
-use Rattle.vale_page.proofs.Memory.{link_within}
+use Rattle.vale_memory.proofs.ColumnLemmas.{link_within}
 
 -- a column that is another only in what its cells hold
 pub record IsRow {X S : Type 0} (old new : Column X S) (cs : List (Cell X)) : Type 0 where
@@ -57,7 +57,7 @@ module _ {B : Type 0} (b : Block B) (ok : IsSound b) where
       let below : h < b.used = held_served b s h (λ e. empty_not_link _ e n at) in
       let served = s.served h below in (
         record {
-          laid = record { generations_at = ok.laid.generations_at; bodies_at = row.at ∙ ok.laid.bodies_at; allocation_at = ok.laid.allocation_at; allocation_bodies = ok.laid.allocation_bodies; allocation_len = ok.laid.allocation_len; allocation_alloc = ok.laid.allocation_alloc };
+          laid = record { generations_at = ok.laid.generations_at; bodies_at = row.at ∙ ok.laid.bodies_at; seam_numbers = ok.laid.seam_numbers; seam_values = ok.laid.seam_values; seam_len = ok.laid.seam_len; stretch = ok.laid.stretch };
           slots = record {
             numbers = s.numbers;
             values = ap length row.cells ∙ length-set cs h Empty ∙ s.values;
@@ -89,7 +89,7 @@ module _ {B : Type 0} (b : Block B) (ok : IsSound b) where
       let within : u < length gs = omega (arith, s.numbers) in
       let bare = s.fresh u (omega arith) in (
         record {
-          laid = record { generations_at = row.at ∙ ok.laid.generations_at; bodies_at = ok.laid.bodies_at; allocation_at = ok.laid.allocation_at; allocation_bodies = ok.laid.allocation_bodies; allocation_len = ok.laid.allocation_len; allocation_alloc = ok.laid.allocation_alloc };
+          laid = record { generations_at = row.at ∙ ok.laid.generations_at; bodies_at = ok.laid.bodies_at; seam_numbers = ok.laid.seam_numbers; seam_values = ok.laid.seam_values; seam_len = ok.laid.seam_len; stretch = ok.laid.stretch };
           slots = record {
             numbers = ap length row.cells ∙ length-set gs u (Filled b.first) ∙ s.numbers;
             values = s.values;
@@ -116,7 +116,7 @@ module _ {B : Type 0} (b : Block B) (ok : IsSound b) where
 
   -- another column of bodies at the same place
   relaid : (new : Column B (Slot B)) (cs : List (Cell B)) → IsRow b.bodies new cs → IsLaid (record b { bodies = new })
-  relaid new cs row = record { generations_at = ok.laid.generations_at; bodies_at = row.at ∙ ok.laid.bodies_at; allocation_at = ok.laid.allocation_at; allocation_bodies = ok.laid.allocation_bodies; allocation_len = ok.laid.allocation_len; allocation_alloc = ok.laid.allocation_alloc }
+  relaid new cs row = record { generations_at = ok.laid.generations_at; bodies_at = row.at ∙ ok.laid.bodies_at; seam_numbers = ok.laid.seam_numbers; seam_values = ok.laid.seam_values; seam_len = ok.laid.seam_len; stretch = ok.laid.stretch }
 
   pub filled : (old : Block B) (slot : ℕ) (body : B) (new : Column B (Slot B)) → length old.bodies.cells ≡ 64 → IsClaimed old b slot → IsRow b.bodies new (set b.bodies.cells slot (Filled body))
       → IsSound (record b { bodies = new; occupied = bit_or b.occupied (slot_bit slot) }) × IsFilling old (record b { bodies = new; occupied = bit_or b.occupied (slot_bit slot) }) slot body
@@ -125,7 +125,7 @@ module _ {B : Type 0} (b : Block B) (ok : IsSound b) where
       let within : slot < length cs = omega (arith, s.values, claimed.within) in
       let bare : get_or cs slot Empty ≡ Empty = ap (λ l. get_or l slot Empty) claimed.cells ∙ get_or-set_same old.bodies.cells slot Empty Empty (omega (arith, many, claimed.within)) in (
         record {
-          laid = record { generations_at = laid.generations_at; bodies_at = laid.bodies_at; allocation_at = laid.allocation_at; allocation_bodies = laid.allocation_bodies; allocation_len = laid.allocation_len; allocation_alloc = laid.allocation_alloc };
+          laid = record { generations_at = laid.generations_at; bodies_at = laid.bodies_at; seam_numbers = laid.seam_numbers; seam_values = laid.seam_values; seam_len = laid.seam_len; stretch = laid.stretch };
           slots = record {
             numbers = s.numbers;
             values = ap length row.cells ∙ length-set cs slot (Filled body) ∙ s.values;
@@ -156,7 +156,7 @@ module _ {B : Type 0} (b : Block B) (ok : IsSound b) where
       let s = ok.slots in let cs = b.bodies.cells in let laid = relaid new _ row in
       let within : slot < length cs = omega (arith, s.values, small) in (
         record {
-          laid = record { generations_at = laid.generations_at; bodies_at = laid.bodies_at; allocation_at = laid.allocation_at; allocation_bodies = laid.allocation_bodies; allocation_len = laid.allocation_len; allocation_alloc = laid.allocation_alloc };
+          laid = record { generations_at = laid.generations_at; bodies_at = laid.bodies_at; seam_numbers = laid.seam_numbers; seam_values = laid.seam_values; seam_len = laid.seam_len; stretch = laid.stretch };
           slots = record {
             numbers = s.numbers;
             values = ap length row.cells ∙ length-set cs slot Empty ∙ s.values;
@@ -182,7 +182,7 @@ module _ {B : Type 0} (b : Block B) (ok : IsSound b) where
       let within : slot < length cs = omega (arith, s.values, s.used) in
       let numbered : slot < length gs = omega (arith, s.numbers, s.used) in (
         record {
-          laid = record { generations_at = laid.generations_at; bodies_at = laid.bodies_at; allocation_at = laid.allocation_at; allocation_bodies = laid.allocation_bodies; allocation_len = laid.allocation_len; allocation_alloc = laid.allocation_alloc };
+          laid = record { generations_at = laid.generations_at; bodies_at = laid.bodies_at; seam_numbers = laid.seam_numbers; seam_values = laid.seam_values; seam_len = laid.seam_len; stretch = laid.stretch };
           slots = record {
             numbers = length-set gs slot (Filled generation) ∙ s.numbers;
             values = ap length row.cells ∙ length-set cs slot (Link b.head) ∙ s.values;
@@ -212,7 +212,7 @@ module _ {B : Type 0} (b : Block B) (ok : IsSound b) where
       let served : slot < b.used = held_served b s slot (λ e. absurd (let clash : ◌≡◌ {A = Cell B} (Filled x) Empty = sym at ∙ e in cc)) in
       let within : slot < length cs = omega (arith, s.values, s.used) in
       record {
-        laid = record { generations_at = ok.laid.generations_at; bodies_at = ok.laid.bodies_at; allocation_at = ok.laid.allocation_at; allocation_bodies = ok.laid.allocation_bodies; allocation_len = ok.laid.allocation_len; allocation_alloc = ok.laid.allocation_alloc };
+        laid = record { generations_at = ok.laid.generations_at; bodies_at = ok.laid.bodies_at; seam_numbers = ok.laid.seam_numbers; seam_values = ok.laid.seam_values; seam_len = ok.laid.seam_len; stretch = ok.laid.stretch };
         slots = record {
           numbers = s.numbers;
           values = length-set cs slot (Filled w) ∙ s.values;
@@ -233,7 +233,7 @@ module _ {B : Type 0} (b : Block B) (ok : IsSound b) where
   renumbered generation new at given =
       let s = ok.slots in (
         record {
-          laid = record { generations_at = at ∙ ok.laid.generations_at; bodies_at = ok.laid.bodies_at; allocation_at = ok.laid.allocation_at; allocation_bodies = ok.laid.allocation_bodies; allocation_len = ok.laid.allocation_len; allocation_alloc = ok.laid.allocation_alloc };
+          laid = record { generations_at = at ∙ ok.laid.generations_at; bodies_at = ok.laid.bodies_at; seam_numbers = ok.laid.seam_numbers; seam_values = ok.laid.seam_values; seam_len = ok.laid.seam_len; stretch = ok.laid.stretch };
           slots = record {
             numbers = given.many ∙ s.numbers;
             values = s.values;

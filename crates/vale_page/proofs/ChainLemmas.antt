@@ -2,12 +2,12 @@
 use Rattle.std.proofs.Common.{◌≡◌, ℕ, zero, suc, ◌<◌, List, [], ◌∷◌, length, get_or, set, replicate, refl, sym, ap, subst, ◌∙◌, inl, inr, arith}
 use Rattle.std.proofs.lemmas.Bool.{cases_eq}
 use Rattle.std.proofs.lemmas.List.{get_or-set_same, get_or-set_other, length-replicate}
-use Rattle.vale_page.specs.Cell.{Cell, Empty, Filled, Link}
+use Rattle.vale_memory.specs.Cell.{Cell, Empty, Filled, Link}
 use Rattle.vale_page.specs.BlockState.{body_bit, IsIn, IsDistinct, Leads, IsChain, IsSlots}
 use Rattle.vale_page.specs.declared.block.Block.{Block}
 use Rattle.std.specs.Int.{bit_at}
 use Rattle.std.proofs.lemmas.Nat.Bits.{bit_at-zero}
-use Rattle.vale_page.proofs.Memory.{link_within}
+use Rattle.vale_memory.proofs.ColumnLemmas.{link_within}
 
 pub empty_at : {X : Type 0} (n k : ℕ) → ◌≡◌ {A = Cell X} (get_or (replicate n Empty) k Empty) Empty
 empty_at zero k = refl

@@ -3,7 +3,7 @@ use Rattle.std.proofs.Common.{◌≡◌, ◌≢◌, ℕ, zero, suc, ◌+◌, ◌
 use Rattle.std.proofs.lemmas.List.{set-get_or, map-set, length-map, ext_get_or}
 use Rattle.std.proofs.lemmas.List.Sums.{sum_by-set}
 use Rattle.std.proofs.Math.Seq.{map-set_same}
-use Rattle.vale_page.specs.Cell.{Cell, Empty, Filled, Link, IsFilled}
+use Rattle.vale_memory.specs.Cell.{Cell, Empty, Filled, Link, IsFilled}
 use Rattle.std.specs.Prelude.{IsSome, IfSome, slice_get, ◌++◌}
 use Rattle.std.proofs.Common.{length-append, take, max}
 use Rattle.vale_page.specs.BlockState.{generation_in, body_in, spent, spents, IsIn, Leads, IsSlots, IsFilling, IsTaken, IsFreed, IsReset, IsSound}
@@ -11,11 +11,11 @@ use Rattle.vale_page.specs.PageState.{PageState, IsPage, IsFree, IsBlankAt, IsBl
 use Rattle.vale_page.specs.PageSound.{page_of, IsKept}
 use Rattle.vale_page.specs.declared.block.Block.{Block}
 use Rattle.vale_page.proofs.BlockLemmas.{set_again, held_served, lent}
-use Rattle.vale_page.specs.ColumnLends.{with_cells}
-use Rattle.vale_page.specs.declared.column.Column.{Column}
-use Rattle.vale_page.specs.declared.column.Slot.{Slot}
+use Rattle.vale_memory.specs.ColumnLends.{with_cells}
+use Rattle.vale_memory.specs.declared.column.Column.{Column}
+use Rattle.vale_memory.specs.declared.column.Slot.{Slot}
 use Rattle.vale_page.proofs.ChainLemmas.{empty_at}
-use Rattle.vale_page.proofs.Memory.{link_within}
+use Rattle.vale_memory.proofs.ColumnLemmas.{link_within}
 use Rattle.vale_page.proofs.CountLemmas.{no_true, some_free, all_none, all_false}
 use Rattle.vale_page.proofs.PageLaws.{generation-le-base, level_serves, by_death, not_retired, page_with_body, page_raised, page_retired}
 

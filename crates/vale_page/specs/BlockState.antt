@@ -1,7 +1,9 @@
 -- What a block of slots says of its generations, its bodies and its free slots.
 use Rattle.std.specs.Prelude.{◌≡◌, ℕ, ◌<◌, ◌≤◌, List, [], ◌∷◌, length, get_or, slice_set, ◌⊎◌, Option, Some, None, Bool, true, false}
 use Rattle.std.specs.Int.{bit_at}
-use Rattle.vale_page.specs.Cell.{Cell, Empty, Filled, Link, IsFilled, AreGiven}
+use Rattle.vale_memory.specs.Cell.{Cell, Empty, Filled, Link, IsFilled, AreGiven}
+use Rattle.std.specs.Arc.{arc_value}
+use Rattle.vale_page.specs.StretchState.{HasStretch}
 use Rattle.vale_page.specs.declared.block.Block.{Block}
 
 -- a slot's generation; one that never served has the first
@@ -106,14 +108,14 @@ module _ {B : Type 0} where
     pub bodies : new.bodies ≡ old.bodies
     pub numbers : AreGiven old.generations.cells new.generations.cells old.used generation
 
-  -- how the block lies in memory
+  -- how the slots lie in the store's block
   pub record IsLaid (b : Block B) : Type 0 where
     pub generations_at : b.generations.at ≡ b.generations_at.ptr
     pub bodies_at : b.bodies.at ≡ b.bodies_at.ptr
-    pub allocation_at : b.allocation.at ≡ b.generations_at.ptr
-    pub allocation_bodies : b.allocation.values ≡ b.bodies_at.ptr
-    pub allocation_len : b.allocation.len ≡ 64
-    pub allocation_alloc : b.allocation.alloc ≡ b.alloc
+    pub seam_numbers : b.seams.numbers ≡ b.generations_at.ptr
+    pub seam_values : b.seams.values ≡ b.bodies_at.ptr
+    pub seam_len : b.seams.len ≡ 64
+    pub stretch : HasStretch (arc_value b.store).returned.items b.index b.seams.block b.seams.from b.seams.len
 
   pub record IsSound (b : Block B) : Type 0 where
     pub laid : IsLaid b

@@ -1,15 +1,15 @@
 //! A block of 64 slots. Where a slot has no body, the first byte of its body's cell says which slot is free next.
-ghost use Rattle.std.specs.Prelude.{◌≡◌, ◌+◌, ◌<◌, ◌≤◌, ◌⊎◌, ◌^◌, get_or, slice_set, replicate, is_some, IfOk, true};
-ghost use Rattle.std.specs.Mem.{type_size};
-ghost use Rattle.vale_page.specs.Cell.{Empty, Filled, Link, IsFilled, IsLink, IsBare};
+ghost use Rattle.std.specs.Prelude.{◌≡◌, ◌+◌, ◌<◌, ◌≤◌, ◌⊎◌, get_or, slice_set, replicate, is_some, length, true};
+ghost use Rattle.std.specs.Arc.{arc_value};
+ghost use Rattle.vale_memory.specs.Cell.{Empty, Filled, Link, IsFilled, IsLink, IsBare};
+ghost use Rattle.vale_page.specs.StoreState.{IsNext};
 ghost use Rattle.vale_page.specs.BlockState.{IsSound, IsClaimed, IsFilling, IsTaken, IsFreed, IsReset, generation_in, body_in};
 
-use crate::column::{Allocation, Column, Origin, Slot, allocate, deallocate, slot_bytes};
-use std::alloc::{AllocError, Global};
+use crate::store::Store;
+use std::alloc::Global;
+use std::sync::Arc;
 use vale_base::SLOTS;
-
-// The most bytes that a block can have.
-const LARGEST: usize = 0x7fff_ffff_ffff_ffff;
+use vale_memory::{Column, Origin, Reserve, Seams, Slot, carve, gather};
 
 // The end of the chain of free slots.
 const END: u8 = 64;
@@ -21,8 +21,9 @@ pub(crate) struct Block<B> {
     pub(crate) bodies_at: Origin<B>,
     pub(crate) generations: Column<u64, Slot<B>>,
     pub(crate) bodies: Column<B, Slot<B>>,
-    allocation: Allocation<B, Global>,
-    alloc: Global,
+    seams: Seams<B>,
+    store: Arc<Store<B>, Global>,
+    index: u32,
     first: u64,
     occupied: u64,
     used: u8,
@@ -30,53 +31,59 @@ pub(crate) struct Block<B> {
 }
 
 impl<B> Block<B> {
-    /// A block of which no slot served.
-    pub(crate) fn open(alloc: Global, first: u64) -> Result<Block<B>, AllocError>
-        requires { 0 < type_size B.row }
-        ensures { IfOk result (λ b. IsSound b × (b.first ≡ first) × (b.generations.cells ≡ replicate 64 Empty) × (b.bodies.cells ≡ replicate 64 Empty)) }
+    /// The slots of the next page, of which none served, and what is left of the reserve.
+    pub(crate) fn open(
+        store: Arc<Store<B>, Global>,
+        reserve: Reserve<B>,
+        index: u32,
+        first: u64,
+    ) -> (Block<B>, Reserve<B>)
+        requires { IsNext (arc_value store) reserve index × (index < length (arc_value store).returned.items) }
+        ensures next { IsNext (arc_value store) result.1 (index + 1) }
+        ensures sound { IsSound result.0 × (result.0.first ≡ first) }
+        ensures bare { (result.0.generations.cells ≡ replicate 64 Empty) × (result.0.bodies.cells ≡ replicate 64 Empty) }
     {
-        if slot_bytes::<B>() > LARGEST / SLOTS {
-            return Err(AllocError);
-        }
-        let (generations_at, generations, bodies_at, bodies, allocation) = allocate(&alloc, SLOTS)?;
-        Ok(Block {
+        let from = index as usize * SLOTS;
+        let (generations_at, generations, bodies_at, bodies, seams, rest) = carve(
+            store.block,
+            reserve,
+            from,
+            SLOTS,
+        );
+        let block = Block {
             generations_at,
             bodies_at,
             generations,
             bodies,
-            allocation,
-            alloc,
+            seams,
+            store,
+            index,
             first,
             occupied: 0,
             used: 0,
             head: END,
-        })
+        };
+        (block, rest)
     }
 
-    /// Gives back a block that has no body.
+    /// Returns the slots, which have no body.
     pub(crate) fn close(self)
         requires { IsSound self × IsBare self.bodies.cells }
     {
         let Block {
-            generations_at,
+            generations_at: _,
             bodies_at: _,
             generations,
             bodies,
-            allocation,
-            alloc,
+            seams,
+            store,
+            index,
             first: _,
             occupied: _,
             used: _,
             head: _,
         } = self;
-        deallocate(
-            &alloc,
-            generations_at,
-            SLOTS,
-            generations,
-            bodies,
-            allocation,
-        );
+        store.take_back(index as usize, gather(generations, bodies, seams));
     }
 
     pub(crate) fn generation(&self, slot: u8) -> u64

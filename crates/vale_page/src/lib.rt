@@ -4,7 +4,7 @@
 #![tactic(auto)]
 
 mod block;
-mod column;
 mod page;
+mod store;
 
 pub use page::Page;

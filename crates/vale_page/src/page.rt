@@ -6,8 +6,10 @@ ghost use Rattle.std.specs.Mem.{type_size};
 ghost use Rattle.vale_page.specs.PageState.{body_at, body_of, generation_at, live_count, retired_count, free_count, base_of, IsBlank, IsFree, with_body, after_death, IsLater, IsBlankAt, IsBatch};
 
 use crate::block::Block;
+use crate::store::Store;
 use std::alloc::Global;
 use std::marker::Model;
+use std::sync::Arc;
 use vale_base::Memory;
 
 // The last generation that a slot can have.
@@ -177,24 +179,24 @@ impl<B: Drop> Page<B> {
         ensures { IfOk result (λ pages. IsBatch pages.items frames first) }
     {
         let mut pages = Vec::with_capacity(alloc, frames as usize)?;
+        if frames == 0 {
+            return Ok(pages);
+        }
+        let (store, mut reserve) = Store::open(alloc, frames)?;
+        let Ok(store) = Arc::new(alloc, store) else {
+            return Err(Memory);
+        };
         for frame in 0..frames {
-            pages.push(Page::blank(alloc, frame, first)?)?;
+            let (block, rest) = Block::open(Arc::try_clone(&store)?, reserve, frame, first);
+            reserve = rest;
+            pages.push(Page {
+                frame,
+                block,
+                live_slots: 0,
+                retired_slots: 0,
+            })?;
         }
         Ok(pages)
-    }
-
-    // An empty page of the frame, with each generation at `base`.
-    fn blank(alloc: Global, frame: u32, base: u64) -> Result<Page<B>, Memory>
-        requires { 0 < type_size B.row }
-        ensures { IfOk result (λ page. IsBlankAt page frame base) }
-    {
-        let block = Block::open(alloc, base)?;
-        Ok(Page {
-            frame,
-            block,
-            live_slots: 0,
-            retired_slots: 0,
-        })
     }
 }
 

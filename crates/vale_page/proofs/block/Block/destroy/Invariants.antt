@@ -1,5 +1,5 @@
 use Rattle.std.proofs.Common.{◌≡◌, ◌<◌, ℕ, get_or}
-use Rattle.vale_page.specs.Cell.{Empty, Filled}
+use Rattle.vale_memory.specs.Cell.{Empty, Filled}
 use Rattle.vale_page.specs.BlockState.{IsSound}
 use Rattle.vale_page.proofs.block.Block.destroy.Given as goal
 

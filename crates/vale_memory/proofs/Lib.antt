@@ -1,0 +1,4 @@
+pub mod Blocks
+pub mod ColumnLemmas
+pub mod Crosses
+pub mod Sharing

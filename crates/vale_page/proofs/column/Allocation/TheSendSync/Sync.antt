@@ -1,8 +1,0 @@
-use denote.RattleType.{RattleType}
-use denote.Param.Send.{IsSync}
-use Rattle.std.specs.declared.alloc.Allocator.{Ghosts}
-use Rattle.vale_page.proofs.Crosses.{Allocation-sync}
-use Rattle.vale_page.specs.contracts.column.Allocation.{the_row}
-
-pub sync : (R A : RattleType) (g : Ghosts A.Denot) → IsSync (the_row R A g)
-sync = Allocation-sync
