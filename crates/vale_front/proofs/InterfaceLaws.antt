@@ -7,6 +7,7 @@ use Rattle.vale_syntax.specs.declared.tree.Expr.{Expr}
 use Rattle.vale_syntax.specs.declared.tree.Block.{Block, out-Block}
 use Rattle.vale_syntax.specs.declared.tree.ElseIf.{ElseIf, out-ElseIf}
 use Rattle.vale_syntax.specs.declared.tree.Link.{Link, out-Link}
+use Rattle.vale_syntax.specs.declared.tree.Form.{Form}
 use Rattle.vale_syntax.specs.declared.tree.Form.TheVariants as f
 use Rattle.vale_syntax.specs.Tree as t
 use Rattle.vale_syntax.specs.View.{listed, view_expr, view_form, view_stmt, view_block, view_else_if, view_link, elses_of, else_end, stmts_of, last_end}
@@ -51,6 +52,17 @@ elses_by_parts (e ∷ es) end = ap (λ b. in_else_if e || b) (elses_by_parts es 
 
 pub if_by_parts : (at : Spot) (c : Expr) (b : Block) (es : List ElseIf) (o : Option Block) → in_form (view_form (f.If at c b es o)) ≡ (in_expr (view_expr c) || (in_block (view_block b) || (in_elses (elses_of (map view_else_if es) None) || in_elses (else_end (option_map view_block o)))))
 if_by_parts at c b es o = ap in_form (v.of_if at c b es o) ∙ ap (λ x. in_expr (view_expr c) || (in_block (view_block b) || x)) (elses_by_parts (map view_else_if es) (else_end (option_map view_block o)))
+
+pub by_if : (z : Form) (at : Spot) (c : Expr) (b : Block) (es : List ElseIf) (o : Option Block) (first body each other : Bool) → z ≡ f.If at c b es o
+    → first ≡ in_expr (view_expr c) → body ≡ in_block (view_block b) → each ≡ in_elses (elses_of (map view_else_if es) None)
+    → other ≡ in_elses (else_end (option_map view_block o)) → (first || (body || (each || other))) ≡ in_form (view_form z)
+by_if z at c b es o first body each other is e1 e2 e3 e4 =
+    ap (λ x. x || (body || (each || other))) e1
+    ∙ ap (λ x. in_expr (view_expr c) || (x || (each || other))) e2
+    ∙ ap (λ x. in_expr (view_expr c) || (in_block (view_block b) || (x || other))) e3
+    ∙ ap (λ x. in_expr (view_expr c) || (in_block (view_block b) || (in_elses (elses_of (map view_else_if es) None) || x))) e4
+    ∙ sym (if_by_parts at c b es o)
+    ∙ ap (λ x. in_form (view_form x)) (sym is)
 
 -- ---- what the phases judge
 

@@ -1,11 +1,12 @@
 -- Whether a part is served, by its own parts.
-use Rattle.std.proofs.Common.{◌≡◌, List, [], ◌∷◌, refl, ap, ◌∙◌}
+use Rattle.std.proofs.Common.{◌≡◌, List, [], ◌∷◌, refl, ap, ◌∙◌, sym}
 use Rattle.std.specs.Prelude.{Bool, true, false, ◌&&◌, Option, None, map, option_map}
 use Rattle.vale_base.specs.declared.spot.Spot.{Spot}
 use Rattle.vale_core.specs.declared.tree.Expr.{Expr, out-Expr}
 use Rattle.vale_core.specs.declared.tree.Block.{Block, out-Block}
 use Rattle.vale_core.specs.declared.tree.ElseIf.{ElseIf, out-ElseIf}
 use Rattle.vale_core.specs.declared.tree.Link.{Link, out-Link}
+use Rattle.vale_core.specs.declared.tree.Form.{Form}
 use Rattle.vale_core.specs.declared.tree.Form.TheVariants as f
 use Rattle.vale_rules_spec.specs.Typed as t
 use Rattle.vale_served_spec.specs.Served as s
@@ -45,6 +46,17 @@ pub if_by_parts : (at : Spot) (c : Expr) (b : Block) (es : List ElseIf) (o : Opt
 if_by_parts at c b es o =
     ap s.form_is_served (v.of_if at c b es o)
     ∙ ap (λ x. (s.expr_is_served (view_expr c) && s.block_is_served (view_block b)) && x) (elses_by_parts (map view_else_if es) (else_end (option_map view_block o)))
+
+pub by_if : (z : Form) (at : Spot) (c : Expr) (b : Block) (es : List ElseIf) (o : Option Block) (first body each other : Bool) → z ≡ f.If at c b es o
+    → first ≡ s.expr_is_served (view_expr c) → body ≡ s.block_is_served (view_block b) → each ≡ s.elses_are_served (elses_of (map view_else_if es) None)
+    → other ≡ s.elses_are_served (else_end (option_map view_block o)) → ((first && body) && (each && other)) ≡ s.form_is_served (view_form z)
+by_if z at c b es o first body each other is e1 e2 e3 e4 =
+    ap (λ x. (x && body) && (each && other)) e1
+    ∙ ap (λ x. (s.expr_is_served (view_expr c) && x) && (each && other)) e2
+    ∙ ap (λ x. (s.expr_is_served (view_expr c) && s.block_is_served (view_block b)) && (x && other)) e3
+    ∙ ap (λ x. (s.expr_is_served (view_expr c) && s.block_is_served (view_block b)) && (s.elses_are_served (elses_of (map view_else_if es) None) && x)) e4
+    ∙ sym (if_by_parts at c b es o)
+    ∙ ap (λ x. s.form_is_served (view_form x)) (sym is)
 
 pub ruleset exprs = (expr_by_parts, local_by_parts)
 

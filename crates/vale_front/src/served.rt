@@ -126,11 +126,11 @@ fn form_is_served(form: &Form) -> bool
 {
     match form {
         Form::If(_, condition, block, else_ifs, otherwise) => {
-            let first = both(expr_is_served(condition), block_is_served(block));
             let others = both(
                 else_ifs_are_served(else_ifs.as_slice()),
                 else_is_served(otherwise),
             );
+            let first = both(expr_is_served(condition), block_is_served(block));
             both(first, others)
         }
         Form::Pure(..) | Form::ParallelRange(..) | Form::ParallelEach(..) => false,

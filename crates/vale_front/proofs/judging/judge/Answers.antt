@@ -35,7 +35,7 @@ returns-in-Err-Is-own-clause-refused c =
     let judged = sym c.has_interfaces.ensures ∙ c.if-has_interfaces.false in
     let why = rw c.in-Err-Is-own.field-0-is at c.in-Err-Is-own.ensures.fault in
     ill_owned judged c.in-Ok.decls (view_core c.in-Ok-type_all.core) c.in-Ok.ensures.declared c.in-Ok-type_all.ensures.typed c.in-Err-Is-own.fault why
-    (rw c.in-Err-Is-own.field-0-is at c.of-in-Err-Is-own.ensures.code) (rw c.in-Err-Is-own.field-0-is at c.of-in-Err-Is-own.ensures.at)
+    c.of-in-Err-Is-own.ensures.code c.of-in-Err-Is-own.ensures.at
 
 pub returns-then-not-is_served-clause-refused : goal.returns-then-not-is_served-clause-refused
 returns-then-not-is_served-clause-refused c =
