@@ -16,15 +16,12 @@ use Rattle.vale_lowering.specs.Lowered.{callee_code, set_code, store_code}
 use Rattle.vale_lowering.specs.Scopes.{Scope, Around, place_of}
 use Rattle.vale_lower_facts.specs.Slots.{Stand}
 use Rattle.vale_lower_facts.specs.Marks.{Marks, mark, marked}
-use Rattle.vale_label_steps.specs.Shapes.{is_found, is_set, sets_local}
+use Rattle.vale_label_steps.specs.Shapes.{is_found, sets_local}
 use Rattle.vale_core.proofs.PartLaws.{of_out_expr, of_out_block}
 use Rattle.vale_label_steps.proofs.ProgressLaws.{in_turn, no_marks}
 
 pub place_by_parts : (e : Expr) (s : Scope) → sets_local (view_expr e) s ≡ sets_local (t.expr (view_seen (out-Expr e).seen) (view_node (out-Expr e).node)) s
 place_by_parts e s = ap (λ z. sets_local z s) (of_out_expr e)
-
-pub set_by_parts : (e : Expr) → is_set (view_expr e) ≡ is_set (t.expr (view_seen (out-Expr e).seen) (view_node (out-Expr e).node))
-set_by_parts e = ap is_set (of_out_expr e)
 
 pub block_type_by_parts : (b : Block) → t.block_type (view_block b) ≡ view_ty (out-Block b).ty
 block_type_by_parts b = ap t.block_type (of_out_block b)
@@ -123,8 +120,6 @@ module _ (due : Bool) (s : Stand) where
   of_callee around gives n (t.function is_pure) values h = marked_only _ h _
 
 pub ruleset places = (place_by_parts, v.of_set, v.of_chain, v.of_unary, v.of_steps, v.of_number, v.of_quote, v.of_truth, v.of_name, v.of_call, v.of_paren, v.of_elements, v.of_isolate, v.of_form)
-
-pub ruleset sets = (set_by_parts, v.of_set, v.of_chain, v.of_unary, v.of_steps, v.of_number, v.of_quote, v.of_truth, v.of_name, v.of_call, v.of_paren, v.of_elements, v.of_isolate, v.of_form)
 
 pub ruleset puts = (set_by_place, in_turn)
 

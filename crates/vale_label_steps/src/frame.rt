@@ -4,11 +4,11 @@ ghost use Rattle.vale_core.specs.View.{view_ty};
 ghost use Rattle.vale_lower_facts.specs.Slots as s;
 ghost use Rattle.vale_label_steps.specs.Standing.{framed};
 
-use crate::labels::above;
 use crate::slots::Local;
 use std::alloc::Global;
 use vale_base::{Memory, Name};
 use vale_core::Ty;
+use vale_lower_expr::above;
 
 /// The locals of a block so far, the last last; the next free register; and whether the function has returned on every way
 /// before.

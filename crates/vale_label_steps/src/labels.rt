@@ -1,5 +1,5 @@
 // Labels that grow at their end, with the code that isn't emitted again but counted.
-ghost use Rattle.std.specs.Prelude.{◌≡◌, ◌+◌, ◌∷◌, [], Some, None, false, IfOk, OnOk};
+ghost use Rattle.std.specs.Prelude.{◌≡◌, ◌+◌, ◌∷◌, [], Some, None, false, OnOk};
 ghost use Rattle.vale_lower_facts.specs.Marks.{mark};
 ghost use Rattle.vale_label_steps.specs.Progress.{progress, with_marks};
 ghost use Rattle.vale_label_steps.specs.Standing.{stand};
@@ -10,6 +10,7 @@ use std::alloc::Global;
 use vale_base::Memory;
 use vale_cert::Label;
 use vale_code::Ty as CodeTy;
+use vale_lower_expr::above;
 
 /// The labels of a function so far.
 #[derive(Drop)]
@@ -98,16 +99,5 @@ impl Labels {
         ensures due { self.new.due ≡ due }
     {
         self.due = due;
-    }
-}
-
-/// The next register or place. One that would be 2^32 is want of memory.
-pub fn above(number: u32) -> Result<u32, Memory>
-    ensures { IfOk result (λ next. next ≡ number + 1) }
-{
-    if number == u32::MAX {
-        Err(Memory)
-    } else {
-        Ok(number + 1)
     }
 }

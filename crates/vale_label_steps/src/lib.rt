@@ -8,9 +8,8 @@ mod slots;
 mod steps;
 
 pub use frame::Frame;
-pub use labels::{Labels, above};
+pub use labels::Labels;
 pub use slots::{Local, Slots};
 pub use steps::{
-    begin_count, begin_loop, end_count, end_loop, end_side, is_set, put_held, put_return, put_set,
-    put_unary,
+    begin_count, begin_loop, end_count, end_loop, end_side, put_held, put_return, put_set, put_unary,
 };

@@ -10,7 +10,7 @@ ghost use Rattle.vale_lower_facts.specs.Marks.{mark, marked};
 ghost use Rattle.vale_rules_spec.specs.Returns.{block_returns};
 ghost use Rattle.vale_lower_facts.specs.Slots.{scope_at, with_slot, holds, given, behind};
 ghost use Rattle.vale_label_steps.specs.Progress.{progress, with_marks};
-ghost use Rattle.vale_label_steps.specs.Shapes.{is_set, sets_local};
+ghost use Rattle.vale_label_steps.specs.Shapes.{sets_local};
 ghost use Rattle.vale_label_steps.specs.Standing.{stand, slots_of};
 ghost use Rattle.vale_lower_facts.specs.Slots as s;
 
@@ -57,28 +57,6 @@ pub fn put_held(
 {
     let inner = Slots::Holds(h, ty, &*slots);
     labels.put(alloc, &inner, over)
-}
-
-/// Whether it sets something.
-#[tactic(auto, using(crate::proofs::StepLaws::sets))]
-pub fn is_set(expr: &Expr) -> bool
-    ensures { result ≡ is_set (view_expr expr.now) }
-{
-    match &expr.node {
-        Node::Set(..) => true,
-        Node::Chain(..)
-        | Node::Unary(..)
-        | Node::Steps(..)
-        | Node::Number(..)
-        | Node::Quote(..)
-        | Node::Truth(..)
-        | Node::Name { .. }
-        | Node::Call(..)
-        | Node::Paren(..)
-        | Node::Array(..)
-        | Node::Iso(..)
-        | Node::Form(..) => false,
-    }
 }
 
 /// A return of what the register has, a value of this type; the place after it is due a label.

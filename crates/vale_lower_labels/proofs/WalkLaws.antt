@@ -18,7 +18,7 @@ use Rattle.vale_rules_spec.specs.Returns.{block_returns}
 use Rattle.vale_lower_facts.specs.Marks.{Marks, mark, expr_marks, value_marks, node_marks, links_marks, elses_marks, block_marks, stmts_marks, unused_marks, only_marks, link_marks, expr_due, value_due, node_due, links_due, link_due, block_due, stmts_due, unused_due}
 use Rattle.vale_lower_labels.specs.Going.{one_link_marks, link_op, store_marks, turns_marks, return_marks}
 use Rattle.vale_label_steps.specs.Progress.{Progress, with_marks}
-use Rattle.vale_label_steps.specs.Shapes.{is_set}
+use Rattle.vale_lower_expr.specs.Places.{is_set}
 use Rattle.vale_lower_labels.specs.Sides.{side_marks, sides_marks, sides_due}
 use Rattle.vale_label_steps.proofs.ProgressLaws.{in_turn, no_marks}
 use Rattle.vale_core.proofs.PartLaws.{of_out_expr, of_out_link, of_out_block, of_out_else_if}

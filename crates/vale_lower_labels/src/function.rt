@@ -18,7 +18,8 @@ use vale_base::Memory;
 use vale_cert::{FuncFacts, Label};
 use vale_code::{Sequence, Ty as CodeTy};
 use vale_core::{Block, Function, block_returns};
-use vale_label_steps::{Frame, Labels, Slots, above};
+use vale_label_steps::{Frame, Labels, Slots};
+use vale_lower_expr::above;
 use vale_seen::type_of;
 use vale_syntax::{Param, TypeExpr};
 
