@@ -1,10 +1,10 @@
 // What `check`, `run` and `fmt` answer to a text.
 use crate::calls::{CALM, gives, run_on};
-use crate::texts::{NAMES, numbered};
 use Answer::{NotServed, Refused, Runs, Unread};
 use std::alloc::Global;
 use std::test::Fail;
 use std::thread::Threads;
+use vale_part_rows::texts::{NAMES, numbered};
 
 #[derive(Clone, Copy)]
 enum Answer {

@@ -1,13 +1,13 @@
 // Texts in which a piece stands many times.
 use std::alloc::Global;
-use std::test::Fail;
+use vale_base::Memory;
 
 /// A front, then a piece so many times, then a middle and as often what closes the piece.
 pub fn repeated(
     alloc: Global,
     parts: (&str, &str, &str, &str),
     times: u32,
-) -> Result<Vec<u8>, Fail> {
+) -> Result<Vec<u8>, Memory> {
     let (front, open, middle, close) = parts;
     let mut text = Vec::from_slice(alloc, front.as_bytes())?;
     for _ in 0..times {
@@ -28,7 +28,7 @@ pub fn numbered(
     alloc: Global,
     parts: (&str, &str, &str, &str),
     count: u32,
-) -> Result<Vec<u8>, Fail> {
+) -> Result<Vec<u8>, Memory> {
     let (front, before, after, back) = parts;
     let mut text = Vec::from_slice(alloc, front.as_bytes())?;
     for i in 0..count {
