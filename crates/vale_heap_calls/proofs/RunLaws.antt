@@ -1,12 +1,16 @@
 -- A list of calls stands for the same list of calls of a heap of names.
-use Rattle.std.proofs.Common.{◌≡◌, ℕ, List, [], ◌∷◌, ◌++◌, refl, sym, subst}
-use Rattle.vale_table.specs.Plain.{Plain}
+use Rattle.std.proofs.Common.{◌≡◌, ◌<◌, ℕ, List, [], ◌∷◌, ◌++◌, refl, sym, subst, ⊎_elim}
+use Rattle.std.specs.Prelude.{Contains}
+use Rattle.std.proofs.lemmas.List.Elements.{Contains-push_cases}
+use Rattle.vale_table.specs.Lending.{IsFull, StillOut}
+use Rattle.vale_table.specs.Plain.{Plain, frames_of, out_of}
 use Rattle.vale_heap.specs.declared.body.Place.{Place}
 use Rattle.vale_heap.specs.HeapState.{HeapState}
 use Rattle.vale_heap_calls.specs.declared.call.Call.{Call}
 use Rattle.vale_heap_calls.specs.declared.call.Reply.{Reply}
+use Rattle.vale_heap_calls.specs.declared.call.Reply.TheVariants.{NoPage}
 use Rattle.vale_heap_calls.specs.Calls.{State, Lawful, Answers, AllLawful, AnswerAll}
-use Rattle.vale_heap_calls.specs.Tied.{CanCall, CanCallAll, Follows, FollowAll}
+use Rattle.vale_heap_calls.specs.Tied.{CanCall, CanCallAll, Follows, FollowAll, HasCause}
 
 lawful_prefix : (depth : ℕ) (s : State) (calls rest : List Call) → AllLawful depth s (calls ++ rest) → AllLawful depth s calls
 lawful_prefix depth s [] rest all = tt
@@ -43,3 +47,16 @@ can_next heap mid table mid_table places mid_places all calls rest replies call 
     let lawful : AllLawful heap.depth can.0 (calls ++ call ∷ rest) = subst (AllLawful heap.depth can.0) (sym is) can.2 in
     let before = follow can.0 can.1 (lawful_prefix heap.depth can.0 calls (call ∷ rest) lawful) in
     (before.0, before.2, subst (λ d. Lawful d before.0 call) (sym depth) (lawful_rest heap.depth can.0 before.0 calls (call ∷ rest) replies lawful before.1).0)
+
+-- where all frames are out they stay out
+full_still : (table new_table : Plain) → IsFull (frames_of table) (out_of table) → StillOut (out_of table) (out_of new_table) → frames_of new_table ≡ frames_of table → IsFull (frames_of new_table) (out_of new_table)
+full_still table new_table full more frames = λ frame within. more frame (full frame (subst (λ n. frame < n) frames within))
+
+-- after one more reply all frames are out, where an object wasn't made
+pub full_more : (heap : HeapState) (table new_table : Plain) (replies : List Reply) (reply : Reply) →
+    (Contains replies NoPage → IsFull (frames_of table) (out_of table)) → StillOut (out_of table) (out_of new_table) → frames_of new_table ≡ frames_of table → HasCause heap new_table reply →
+    Contains (replies ++ reply ∷ []) NoPage → IsFull (frames_of new_table) (out_of new_table)
+full_more heap table new_table replies reply full more frames cause any =
+    ⊎_elim (λ earlier. full_still table new_table (full earlier) more frames)
+    (λ (last : reply ≡ NoPage). let why : HasCause heap new_table NoPage = subst (HasCause heap new_table) last cause in why.1)
+    (Contains-push_cases replies reply NoPage any)

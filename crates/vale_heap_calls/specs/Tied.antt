@@ -1,11 +1,13 @@
 -- How a heap, its table and a list of places stand for a heap of names.
 use Rattle.std.specs.Prelude.{◌≡◌, ℕ, ◌≤◌, List, length, None, false}
+use Rattle.vale_table.specs.Lending.{IsFull}
 use Rattle.vale_table.specs.Plain.{Plain, frames_of, out_of, floor_of}
 use Rattle.vale_heap.specs.declared.body.Place.{Place}
-use Rattle.vale_heap.specs.HeapState.{HeapState, KnowsFrames}
+use Rattle.vale_heap.specs.HeapState.{HeapState, KnowsFrames, HasNoRoom}
 use Rattle.vale_heap.specs.Standing.{Stands, LowIsFloor}
 use Rattle.vale_heap_calls.specs.declared.call.Call.{Call}
 use Rattle.vale_heap_calls.specs.declared.call.Reply.{Reply}
+use Rattle.vale_heap_calls.specs.declared.call.Reply.TheVariants.{NoPage}
 use Rattle.vale_heap_calls.specs.Calls.{State, Lawful, Answers, AllLawful, AnswerAll}
 
 pub record IsTied (heap : HeapState) (table : Plain) (places : List Place) (s : State) : Type 0 where
@@ -31,3 +33,8 @@ Follows heap new_heap table new_table places new_places call reply =
 abbrev pub FollowAll : HeapState → HeapState → Plain → Plain → List Place → List Place → List Call → List Reply → Type 0
 FollowAll heap new_heap table new_table places new_places calls replies =
     (s : State) → IsTied heap table places s → AllLawful heap.depth s calls → (last : State) × AnswerAll s calls replies last × IsTied new_heap new_table new_places last
+
+-- `NoPage` comes only where no page of the innermost region and no spare page has room, and all frames are out
+abbrev pub HasCause : HeapState → Plain → Reply → Type 0
+HasCause heap new_table NoPage = HasNoRoom heap × IsFull (frames_of new_table) (out_of new_table)
+HasCause heap new_table _ = Unit {0}

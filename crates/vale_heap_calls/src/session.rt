@@ -1,10 +1,11 @@
 // A heap that is called by names.
-ghost use Rattle.std.specs.Prelude.{◌≡◌, ◌<◌, [], IfOk, length, map};
-ghost use Rattle.vale_table.specs.Plain.{OpensAt};
+ghost use Rattle.std.specs.Prelude.{◌≡◌, ◌<◌, [], Contains, IfOk, length, map};
+ghost use Rattle.vale_table.specs.Lending.{IsFull, StillOut};
+ghost use Rattle.vale_table.specs.Plain.{OpensAt, frames_of, out_of};
 ghost use Rattle.vale_heap.specs.HeapState.{opened};
 ghost use Rattle.vale_heap.specs.Standing.{Denotes, DenoteAll};
 ghost use Rattle.vale_heap_calls.specs.Calls.{value_of, IsGiven, AllGiven};
-ghost use Rattle.vale_heap_calls.specs.Tied.{IsTied, CanCall, CanCallAll, Follows, FollowAll};
+ghost use Rattle.vale_heap_calls.specs.Tied.{IsTied, CanCall, CanCallAll, Follows, FollowAll, HasCause};
 
 use crate::call::{Call, Named, Reply, Values};
 use std::alloc::Global;
@@ -68,6 +69,9 @@ impl Session {
         requires { CanCall self.old.heap self.old.table self.old.places.items (Call.Make kind values) }
         ensures follows { IfOk result (Follows self.old.heap self.new.heap self.old.table self.new.table self.old.places.items self.new.places.items (Call.Make kind values)) }
         ensures depth { self.new.heap.depth ≡ self.old.heap.depth }
+        ensures cause { IfOk result (HasCause self.old.heap self.new.table) }
+        ensures known { StillOut (out_of self.old.table) (out_of self.new.table) }
+        ensures frames { frames_of self.new.table ≡ frames_of self.old.table }
     {
         let cells = cells_of(alloc, &self.places, values)?;
         match self.heap.make(&mut self.table, Body { kind, cells }) {
@@ -81,7 +85,8 @@ impl Session {
 
     fn look(&self, name: usize) -> Reply
         requires { CanCall self.now.heap self.now.table self.now.places.items (Call.Look name) }
-        ensures { Follows self.now.heap self.now.heap self.now.table self.now.table self.now.places.items self.now.places.items (Call.Look name) result }
+        ensures follows { Follows self.now.heap self.now.heap self.now.table self.now.table self.now.places.items self.now.places.items (Call.Look name) result }
+        ensures cause { HasCause self.now.heap self.now.table result }
     {
         match self.heap.look(None, self.places[name]) {
             Some(body) => Reply::Alive(body.kind),
@@ -93,6 +98,9 @@ impl Session {
         requires { CanCall self.old.heap self.old.table self.old.places.items (Call.End name) }
         ensures follows { Follows self.old.heap self.new.heap self.old.table self.new.table self.old.places.items self.new.places.items (Call.End name) result }
         ensures depth { self.new.heap.depth ≡ self.old.heap.depth }
+        ensures cause { HasCause self.old.heap self.new.table result }
+        ensures known { StillOut (out_of self.old.table) (out_of self.new.table) }
+        ensures frames { frames_of self.new.table ≡ frames_of self.old.table }
     {
         match self.heap.end(self.places[name]) {
             Some(body) => Reply::Alive(body.kind),
@@ -104,6 +112,9 @@ impl Session {
         requires { CanCall self.old.heap self.old.table self.old.places.items (Call.Change name values) }
         ensures follows { IfOk result (Follows self.old.heap self.new.heap self.old.table self.new.table self.old.places.items self.new.places.items (Call.Change name values)) }
         ensures depth { self.new.heap.depth ≡ self.old.heap.depth }
+        ensures cause { IfOk result (HasCause self.old.heap self.new.table) }
+        ensures known { StillOut (out_of self.old.table) (out_of self.new.table) }
+        ensures frames { frames_of self.new.table ≡ frames_of self.old.table }
     {
         let cells = cells_of(alloc, &self.places, values)?;
         match self.heap.change(self.places[name]) {
@@ -115,11 +126,14 @@ impl Session {
         }
     }
 
-    /// Makes a call.
+    /// Makes a call. `NoPage` comes only where no page of the innermost region and no spare page has room, and all frames are out.
     pub fn call(&mut self, alloc: Global, call: Call) -> Result<Reply, Memory>
         requires { CanCall self.old.heap self.old.table self.old.places.items call }
         ensures follows { IfOk result (Follows self.old.heap self.new.heap self.old.table self.new.table self.old.places.items self.new.places.items call) }
         ensures depth { self.new.heap.depth ≡ self.old.heap.depth }
+        ensures cause { IfOk result (HasCause self.old.heap self.new.table) }
+        ensures known { StillOut (out_of self.old.table) (out_of self.new.table) }
+        ensures frames { frames_of self.new.table ≡ frames_of self.old.table }
     {
         match call {
             Call::Make(kind, values) => return self.make(alloc, kind, values),
@@ -136,11 +150,12 @@ impl Session {
     }
 
     /// Makes calls one after the other, and answers what they answered. The answers are those of a heap of names, in which each
-    /// object that is made gets the next name, and no name comes back.
+    /// object that is made gets the next name, and no name comes back. After a `NoPage` all frames are out.
     pub fn run(&mut self, alloc: Global, calls: Vec<Call>) -> Result<Vec<Reply>, Memory>
         requires { CanCallAll self.old.heap self.old.table self.old.places.items calls.items }
         ensures follows { IfOk result (λ replies. FollowAll self.old.heap self.new.heap self.old.table self.new.table self.old.places.items self.new.places.items calls.items replies.items) }
         ensures depth { self.new.heap.depth ≡ self.old.heap.depth }
+        ensures full { IfOk result (λ replies. Contains replies.items Reply.NoPage → IsFull (frames_of self.new.table) (out_of self.new.table)) }
     {
         let mut replies = Vec::new(alloc);
         for call in calls {
