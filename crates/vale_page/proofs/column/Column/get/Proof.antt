@@ -1,7 +1,6 @@
 -- `get` shows one value that the cells lend. Assumes `Logic`.
 use mathlib.Core.Path.{◌≡◌, refl, sym, subst, ◌∙◌}
 use Prim.Native.Nat.{ℕ, ◌+◌, ◌*◌, ◌<◌, ◌^◌}
-use native.Mathlib.Omega.{arith}
 use mathlib.Core.List.{List, [], ◌∷◌, ◌++◌}
 use seplogic.Ra.Ura.{Ura}
 use base.Fraction.{full_share}
@@ -13,7 +12,7 @@ use base.Fml.{Lft, Share, ftrue, fat, flft}
 use prog.Wp.{Env, Calls, Loops, WpFn, Tables}
 use types.Logic.{Logic}
 use contract.Monad.{fact}
-use contract.Running.{tables, tables_of}
+use contract.Running.{tables_of}
 use sound.WpLaws.{WpFn-mono}
 use types.Kit.{Item, ⋆, ‵, ◌⊛◌, at_ret, ◌$◌, ◌∵◌, !, qed, by, move, keep, drop, use1, split, join, rewrite, fsplit, fjoin, feq_i, feq_l, suffices, frame, done}
 use types.Part.{whole, sub}
@@ -29,11 +28,9 @@ use denote.Builtin.{RefOf}
 use denote.Signature.{plain}
 use denote.Opens.{hide, unhide}
 use denote.Steps.{nothing}
-use denote.Triple.Carry.{spared}
 use denote.Triple.Clauses.{Clauses, Ended, closing}
 use denote.Triple.Entry.{on_entry}
-use denote.Triple.Spec.{Meets, triple_of}
-use denote.Triple.Table.{entered, run_framed}
+use denote.Triple.Spec.{Meets}
 use denote.Triple.Walked.{says, needs, Stays, stay_dropped, walk_of, ends_at, Goes-dropped, walk_Meets}
 use Rattle.std.proofs.VecSteps.Shapes.{after}
 use Rattle.std.proofs.RcSteps.{word, word-Good}
@@ -45,9 +42,9 @@ use denote.Builtin.{usize}
 use Rattle.vale_page.specs.Cell.{Empty, Filled, IsFilled}
 use Rattle.vale_page.proofs.Memory.{args2, st, Cs}
 use Rattle.std.proofs.mem.Param.{El, R, el_x}
-use Rattle.std.proofs.ptr.Rows.{times_below, one_below}
 use Rattle.vale_page.specs.Ownership.{cell_lent, column_lent}
 use Rattle.vale_page.proofs.Memory.{Bs, Place, word_had, filled_within, cell_seen}
+use Rattle.vale_page.proofs.ColumnWalks.{spans, around, method_meets}
 use Rattle.vale_page.specs.contracts.column.Column.get.Key.{name as #self}
 use Rattle.vale_page.proofs.column.Column.get.Statement as stated
 use Rattle.vale_page.proofs.column.Column.get.Code as code
@@ -98,11 +95,10 @@ module _ (E : El) (S : RattleType) {M : Type 1} {𝓤 : Ura M} (𝓛 : Logic �
       qed 𝓛 Had ∵ enter ! C Λ (function E S) (vptr rb ro ∷ word base.ptr ∷ vint w64 index ∷ []) _ $ alloc_all ! (λ l. pass_all ! refl ((tt, tt), (word-Good [] base.ptr, ((tt, record { fits = fits_index }), tt))) $
       let En : Env 𝓤 H = env (function E S).locals l in
       unhide ! $ fsplit ! $ drop ! $ in_a_block ! d.at (λ p. column_lent (R E) p (st S) d.cells κ) (id⊢ 𝓤 (never 𝓤)) (λ b o e. fsplit ! $ flt_l ! (λ sized. fsplit ! $ flt_l ! (λ small.
-      let s = st S in let tiny : s < 2 ^ 64 = omega (arith, one_below (length d.cells) s (2 ^ 63) (omega arith) small) in
-      let far : index * s < 2 ^ 64 = omega (arith, times_below index (length d.cells) s (2 ^ 63) (omega arith) small) in
+      let s = st S in let fit = spans (length d.cells) index s within small in
       take_at ! 2 $ rewrite ! 0 (λ (p : Ptr). ‵ (fat full_share (layout (Bs E)) (l 2) 0 (word p))) (asked.0 ∙ e) refl $ give_at ! 2 $ first ! $ blocks ! $
       sets ! (of_opd ! (get_in ! (fld ! refl (stop !)) (sub ! 0 refl (whole !)))) refl (tt, tt) $
-      sets ! (bin ! (get ! refl) (size_lit ! (record { fits = tiny })) (record { fits = far })) refl (tt, record { fits = far }) $
+      sets ! (bin ! (get ! refl) (size_lit ! (record { fits = fit.0 })) (record { fits = fit.1 })) refl (tt, record { fits = fit.1 }) $
       sets ! (bin ! (get ! refl) (get ! refl) tt) refl (tt, tt) $
       sets ! (of_opd ! (get ! refl)) refl (tt, tt) $
       use1 𝓛 (‵ (cell_lent (R E) b (index * s + o) (get_or d.cells index Empty) κ)) (cell_seen E (st S) 𝓛 b κ o d.cells index within) $
@@ -135,8 +131,6 @@ pub get_spec : {M : Type 1} → stated.statement M
 unfolding tables_of
 get_spec 𝓤 𝓛 𝓜 𝓡 wired X S LX LS y =
     let E : El = record { row = X; laws = LX } in
-    let 𝓣 : Tables 𝓤 𝓛.H = tables_of 𝓤 𝓛.H 𝓜 (tables 𝓤 𝓛.H 𝓜 𝓡 𝓡.env) in
-    let k = #self (args2 E S) in
-    spared 𝓛 (ended E S).signature (𝓡.run (𝓡.env k)) (run_framed 𝓤 𝓛.H 𝓜 𝓡 (𝓡.env k)) 2 (X.lives, (S.lives, tt)) (closing 𝓛 (ended E S) (spec E S 𝓛))
-    (entered 𝓤 𝓛.H (triple_of 𝓛 (ended E S).signature (closing 𝓛 (ended E S) (spec E S 𝓛))) 𝓣.C 𝓣.Λ k (function E S) (code.unfolded 𝓤 𝓛.H 𝓜 𝓡 wired (X, (S, tt))) (meets E S 𝓛 𝓣))
-    ((y.0.0, y.0.1, tt, y.0.3, y.0.4), y.1)
+    let 𝓣 : Tables 𝓤 𝓛.H = around 𝓛 𝓜 𝓡 in
+    method_meets 𝓛 𝓜 𝓡 (ended E S) (spec E S 𝓛) (#self (args2 E S)) (function E S) (X.lives, (S.lives, tt)) (code.unfolded 𝓤 𝓛.H 𝓜 𝓡 wired (X, (S, tt)))
+    (meets E S 𝓛 𝓣) ((y.0.0, y.0.1, tt, y.0.3, y.0.4), y.1)

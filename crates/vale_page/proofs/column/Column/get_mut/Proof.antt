@@ -1,53 +1,47 @@
 -- `get_mut` lends one value, and the places follow it. Assumes `Logic`.
-use mathlib.Core.Path.{◌≡◌, refl, sym, subst, ◌∙◌}
+use mathlib.Core.Path.{◌≡◌, refl, ◌∙◌}
 use Prim.Native.Nat.{ℕ, ◌+◌, ◌*◌, ◌<◌, ◌^◌}
-use native.Mathlib.Omega.{arith}
-use mathlib.Core.List.{List, [], ◌∷◌, ◌++◌}
+use mathlib.Core.List.{List, [], ◌∷◌}
 use seplogic.Ra.Ura.{Ura}
 use base.Fraction.{full_share}
 use mir.Syntax.{Fn, named, w64}
 use mir.MapTy.{inst_fn}
 use mir.Val.{Val, vptr, vint}
-use base.Logic.{SProp, ent, sep, never, id⊢}
-use base.Fml.{Lft, GName, Share, Fml, ftrue, fsep, fat, flft, fobs, fbor}
+use base.Logic.{SProp, ent, sep}
+use base.Fml.{Lft, GName, Share, Fml, ftrue, fsep, fat, flft}
 use prog.Wp.{Env, Calls, Loops, WpFn, Tables}
 use types.Logic.{Logic, sem}
 use contract.Monad.{fact}
-use contract.Running.{tables, tables_of}
+use contract.Running.{tables_of}
 use sound.WpLaws.{WpFn-mono}
-use types.Kit.{Item, ⋆, ‵, raw, ◌⊛◌, some, later, await, pick, at_ret, ◌$◌, ◌∵◌, !, qed, by, move, keep, use1, use2, split, join, group, rewrite, fsplit, fsplit3, fjoin, fjoin3, fpack, feq_l, suffices, frame, done}
+use types.Kit.{drop, use3, ⋆, ‵, raw, some, later, await, pick, at_ret, ◌$◌, ◌∵◌, !, qed, by, move, keep, use1, join, group, rewrite, fsplit3, fjoin, fjoin3, fpack, suffices, frame, done}
 use types.Part.{whole, sub}
 use types.Run.{stop, fld, of_opd, addr, first, blocks, exec, returns, enter}
 use types.ByLocal.{alloc_all, pass_all, free_all, look_at, get, get_in, through, sets, sets_last, env}
-use types.SemTy.{Body as Borrowed}
 use denote.Exit.{no}
-use denote.RattleType.{RattleType, owns}
+use denote.RattleType.{RattleType}
 use denote.Memory.{mem, cell_at, part_of}
 use denote.Param.{layout, param}
-use denote.RawPtr.{Ptr, block_ptr, in_a_block}
+use denote.RawPtr.{Ptr, block_ptr}
 use denote.Ref.{MutBor, MutRef}
 use denote.Builtin.{RefMutOf}
 use denote.Signature.{plain, mut_ref_to}
 use denote.Steps.{nothing, opens}
-use denote.Triple.Carry.{spared}
 use denote.Triple.Clauses.{Clauses, Ended, closing}
-use denote.Triple.Entry.{on_entry}
-use denote.Triple.Spec.{Meets, triple_of}
-use denote.Triple.Table.{entered, run_framed}
+use denote.Triple.Spec.{Meets}
 use denote.Triple.Walked.{says, needs, Stays, stay_dropped, walk_of, ends_at, Goes-dropped, Goes-spent_ref, walk_Meets}
 use Rattle.std.proofs.VecSteps.Shapes.{after}
 use Rattle.std.proofs.RcSteps.{word, word-Good}
-use lib.ListN.{length, set, get_or, length-set}
-use types.Kit.{flt_l, flt_i}
+use lib.ListN.{length, set, get_or}
 use types.Run.{bin, size_lit}
 use types.ByLocal.{take_at, give_at}
 use denote.Builtin.{usize}
 use Rattle.vale_page.specs.Cell.{Empty, Filled, IsFilled}
 use Rattle.vale_page.proofs.Memory.{args2, st, Cs}
 use Rattle.std.proofs.mem.Param.{El, R, el_x}
-use Rattle.std.proofs.ptr.Rows.{times_below, one_below}
-use Rattle.vale_page.specs.Ownership.{cell, cells, column_own}
-use Rattle.vale_page.proofs.Memory.{Bs, Mark_of, sz, Place, word_had, filled_within, Besides, cell_out, cell_in}
+use Rattle.vale_page.specs.Ownership.{cell}
+use Rattle.vale_page.proofs.Memory.{Bs, Mark_of, sz, filled_within, Besides}
+use Rattle.vale_page.proofs.ColumnWalks.{spans, around, method_meets, Had, enters_with, cell_taken, with_cell, column_made}
 use denote.Follow.{follows, Part, lends_Part}
 use Rattle.vale_page.specs.ColumnLends.{with_cells}
 use Rattle.vale_page.specs.contracts.column.Column.get_mut.Key.{name as #self}
@@ -73,11 +67,20 @@ module _ (E : El) (S : RattleType) where
   abbrev spec : {M : Type 1} {𝓤 : Ura M} (𝓛 : Logic 𝓤) → Clauses 𝓤 ended
   spec {𝓤 = 𝓤} 𝓛 κs a = record { ghost = Unit {0}; requires = λ _. fact 𝓤 (Asks a.0.now a.1.0 a.1.1.0); ensures = λ _ r w. sep 𝓤 (sem 𝓛 (follows (Cs E S) (R E) a.0.ghost_name r.ghost_name (λ w. with_cells a.0.now (set a.0.now.cells a.1.1.0 (Filled w))))) (fact 𝓤 (Gives0 a.0.now a.1.0 a.1.1.0 r)) }
 
-module _ (E : El) (S : RattleType) {M : Type 1} {𝓤 : Ura M} (𝓛 : Logic 𝓤) (C : Calls 𝓤 𝓛.H) (Λ : Loops 𝓤 𝓛.H) (κ : Lft) (q : Share) (rb ro : ℕ) (γ : GName) (d : (Cs E S).Denot) (base : (Bs E).Denot) (index : (usize).Denot) (us0 us1 us2 : List Val) where
+module _ (E : El) (S : RattleType) {M : Type 1} {𝓤 : Ura M} (𝓛 : Logic 𝓤) (C : Calls 𝓤 𝓛.H) (Λ : Loops 𝓤 𝓛.H) (κ : Lft) (q : Share) (self : MutBor (Cs E S).Denot) (base : (Bs E).Denot) (index : (usize).Denot) (us0 us1 us2 : List Val) where
   open 𝓛 use {H, A}
 
-  abbrev self : MutBor (Cs E S).Denot
-  self = record { ref_ptr = (rb, ro); ghost_name = γ; now = d }
+  abbrev rb : ℕ
+  rb = self.ref_ptr.0
+
+  abbrev ro : ℕ
+  ro = self.ref_ptr.1
+
+  abbrev γ : GName
+  γ = self.ghost_name
+
+  abbrev d : (Cs E S).Denot
+  d = self.now
 
   abbrev bound : (walk_of 𝓛 (ended E S) (stayed E S) (spec E S 𝓛)).Ghost
   bound = (((κ, tt), (q, tt), tt, (self, (base, (index, tt))), (us0, (us1, (us2, tt)))), tt)
@@ -86,7 +89,7 @@ module _ (E : El) (S : RattleType) {M : Type 1} {𝓤 : Ura M} (𝓛 : Logic �
   Post = (walk_of 𝓛 (ended E S) (stayed E S) (spec E S 𝓛)).post bound
 
   abbrev new : el_x E → (Cs E S).Denot
-  new w = with_cells d (set d.cells index (Filled w))
+  new w = with_cell E S d index (Filled w)
 
   module _ (vs : List Val) (b o : ℕ) where
     -- all but the value
@@ -97,11 +100,8 @@ module _ (E : El) (S : RattleType) {M : Type 1} {𝓤 : Ura M} (𝓛 : Logic �
         → (w : el_x E) → ent 𝓤 (sep 𝓤 (sem 𝓛 ((mem (R E)).own_at w b (index * st S + o))) (sem 𝓛 Rest)) (sem 𝓛 ((mem (Cs E S)).own_at (new w) rb ro))
     unfolding part_of
     back e within small sized w =
-        let long = length-set d.cells index (Filled w) in
         qed 𝓛 (‵ (cell (R E) b (index * st S + o) (Filled w)) ∷ ‵ Rest ∷ []) ∵ move ! (1 ∷ []) $ fsplit3 ! $ move ! (3 ∷ 0 ∷ []) $
-        use2 𝓛 (‵ (cells (R E) (st S) b o (new w).cells)) (cell_in E (st S) 𝓛 b o d.cells index within (Filled w)) $
-        flt_i ! (length (new w).cells * st S) (2 ^ 63) (subst (λ k. k * st S < 2 ^ 63) (sym long) small) $ fjoin ! $ flt_i ! 0 (sz E) sized $ fjoin ! $
-        rewrite ! 0 (λ (p : Ptr). ‵ (column_own (R E) p (st S) (new w).cells)) (sym e) refl $ move ! (1 ∷ 0 ∷ []) $ fjoin ! $ move ! (1 ∷ 0 ∷ []) $ fjoin ! $
+        use3 𝓛 (‵ ((Cs E S).own_val (new w) vs)) (column_made E S 𝓛 d vs index (Filled w) b o within e sized small) $ move ! (1 ∷ 0 ∷ []) $ fjoin ! $
         fpack ! (List Val) (λ us. fsep (cell_at full_share (Cs E S).mir us rb ro) ((Cs E S).own_val (new w) us)) vs $ done !
 
   exits : (v : Val) (r : MutBor (el_x E)) → Gives0 E S d base index r
@@ -111,57 +111,39 @@ module _ (E : El) (S : RattleType) {M : Type 1} {𝓤 : Ura M} (𝓛 : Logic �
       suffices ! _ (ends_at 𝓛 (ended E S) (stayed E S) (spec E S 𝓛) bound v r (tt, (tt, (tt, tt))) (tt, (tt, (tt, tt)))) $
       nothing ! $ nothing ! $ fjoin ! $ nothing ! $ fjoin ! $ nothing ! $ fjoin ! $ join ! $ nothing ! $ move ! (2 ∷ 0 ∷ []) $ join ! $ join ! $ frame ! $ says ! e $ done !
 
-  abbrev Had : List (Item 𝓤)
-  Had = ‵ (fobs γ ((Cs E S).coded.code d)) ∷ ‵ (fbor κ (Borrowed (mem (Cs E S)) rb ro γ)) ∷ ‵ (flft κ q) ∷ []
-
-  walk : Asks E S d base index → index < 2 ^ 64 → ent 𝓤 (⋆ 𝓛 Had) (WpFn 𝓤 H C Λ (function E S) (vptr rb ro ∷ word base.ptr ∷ vint w64 index ∷ []) Post)
+  walk : Asks E S d base index → index < 2 ^ 64 → ent 𝓤 (⋆ 𝓛 (Had E S 𝓤 κ q self)) (WpFn 𝓤 H C Λ (function E S) (vptr rb ro ∷ word base.ptr ∷ vint w64 index ∷ []) Post)
   walk asked fits_index =
       let x = asked.1.0 in let within = filled_within d.cells index x asked.1.1 in let code = (Cs E S).coded.code d in
-      qed 𝓛 Had ∵ enter ! C Λ (function E S) (vptr rb ro ∷ word base.ptr ∷ vint w64 index ∷ []) _ $ alloc_all ! (λ l. pass_all ! refl ((tt, tt), (word-Good [] base.ptr, ((tt, record { fits = fits_index }), tt))) $
+      qed 𝓛 (Had E S 𝓤 κ q self) ∵ enter ! C Λ (function E S) (vptr rb ro ∷ word base.ptr ∷ vint w64 index ∷ []) _ $ alloc_all ! (λ l. pass_all ! refl ((tt, tt), (word-Good [] base.ptr, ((tt, record { fits = fits_index }), tt))) $
       let En : Env 𝓤 H = env (function E S).locals l in
-      opens ! tt (Cs E S) {h = d} rb ro (λ vs. move ! (1 ∷ []) $ fsplit ! $ move ! (1 ∷ []) $
-      in_a_block ! d.at (λ p. column_own (R E) p (st S) d.cells) (id⊢ 𝓤 (never 𝓤)) (λ b o e. fsplit ! $ flt_l ! (λ sized. fsplit ! $ flt_l ! (λ small.
-      let s = st S in let tiny : s < 2 ^ 64 = omega (arith, one_below (length d.cells) s (2 ^ 63) (omega arith) small) in
-      let far : index * s < 2 ^ 64 = omega (arith, times_below index (length d.cells) s (2 ^ 63) (omega arith) small) in
+      opens ! tt (Cs E S) {h = d} rb ro (λ vs. move ! (1 ∷ []) $ cell_taken E S ! d vs index (Filled x) within asked.1.1 (λ b o e sized small.
+      let s = st S in let fit = spans (length d.cells) index s within small in
       take_at ! 2 $ rewrite ! 0 (λ (p : Ptr). ‵ (fat full_share (layout (Bs E)) (l 2) 0 (word p))) (asked.0 ∙ e) refl $ give_at ! 2 $ first ! $ blocks ! $
       sets ! (of_opd ! (get_in ! (fld ! refl (stop !)) (sub ! 0 refl (whole !)))) refl (tt, tt) $
-      sets ! (bin ! (get ! refl) (size_lit ! (record { fits = tiny })) (record { fits = far })) refl (tt, record { fits = far }) $
+      sets ! (bin ! (get ! refl) (size_lit ! (record { fits = fit.0 })) (record { fits = fit.1 })) refl (tt, record { fits = fit.1 }) $
       sets ! (bin ! (get ! refl) (get ! refl) tt) refl (tt, tt) $
       sets ! (of_opd ! (get ! refl)) refl (tt, tt) $
-      use1 𝓛 (‵ (cell (R E) b (index * s + o) (get_or d.cells index Empty)) ⊛ ‵ (Besides E (st S) 𝓛 b o d.cells index)) (cell_out E (st S) 𝓛 b o d.cells index within) $ split ! $ rewrite ! 0 (λ (c : Place E). ‵ (cell (R E) b (index * s + o) c)) asked.1.1 refl $
       let way = back vs b o e within small sized in let at = index * s + o in
       sets_last ! (addr ! (through ! refl (stop !))) refl (tt, tt) $ exec ! C Λ En (after 1 (function E S).body) (at_ret En Post) $ sets ! (of_opd ! (get ! refl)) refl (tt, tt) $
       move ! (1 ∷ 2 ∷ 3 ∷ []) $ fjoin3 ! $ move ! (2 ∷ 3 ∷ 4 ∷ 1 ∷ 0 ∷ []) $ group ! 5 $
       use1 𝓛 (later (some (λ (δ : GName). raw (Part 𝓛 (Cs E S) (R E) new (named 0) κ q rb ro b at γ (sem 𝓛 (Rest vs b o)) way x δ))))
       (lends_Part 𝓛 (Cs E S) (R E) new (named 0) κ q rb ro b at γ (sem 𝓛 (Rest vs b o)) way code code x) $ await ! tt $ pick ! (λ δ.
-      returns ! (look_at ! 0 refl) $ free_all ! refl $ keep ! (0 ∷ []) $ by ! (exits (vptr b at) (record { ref_ptr = (b, at); ghost_name = δ; now = x }) asked.1.1)))))))
-
-  entry : Asks E S d base index → ent 𝓤 (on_entry 𝓛 (ended E S).signature (κ, tt) (q, tt) (self, (base, (index, tt))) (us0, (us1, (us2, tt)))) (WpFn 𝓤 H C Λ (function E S) (us0 ++ (us1 ++ (us2 ++ []))) Post)
-  entry asked =
-      qed 𝓛 ((‵ (flft κ q) ⊛ ‵ ftrue) ∷ ‵ (owns (MutRef (named 0) κ (Cs E S) ∷ Bs E ∷ usize ∷ []) (self, (base, (index, tt))) (us0, (us1, (us2, tt)))) ∷ []) ∵
-      split ! $ move ! (2 ∷ []) $
-      fsplit ! $
-      fsplit3 ! $ feq_l ! (λ e0.
-      move ! (2 ∷ []) $
-      fsplit ! $
-      word_had ! base.ptr us1 (λ e1.
-      fsplit ! $
-      fsplit ! $ feq_l ! (λ e2. flt_l ! (λ fits_index.
-      keep ! (1 ∷ 2 ∷ 3 ∷ []) $
-      by ! (subst (λ (ws : List Val × List Val × List Val). ent 𝓤 (⋆ 𝓛 Had) (WpFn 𝓤 H C Λ (function E S) (ws.0 ++ (ws.1 ++ (ws.2 ++ []))) Post)) (λ j. (sym e0 j, sym e1 j, sym e2 j)) (walk asked fits_index))))))
+      returns ! (look_at ! 0 refl) $ free_all ! refl $ keep ! (0 ∷ []) $ by ! (exits (vptr b at) (record { ref_ptr = (b, at); ghost_name = δ; now = x }) asked.1.1)))))
 
 meets : (E : El) (S : RattleType) {M : Type 1} {𝓤 : Ura M} (𝓛 : Logic 𝓤) (𝓣 : Tables 𝓤 𝓛.H)
     → Meets 𝓛 (ended E S).signature (WpFn 𝓤 𝓛.H 𝓣.C 𝓣.Λ (function E S)) (closing 𝓛 (ended E S) (spec E S 𝓛))
 meets E S {𝓤 = 𝓤} 𝓛 𝓣 =
     walk_Meets 𝓛 (ended E S) (stayed E S) (Goes-spent_ref 𝓛 1 (0 ∷ []) tt (plain (λ _. Cs E S)), (Goes-dropped 𝓛 1 (plain (λ _. Bs E)) no (λ κs x f. refl), (Goes-dropped 𝓛 1 (plain (λ _. usize)) no (λ κs x f. refl), tt))) (spec E S 𝓛) (WpFn 𝓤 𝓛.H 𝓣.C 𝓣.Λ (function E S)) (WpFn-mono 𝓤 𝓛.H 𝓛.laws 𝓣 (function E S))
-    (λ z. needs 𝓤 (Asks E S z.0.3.0.now z.0.3.1.0 z.0.3.1.1.0) _ (entry E S 𝓛 𝓣.C 𝓣.Λ z.0.0.0 z.0.1.0 z.0.3.0.ref_ptr.0 z.0.3.0.ref_ptr.1 z.0.3.0.ghost_name z.0.3.0.now z.0.3.1.0 z.0.3.1.1.0 z.0.4.0 z.0.4.1.0 z.0.4.1.1.0))
+    (λ z. let κ : Lft = z.0.0.0 in let q : Share = z.0.1.0 in let self : MutBor (Cs E S).Denot = z.0.3.0 in let base : (Bs E).Denot = z.0.3.1.0 in let index : ℕ = z.0.3.1.1.0 in
+    let us0 : List Val = z.0.4.0 in let us1 : List Val = z.0.4.1.0 in let us2 : List Val = z.0.4.1.1.0 in
+    needs 𝓤 (Asks E S self.now base index) _ (λ asked.
+    enters_with E S 𝓛 [] κ q self base index tt us0 us1 us2 tt [] (λ vs. WpFn 𝓤 𝓛.H 𝓣.C 𝓣.Λ (function E S) vs (Post E S 𝓛 𝓣.C 𝓣.Λ κ q self base index us0 us1 us2)) (λ passed fits.
+    qed 𝓛 (‵ ftrue ∷ Had E S 𝓤 κ q self) ∵ drop ! $ by ! (walk E S 𝓛 𝓣.C 𝓣.Λ κ q self base index us0 us1 us2 asked fits))))
 
 pub get_mut_spec : {M : Type 1} → stated.statement M
 unfolding tables_of
 get_mut_spec 𝓤 𝓛 𝓜 𝓡 wired X S LX LS y =
     let E : El = record { row = X; laws = LX } in
-    let 𝓣 : Tables 𝓤 𝓛.H = tables_of 𝓤 𝓛.H 𝓜 (tables 𝓤 𝓛.H 𝓜 𝓡 𝓡.env) in
-    let k = #self (args2 E S) in
-    spared 𝓛 (ended E S).signature (𝓡.run (𝓡.env k)) (run_framed 𝓤 𝓛.H 𝓜 𝓡 (𝓡.env k)) 2 (X.lives, (S.lives, tt)) (closing 𝓛 (ended E S) (spec E S 𝓛))
-    (entered 𝓤 𝓛.H (triple_of 𝓛 (ended E S).signature (closing 𝓛 (ended E S) (spec E S 𝓛))) 𝓣.C 𝓣.Λ k (function E S) (code.unfolded 𝓤 𝓛.H 𝓜 𝓡 wired (X, (S, tt))) (meets E S 𝓛 𝓣))
-    ((y.0.0, y.0.1, tt, y.0.3, y.0.4), y.1)
+    let 𝓣 : Tables 𝓤 𝓛.H = around 𝓛 𝓜 𝓡 in
+    method_meets 𝓛 𝓜 𝓡 (ended E S) (spec E S 𝓛) (#self (args2 E S)) (function E S) (X.lives, (S.lives, tt)) (code.unfolded 𝓤 𝓛.H 𝓜 𝓡 wired (X, (S, tt)))
+    (meets E S 𝓛 𝓣) ((y.0.0, y.0.1, tt, y.0.3, y.0.4), y.1)

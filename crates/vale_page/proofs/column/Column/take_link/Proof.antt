@@ -1,54 +1,39 @@
 -- `take_link` reads a place's number, and the place is empty. Assumes `Logic`.
-use mathlib.Core.Path.{◌≡◌, refl, sym, subst, ◌∙◌}
+use mathlib.Core.Path.{◌≡◌, refl, ◌∙◌}
 use Prim.Native.Nat.{ℕ, ◌+◌, ◌*◌, ◌<◌, ◌^◌}
-use native.Mathlib.Omega.{arith}
-use mathlib.Core.List.{List, [], ◌∷◌, ◌++◌}
+use mathlib.Core.List.{List, [], ◌∷◌}
 use seplogic.Ra.Ura.{Ura}
 use base.Fraction.{full_share}
-use mir.Syntax.{Fn, named, w8, w64, ty_int}
+use mir.Syntax.{Fn, w8, w64, ty_int}
 use mir.MapTy.{inst_fn}
 use mir.Val.{Val, vptr, vint}
-use base.Logic.{SProp, ent, sep, never, id⊢, apply∗}
-use base.Fml.{Lft, GName, Share, ftrue, fat, froom, flft, fobs, fbor}
+use base.Logic.{SProp, ent, apply∗}
+use base.Fml.{Lft, Share, fat, froom}
 use prog.Wp.{Env, Calls, Loops, WpFn, Tables}
 use types.Logic.{Logic, sem}
-use contract.Monad.{fact}
-use contract.Running.{tables, tables_of}
-use sound.WpLaws.{WpFn-mono}
-use types.Kit.{Item, ⋆, ‵, ◌⊛◌, at_ret, ◌$◌, ◌∵◌, !, qed, by, move, keep, use1, use2, split, join, rewrite, fsplit, fsplit3, fjoin, fjoin3, feq_i, feq_l, suffices, frame, done}
+use contract.Running.{tables_of}
+use types.Kit.{use3, ⋆, ‵, at_ret, ◌$◌, ◌∵◌, !, qed, by, move, keep, use1, use2, rewrite, fsplit}
 use types.Part.{whole, sub}
 use types.Run.{look, stop, fld, load, of_opd, first, blocks, exec, returns, enter, well_typed}
 use types.ByLocal.{alloc_all, pass_all, free_all, look_at, get, get_in, through, sets, sets_last, env}
-use types.SemTy.{Body as Borrowed}
-use denote.Exit.{yes, no}
-use denote.RattleType.{RattleType, owns}
-use denote.Memory.{mem}
+use denote.RattleType.{RattleType}
 use denote.Param.{layout}
-use denote.RawPtr.{Ptr, in_a_block}
-use denote.Ref.{MutBor, MutRef}
-use denote.Builtin.{RefMutOf}
-use denote.Signature.{plain}
-use denote.Steps.{nothing, owned, opens, closes}
+use denote.RawPtr.{Ptr}
+use denote.Ref.{MutBor}
+use denote.Steps.{owned, opens, closes}
 use denote.Plain.{uint_Makes}
-use denote.Triple.Carry.{spared}
-use denote.Triple.Clauses.{Clauses, Ended, closing}
-use denote.Triple.Entry.{on_entry}
-use denote.Triple.Spec.{Meets, triple_of}
-use denote.Triple.Table.{entered, run_framed}
-use denote.Triple.Walked.{needs, Stays, stay_dropped, stay_ref, walk_of, ends_at, Goes-dropped, Goes-ref, walk_Meets}
 use Rattle.std.proofs.VecSteps.Shapes.{after}
 use Rattle.std.proofs.RcSteps.{word, word-Good}
-use lib.ListN.{length, set, get_or, length-set}
-use types.Kit.{flt_l, flt_i}
+use lib.ListN.{length}
 use types.Run.{bin, size_lit}
 use types.ByLocal.{take_at, give_at}
 use denote.Builtin.{u8, usize}
-use Rattle.vale_page.specs.Cell.{Empty, Link, IsLink}
+use Rattle.vale_page.specs.Cell.{Empty, Link}
 use Rattle.vale_page.proofs.Memory.{args2, st, Cs}
 use Rattle.std.proofs.mem.Param.{El, R}
-use Rattle.std.proofs.ptr.Rows.{times_below, one_below}
-use Rattle.vale_page.specs.Ownership.{room, cell, cells, column_own}
-use Rattle.vale_page.proofs.Memory.{Bs, sz, Place, word_had, says_both, link_within, Besides, cell_out, cell_in}
+use Rattle.vale_page.specs.Ownership.{room, cell}
+use Rattle.vale_page.proofs.Memory.{Bs, link_within}
+use Rattle.vale_page.proofs.ColumnWalks.{spans, around, method_meets, Had, cell_taken, with_cell, column_made, CanTake, takes, taking, Taken, take_ends, take_meets}
 use Rattle.vale_page.specs.contracts.column.Column.take_link.Key.{name as #self}
 use Rattle.vale_page.proofs.column.Column.take_link.Statement as stated
 use Rattle.vale_page.proofs.column.Column.take_link.Code as code
@@ -57,97 +42,46 @@ module _ (E : El) (S : RattleType) where
   abbrev function : Fn
   function = inst_fn (args2 E S) code.function
 
-  abbrev ended : Ended
-  ended = record { signature = record { lifetimes = 1; outlives = []; params = RefMutOf (0 ∷ []) tt (plain (λ _. Cs E S)) (λ _. tt) ∷ plain (λ _. Bs E) ∷ plain (λ _. usize) ∷ []; result = plain (λ _. u8) }; kept = (yes, (no, (no, tt))) }
+module _ (E : El) (S : RattleType) {M : Type 1} {𝓤 : Ura M} (𝓛 : Logic 𝓤) (C : Calls 𝓤 𝓛.H) (Λ : Loops 𝓤 𝓛.H) (κ : Lft) (q : Share) (self : MutBor (Cs E S).Denot) (base : (Bs E).Denot) (index : (usize).Denot) (us0 us1 us2 : List Val) where
+  open 𝓛 use {H}
 
-  abbrev stayed : Stays ended.signature.params ended.kept
-  stayed = (stay_ref (0 ∷ []) tt (plain (λ _. Cs E S)), (stay_dropped (plain (λ _. Bs E)) no, (stay_dropped (plain (λ _. usize)) no, tt)))
+  abbrev rb : ℕ
+  rb = self.ref_ptr.0
 
-  abbrev Asks : (Cs E S).Denot → (Bs E).Denot → (usize).Denot → Type 0
-  Asks d base index = (base.ptr ≡ d.at) × IsLink d.cells index
+  abbrev ro : ℕ
+  ro = self.ref_ptr.1
 
-  abbrev Gives0 : (Cs E S).Denot → (Bs E).Denot → (usize).Denot → ℕ → (Cs E S).Denot → Type 0
-  Gives0 d base index r new = get_or d.cells index Empty ≡ Link r
-
-  abbrev Gives1 : (Cs E S).Denot → (Bs E).Denot → (usize).Denot → ℕ → (Cs E S).Denot → Type 0
-  Gives1 d base index r new = (new.at ≡ d.at) × (new.cells ≡ set d.cells index Empty)
-
-  abbrev spec : {M : Type 1} {𝓤 : Ura M} (𝓛 : Logic 𝓤) → Clauses 𝓤 ended
-  spec {𝓤 = 𝓤} 𝓛 κs a = record { ghost = Unit {0}; requires = λ _. fact 𝓤 (Asks a.0.now a.1.0 a.1.1.0); ensures = λ _ r w. sep 𝓤 (fact 𝓤 (Gives0 a.0.now a.1.0 a.1.1.0 r w.0.now)) (fact 𝓤 (Gives1 a.0.now a.1.0 a.1.1.0 r w.0.now)) }
-
-module _ (E : El) (S : RattleType) {M : Type 1} {𝓤 : Ura M} (𝓛 : Logic 𝓤) (C : Calls 𝓤 𝓛.H) (Λ : Loops 𝓤 𝓛.H) (κ : Lft) (q : Share) (rb ro : ℕ) (γ : GName) (d : (Cs E S).Denot) (base : (Bs E).Denot) (index : (usize).Denot) (us0 us1 us2 : List Val) where
-  open 𝓛 use {H, A}
-
-  abbrev self : MutBor (Cs E S).Denot
-  self = record { ref_ptr = (rb, ro); ghost_name = γ; now = d }
-
-  abbrev bound : (walk_of 𝓛 (ended E S) (stayed E S) (spec E S 𝓛)).Ghost
-  bound = (((κ, tt), (q, tt), tt, (self, (base, (index, tt))), (us0, (us1, (us2, tt)))), tt)
+  abbrev d : (Cs E S).Denot
+  d = self.now
 
   abbrev Post : Val → SProp 𝓤
-  Post = (walk_of 𝓛 (ended E S) (stayed E S) (spec E S 𝓛)).post bound
+  Post = Taken E S u8 Link 𝓛 κ q self base index us0 us1 us2
 
-  exits : us0 ≡ vptr rb ro ∷ [] → (r : ℕ) (v : Val) (new : (Cs E S).Denot) → Gives0 E S d base index r new → Gives1 E S d base index r new → ent 𝓤 (⋆ 𝓛 (‵ (fobs γ ((Cs E S).coded.code new)) ∷ ‵ (fbor κ (Borrowed (mem (Cs E S)) rb ro γ)) ∷ ‵ (flft κ q) ∷ ‵ (u8.own_val r (v ∷ [])) ∷ [])) (Post v)
-  exits passed r v new g0 g1 =
-      qed 𝓛 (‵ (fobs γ ((Cs E S).coded.code new)) ∷ ‵ (fbor κ (Borrowed (mem (Cs E S)) rb ro γ)) ∷ ‵ (flft κ q) ∷ ‵ (u8.own_val r (v ∷ [])) ∷ []) ∵
-      suffices ! _ (ends_at 𝓛 (ended E S) (stayed E S) (spec E S 𝓛) bound v r (new, (tt, (tt, tt))) (tt, (tt, (tt, tt)))) $ says_both ! g0 g1 $
-      nothing ! $ move ! (3 ∷ 0 ∷ []) $ join ! $ frame ! $ feq_i ! (List Val) us0 (vptr rb ro ∷ []) passed $ fjoin3 ! $ nothing ! $ nothing ! $ fjoin ! $ nothing ! $ fjoin ! $ move ! (1 ∷ 0 ∷ []) $ fjoin ! $ done !
-
-  abbrev Had : List (Item 𝓤)
-  Had = ‵ (fobs γ ((Cs E S).coded.code d)) ∷ ‵ (fbor κ (Borrowed (mem (Cs E S)) rb ro γ)) ∷ ‵ (flft κ q) ∷ []
-
-  walk : us0 ≡ vptr rb ro ∷ [] → Asks E S d base index → index < 2 ^ 64 → ent 𝓤 (⋆ 𝓛 Had) (WpFn 𝓤 H C Λ (function E S) (vptr rb ro ∷ word base.ptr ∷ vint w64 index ∷ []) Post)
+  walk : us0 ≡ vptr rb ro ∷ [] → CanTake E S u8 Link d base index → index < 2 ^ 64 → ent 𝓤 (⋆ 𝓛 (Had E S 𝓤 κ q self)) (WpFn 𝓤 H C Λ (function E S) (vptr rb ro ∷ word base.ptr ∷ vint w64 index ∷ []) Post)
   walk passed asked fits_index =
       let n = asked.1.0 in let within = link_within d.cells index n asked.1.1 in
-      let new : (Cs E S).Denot = record { mark = d.mark; at = d.at; cells = set d.cells index Empty } in
-      qed 𝓛 Had ∵ enter ! C Λ (function E S) (vptr rb ro ∷ word base.ptr ∷ vint w64 index ∷ []) _ $ alloc_all ! (λ l. pass_all ! refl ((tt, tt), (word-Good [] base.ptr, ((tt, record { fits = fits_index }), tt))) $
+      let new : (Cs E S).Denot = with_cell E S d index Empty in
+      qed 𝓛 (Had E S 𝓤 κ q self) ∵ enter ! C Λ (function E S) (vptr rb ro ∷ word base.ptr ∷ vint w64 index ∷ []) _ $ alloc_all ! (λ l. pass_all ! refl ((tt, tt), (word-Good [] base.ptr, ((tt, record { fits = fits_index }), tt))) $
       let En : Env 𝓤 H = env (function E S).locals l in
-      opens ! tt (Cs E S) {h = d} rb ro (λ vs. move ! (1 ∷ []) $ fsplit ! $ move ! (1 ∷ []) $
-      in_a_block ! d.at (λ p. column_own (R E) p (st S) d.cells) (id⊢ 𝓤 (never 𝓤)) (λ b o e. fsplit ! $ flt_l ! (λ sized. fsplit ! $ flt_l ! (λ small.
-      let s = st S in let tiny : s < 2 ^ 64 = omega (arith, one_below (length d.cells) s (2 ^ 63) (omega arith) small) in
-      let far : index * s < 2 ^ 64 = omega (arith, times_below index (length d.cells) s (2 ^ 63) (omega arith) small) in
+      opens ! tt (Cs E S) {h = d} rb ro (λ vs. move ! (1 ∷ []) $ cell_taken E S ! d vs index (Link n) within asked.1.1 (λ b o e sized small.
+      let s = st S in let fit = spans (length d.cells) index s within small in
       take_at ! 2 $ rewrite ! 0 (λ (p : Ptr). ‵ (fat full_share (layout (Bs E)) (l 2) 0 (word p))) (asked.0 ∙ e) refl $ give_at ! 2 $ first ! $ blocks ! $
       sets ! (of_opd ! (get_in ! (fld ! refl (stop !)) (sub ! 0 refl (whole !)))) refl (tt, tt) $
-      sets ! (bin ! (get ! refl) (size_lit ! (record { fits = tiny })) (record { fits = far })) refl (tt, record { fits = far }) $
+      sets ! (bin ! (get ! refl) (size_lit ! (record { fits = fit.0 })) (record { fits = fit.1 })) refl (tt, record { fits = fit.1 }) $
       sets ! (bin ! (get ! refl) (get ! refl) tt) refl (tt, tt) $
-      use1 𝓛 (‵ (cell (R E) b (index * s + o) (get_or d.cells index Empty)) ⊛ ‵ (Besides E (st S) 𝓛 b o d.cells index)) (cell_out E (st S) 𝓛 b o d.cells index within) $ split ! $ rewrite ! 0 (λ (c : Place E). ‵ (cell (R E) b (index * s + o) c)) asked.1.1 refl $
       fsplit ! $ well_typed ! (λ good.
       sets_last ! (of_opd ! (load ! (through ! refl (stop !)) (look ! 0 refl))) refl good $
       exec ! C Λ En (after 1 (function E S).body) (at_ret En Post) $ sets ! (of_opd ! (get ! refl)) refl good $
       use1 𝓛 (‵ (froom (ty_int w8) b (index * s + o))) (𝓛.laws.at_room (ty_int w8) b (index * s + o) (vint w8 n)) $
       use2 𝓛 (‵ (cell (R E) b (index * s + o) Empty)) (apply∗ 𝓤 (H.room (ty_int w8) b (index * s + o)) (sem 𝓛 (room (R E) b (index * s + o)))) $
-      use2 𝓛 (‵ (cells (R E) (st S) b o new.cells)) (cell_in E (st S) 𝓛 b o d.cells index within Empty) $
-      flt_i ! (length new.cells * s) (2 ^ 63) (subst (λ k. k * s < 2 ^ 63) (sym (length-set d.cells index Empty)) small) $ fjoin ! $ flt_i ! 0 (sz E) sized $ fjoin ! $
-      rewrite ! 0 (λ (p : Ptr). ‵ (column_own (R E) p s new.cells)) (sym e) refl $ move ! (1 ∷ 0 ∷ []) $ fjoin ! $ move ! (1 ∷ 0 ∷ []) $ closes ! tt (Cs E S) new vs rb ro $
-      returns ! (look_at ! 0 refl) $ free_all ! refl $ keep ! (0 ∷ 1 ∷ 2 ∷ []) $ owned ! u8 _ (uint_Makes 𝓛 w8) n _ (refl, good.1.fits) $ move ! (1 ∷ 2 ∷ 3 ∷ 0 ∷ []) $
-      by ! (exits passed n (vint w8 n) new asked.1.1 (refl, refl))))))))
-
-  entry : Asks E S d base index → ent 𝓤 (on_entry 𝓛 (ended E S).signature (κ, tt) (q, tt) (self, (base, (index, tt))) (us0, (us1, (us2, tt)))) (WpFn 𝓤 H C Λ (function E S) (us0 ++ (us1 ++ (us2 ++ []))) Post)
-  entry asked =
-      qed 𝓛 ((‵ (flft κ q) ⊛ ‵ ftrue) ∷ ‵ (owns (MutRef (named 0) κ (Cs E S) ∷ Bs E ∷ usize ∷ []) (self, (base, (index, tt))) (us0, (us1, (us2, tt)))) ∷ []) ∵
-      split ! $ move ! (2 ∷ []) $
-      fsplit ! $
-      fsplit3 ! $ feq_l ! (λ e0.
-      move ! (2 ∷ []) $
-      fsplit ! $
-      word_had ! base.ptr us1 (λ e1.
-      fsplit ! $
-      fsplit ! $ feq_l ! (λ e2. flt_l ! (λ fits_index.
-      keep ! (1 ∷ 2 ∷ 3 ∷ []) $
-      by ! (subst (λ (ws : List Val × List Val × List Val). ent 𝓤 (⋆ 𝓛 Had) (WpFn 𝓤 H C Λ (function E S) (ws.0 ++ (ws.1 ++ (ws.2 ++ []))) Post)) (λ j. (sym e0 j, sym e1 j, sym e2 j)) (walk e0 asked fits_index))))))
-
-meets : (E : El) (S : RattleType) {M : Type 1} {𝓤 : Ura M} (𝓛 : Logic 𝓤) (𝓣 : Tables 𝓤 𝓛.H)
-    → Meets 𝓛 (ended E S).signature (WpFn 𝓤 𝓛.H 𝓣.C 𝓣.Λ (function E S)) (closing 𝓛 (ended E S) (spec E S 𝓛))
-meets E S {𝓤 = 𝓤} 𝓛 𝓣 =
-    walk_Meets 𝓛 (ended E S) (stayed E S) (Goes-ref 𝓛 1 0 tt (plain (λ _. Cs E S)), (Goes-dropped 𝓛 1 (plain (λ _. Bs E)) no (λ κs x f. refl), (Goes-dropped 𝓛 1 (plain (λ _. usize)) no (λ κs x f. refl), tt))) (spec E S 𝓛) (WpFn 𝓤 𝓛.H 𝓣.C 𝓣.Λ (function E S)) (WpFn-mono 𝓤 𝓛.H 𝓛.laws 𝓣 (function E S))
-    (λ z. needs 𝓤 (Asks E S z.0.3.0.now z.0.3.1.0 z.0.3.1.1.0) _ (entry E S 𝓛 𝓣.C 𝓣.Λ z.0.0.0 z.0.1.0 z.0.3.0.ref_ptr.0 z.0.3.0.ref_ptr.1 z.0.3.0.ghost_name z.0.3.0.now z.0.3.1.0 z.0.3.1.1.0 z.0.4.0 z.0.4.1.0 z.0.4.1.1.0))
+      use3 𝓛 (‵ ((Cs E S).own_val new vs)) (column_made E S 𝓛 d vs index Empty b o within e sized small) $ move ! (1 ∷ 0 ∷ []) $ closes ! tt (Cs E S) new vs rb ro $
+      returns ! (look_at ! 0 refl) $ free_all ! refl $ keep ! (0 ∷ 1 ∷ 2 ∷ []) $ owned ! u8 _ (uint_Makes 𝓛 w8) n _ (refl, good.1.fits) $
+      by ! (take_ends E S u8 Link 𝓛 κ q self base index us0 us1 us2 passed n (vint w8 n) new asked.1.1 (refl, refl))))))
 
 pub take_link_spec : {M : Type 1} → stated.statement M
 unfolding tables_of
 take_link_spec 𝓤 𝓛 𝓜 𝓡 wired X S LX LS y =
     let E : El = record { row = X; laws = LX } in
-    let 𝓣 : Tables 𝓤 𝓛.H = tables_of 𝓤 𝓛.H 𝓜 (tables 𝓤 𝓛.H 𝓜 𝓡 𝓡.env) in
-    let k = #self (args2 E S) in
-    spared 𝓛 (ended E S).signature (𝓡.run (𝓡.env k)) (run_framed 𝓤 𝓛.H 𝓜 𝓡 (𝓡.env k)) 2 (X.lives, (S.lives, tt)) (closing 𝓛 (ended E S) (spec E S 𝓛))
-    (entered 𝓤 𝓛.H (triple_of 𝓛 (ended E S).signature (closing 𝓛 (ended E S) (spec E S 𝓛))) 𝓣.C 𝓣.Λ k (function E S) (code.unfolded 𝓤 𝓛.H 𝓜 𝓡 wired (X, (S, tt))) (meets E S 𝓛 𝓣))
-    ((y.0.0, y.0.1, tt, y.0.3, y.0.4), y.1)
+    let 𝓣 : Tables 𝓤 𝓛.H = around 𝓛 𝓜 𝓡 in
+    method_meets 𝓛 𝓜 𝓡 (taking E S u8 Link) (takes E S u8 Link 𝓛) (#self (args2 E S)) (function E S) (X.lives, (S.lives, tt)) (code.unfolded 𝓤 𝓛.H 𝓜 𝓡 wired (X, (S, tt)))
+    (take_meets E S u8 Link 𝓛 𝓣 (function E S) (walk E S 𝓛 𝓣.C 𝓣.Λ)) ((y.0.0, y.0.1, tt, y.0.3, y.0.4), y.1)
