@@ -1,4 +1,4 @@
-//! The tests of single steps on a program's way: tables of texts, words and codes with what one call gives of each.
+//! The tests of single steps on a program's way: tables of texts and words with what one call gives of each.
 #![tactic(auto)]
 
 #[cfg(test)]
@@ -18,7 +18,5 @@ mod refusal_tests;
 pub mod texts;
 #[cfg(test)]
 mod trap_tests;
-#[cfg(test)]
-mod verifier_tests;
 #[cfg(test)]
 mod words_tests;

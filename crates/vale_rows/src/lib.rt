@@ -1,5 +1,5 @@
 //! The tests of whole calls of `valec`: tables of texts, words and runs with what is expected of them, over the kinds in
-//! memory.
+//! memory; and those of the verifier, which an edit of certificates proves again.
 #![tactic(auto)]
 
 #[cfg(test)]
@@ -10,3 +10,5 @@ mod front_tests;
 mod program_tests;
 #[cfg(test)]
 mod run_tests;
+#[cfg(test)]
+mod verifier_tests;
