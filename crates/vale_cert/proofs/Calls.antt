@@ -100,18 +100,18 @@ module _ (code : Parts) (facts : List FuncFacts) (P : Place code facts) where
   -- ---- methods
 
   -- the object that a method is called of, and the other arguments
-  record Received (kind : Kind) (tys : List Ty) (a : ℕ) (args : List ℕ) (R : Effect) : Type 0 where
-    value : Value
-    name : ℕ
-    is : read f.registers a ≡ Some value
-    named_it : name_of value ≡ Some name
-    names : NameFits code s.world kind name
-    rest : AllPassed code s.world S.known.depth tys args R f.registers
+  pub record Received (kind : Kind) (tys : List Ty) (a : ℕ) (args : List ℕ) (R : Effect) : Type 0 where
+    pub value : Value
+    pub name : ℕ
+    pub is : read f.registers a ≡ Some value
+    pub named_it : name_of value ≡ Some name
+    pub names : NameFits code s.world kind name
+    pub rest : AllPassed code s.world S.known.depth tys args R f.registers
 
-  abbrev found_row : ℕ → Effect
+  abbrev pub found_row : ℕ → Effect
   found_row a = all_fine (finds_alive S.known.depth S.known.regs a)
 
-  received_ref : (kind q : Kind) (tys : List Ty) (a : ℕ) (args : List ℕ) → (q.0 == kind.0) ≡ true → (passes_all S.known.depth tys args (passed S.known.depth a (t.Ref q) (found_row a))).kept.types ≡ true
+  pub received_ref : (kind q : Kind) (tys : List Ty) (a : ℕ) (args : List ℕ) → (q.0 == kind.0) ≡ true → (passes_all S.known.depth tys args (passed S.known.depth a (t.Ref q) (found_row a))).kept.types ≡ true
       → (passes_all S.known.depth tys args (passed S.known.depth a (t.Ref q) (found_row a))).kept.present ≡ true → Received kind tys a args (passed S.known.depth a (t.Ref q) (found_row a))
   received_ref kind q tys a args same_kind e g =
       let narrowed = passed S.known.depth a (t.Ref q) (found_row a) in
@@ -142,7 +142,7 @@ module _ (code : Parts) (facts : List FuncFacts) (P : Place code facts) where
   as_it_was (Some (Truth b)) v e = let x : ⊥ = cc in absurd x
   as_it_was (Some (Text b)) v e = let x : ⊥ = cc in absurd x
 
-  received_frozen : (kind q : Kind) (tys : List Ty) (a : ℕ) (args : List ℕ) → (q.0 == kind.0) ≡ true → (passes_all S.known.depth tys args (passed S.known.depth a (t.Frozen q) (found_row a))).kept.types ≡ true
+  pub received_frozen : (kind q : Kind) (tys : List Ty) (a : ℕ) (args : List ℕ) → (q.0 == kind.0) ≡ true → (passes_all S.known.depth tys args (passed S.known.depth a (t.Frozen q) (found_row a))).kept.types ≡ true
       → (passes_all S.known.depth tys args (passed S.known.depth a (t.Frozen q) (found_row a))).kept.present ≡ true → Received kind tys a args (passed S.known.depth a (t.Frozen q) (found_row a))
   received_frozen kind q tys a args same_kind e g =
       let narrowed = passed S.known.depth a (t.Frozen q) (found_row a) in
@@ -171,7 +171,7 @@ module _ (code : Parts) (facts : List FuncFacts) (P : Place code facts) where
       ((receives_has impl n o x y lives of p.0, subst (λ ys. ArgsFit code s.world ys vs) like h), sym like)
 
   -- what is seen as an interface implements it
-  sees_interface : (kind : Kind) (method n : ℕ) (m : MethodInfo) (o : Object) → method_from (kind_of code kind) method ≡ Some m → object_at s.world n ≡ Some o → kind_fits code o.kind kind ≡ true → is_implemented code.impls kind o.kind ≡ true
+  pub sees_interface : (kind : Kind) (method n : ℕ) (m : MethodInfo) (o : Object) → method_from (kind_of code kind) method ≡ Some m → object_at s.world n ≡ Some o → kind_fits code o.kind kind ≡ true → is_implemented code.impls kind o.kind ≡ true
   sees_interface kind method n m o e lives fits = from (o.kind.0 == kind.0) refl
     where
       no_object : (info : Option KindInfo) (count : ℕ) (tys : List Ty) → method_from info method ≡ Some m → cells_of info count ≡ Some tys → ⊥

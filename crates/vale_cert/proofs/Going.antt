@@ -1,5 +1,5 @@
 -- A function goes on after an instruction of its own: what is known of its registers fits them.
-use Rattle.std.proofs.Common.{◌≡◌, ℕ, ◌+◌, ◌≤◌, List, [], ◌∷◌, ◌++◌, length, Option, Some, None, Bool, true, false, ◌&&◌, if◌then◌else◌, nat_lt, refl, sym, ap, ◌∙◌, subst, arith, length-append, append_assoc}
+use Rattle.std.proofs.Common.{◌≡◌, ℕ, ◌+◌, ◌<◌, ◌≤◌, List, [], ◌∷◌, ◌++◌, length, Option, Some, None, Bool, true, false, ◌&&◌, if◌then◌else◌, nat_lt, refl, sym, ap, ◌∙◌, subst, arith, length-append, append_assoc}
 use Rattle.std.specs.Prelude.{slice_set}
 use Rattle.std.proofs.lemmas.Bool.{and_parts}
 use Rattle.vale_state_spec.specs.State.{State, Answer, gives, traps, fails}
@@ -13,6 +13,7 @@ use Rattle.vale_code.specs.declared.instr.Instr.{Instr}
 use Rattle.vale_code.specs.declared.ty.Ty.{Ty}
 use Rattle.vale_cert.specs.Known as known
 use Rattle.vale_cert.specs.Known.{label_at, may_enter, stated, fact_of, has, is_there}
+use Rattle.vale_cert.specs.Places.{known_at}
 use Rattle.vale_cert.specs.Rules.{Effect}
 use Rattle.vale_cert.specs.Walk.{effect_of, after, enters, next_of, is_place, known_after, walk, goes_on}
 use Rattle.vale_cert.specs.declared.facts.FuncFacts.{FuncFacts}
@@ -20,6 +21,7 @@ use Rattle.vale_cert.specs.declared.facts.Label.{Label}
 use Rattle.vale_cert.specs.declared.facts.RegFact.{RegFact}
 use Rattle.vale_cert.specs.declared.facts.RegFact.TheVariants.{Held}
 use Rattle.vale_cert.proofs.Fit.{value_has, kind_seen, Has, RegsFit, WorldFits, has_plain, owns_nothing, put_fits, agree_fits, reg_value}
+use Rattle.vale_cert.proofs.Placed as placed
 use Rattle.vale_cert.proofs.Heap.{Later, later_same, own, in_regs, put_owns}
 use Rattle.vale_cert.proofs.Values.{Answers, Surely, SurelyNothing}
 use Rattle.vale_cert.proofs.Walks.{Stepped}
@@ -58,30 +60,44 @@ module _ (code : Parts) (facts : List FuncFacts) (P : Place code facts) where
           let same : record { depth = l.depth; regs = l.regs } ≡ S.known = cc in
           subst (λ x. RegsFit code s.world x.regs f.registers) same (agree_fits code s.world l.regs F.known.regs f.registers (and_parts _ _ e).1 F.fits)
 
+  next_place : goes_on instr ≡ true → next_of code F.func F.of.labels F.is_judged.base f.place instr ≡ Some (f.place + 1)
+  next_place on = ap (λ b. if b then Some (f.place + 1) else None) on
+
+  pub inside_next : goes_on instr ≡ true → f.place + 1 < length F.func.body
+  inside_next on = let x : nat_lt (f.place + 1) (length F.func.body) ≡ true = subst (λ o. is_place code F.func F.of.labels F.is_judged.base o ≡ true) (next_place on) S.keeps.next in grind arith
+
+  -- what is known at its place
+  pub states_next : goes_on instr ≡ true → known_at code F.func F.of (f.place + 1) ≡ stated (label_at F.of.labels (f.place + 1)) (Some (after code F.func F.of.labels F.is_judged.base instr S.known))
+  states_next on =
+      placed.known_next code F.func F.of f.place F.before instr instrs S.known (F.split ∙ ap (λ l. F.before ++ l) here) F.at (inside_next on) (F.states ∙ S.is)
+      ∙ ap (λ o. stated (label_at F.of.labels (f.place + 1)) o) (ap (λ b. if b then Some (after code F.func F.of.labels F.is_judged.base instr S.known) else None) on)
+
+  pub enters_next : goes_on instr ≡ true → may_enter (label_at F.of.labels (f.place + 1)) (after code F.func F.of.labels F.is_judged.base instr S.known) ≡ true
+  enters_next on = subst (λ o. enters code F.func F.of.labels F.is_judged.base o (after code F.func F.of.labels F.is_judged.base instr S.known) ≡ true) (next_place on) S.keeps.enters_next
+
   -- the next instruction of the same function
   pub next_active : goes_on instr ≡ true → (w : World) (regs : Registers) → RegsFit code w row.after regs → ActiveFits code facts w ty (record f { place = f.place + 1; registers = regs })
   next_active on w regs fits = record {
     func = F.func;
     of = F.of;
     found = F.found;
+    certified = F.certified;
     quiet = F.quiet;
     is_judged = F.is_judged;
     returns = F.returns;
     known = after code F.func F.of.labels F.is_judged.base instr S.known;
+    states = states_next on;
     fits = fits;
-    enters_here = subst (λ o. enters code F.func F.of.labels F.is_judged.base o (after code F.func F.of.labels F.is_judged.base instr S.known) ≡ true) next S.keeps.enters_next;
+    enters_here = enters_next on;
     before = F.before ++ instr ∷ [];
     rest = instrs;
     split = F.split ∙ ap (λ l. F.before ++ l) here ∙ sym (append_assoc F.before (instr ∷ []) instrs);
     at = length-append F.before (instr ∷ []) ∙ ap (λ n. n + 1) F.at;
-    inside = let x : nat_lt (f.place + 1) (length F.func.body) ≡ true = subst (λ o. is_place code F.func F.of.labels F.is_judged.base o ≡ true) next S.keeps.next in grind arith;
+    inside = inside_next on;
     came = true;
     walks = subst (λ o. walk code F.func F.of.labels F.is_judged.base (f.place + 1) instrs true o ≡ None) known_next S.rest;
   }
     where
-      next : next_of code F.func F.of.labels F.is_judged.base f.place instr ≡ Some (f.place + 1)
-      next = ap (λ b. if b then Some (f.place + 1) else None) on
-
       known_next : known_after code F.func F.of.labels F.is_judged.base instr S.known ≡ Some (after code F.func F.of.labels F.is_judged.base instr S.known)
       known_next = ap (λ b. if b then Some (after code F.func F.of.labels F.is_judged.base instr S.known) else None) on
 

@@ -12,6 +12,7 @@ use Rattle.vale_cert.specs.Walk.{after, enters, has_target, known_after, walk, t
 use Rattle.vale_cert.specs.declared.facts.FuncFacts.{FuncFacts}
 use Rattle.vale_cert.specs.declared.facts.Label.{Label}
 use Rattle.vale_cert.proofs.Fit.{RegsFit, WorldFits}
+use Rattle.vale_cert.proofs.Placed.{known_labelled}
 use Rattle.vale_cert.proofs.Heap.{own_in, in_regs}
 use Rattle.vale_cert.proofs.Walks.{comes}
 use Rattle.vale_cert.proofs.Standing.{Returns, Quiet, StackFits, OwnedBeside, NextFits, with_tick, left_fits}
@@ -48,10 +49,12 @@ module _ (code : Parts) (facts : List FuncFacts) (P : Place code facts) where
               func = F.func;
               of = F.of;
               found = F.found;
+              certified = F.certified;
               quiet = F.quiet;
               is_judged = F.is_judged;
               returns = F.returns;
               known = after code F.func F.of.labels F.is_judged.base instr S.known;
+              states = known_labelled code F.func F.of q l inside g ∙ sym (ap (λ x. stated x (Some (after code F.func F.of.labels F.is_judged.base instr S.known))) g);
               fits = subst (λ x. RegsFit code u.world x f.registers) (sym e) (subst (λ w. RegsFit code w S.known.regs f.registers) (sym same_world) (fits_here code facts P));
               enters_here = may;
               before = c.before;

@@ -1,19 +1,20 @@
-mod Arguments
-mod Calls
-mod Cells
-mod Examples
-mod Fit
-mod Going
-mod Heap
-mod KindLaws
-mod Leaving
-mod Making
-mod Moving
-mod ObjectExamples
-mod Reading
+pub mod Arguments
+pub mod Calls
+pub mod Cells
+pub mod Examples
+pub mod Fit
+pub mod Going
+pub mod Heap
+pub mod KindLaws
+pub mod Leaving
+pub mod Making
+pub mod Moving
+pub mod ObjectExamples
+pub mod Reading
+pub mod Placed
 pub mod Safe
 pub mod Standing
 pub mod Start
-mod Values
+pub mod Values
 pub mod Walks
-mod Writing
+pub mod Writing

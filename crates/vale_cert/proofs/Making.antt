@@ -116,13 +116,13 @@ module _ (code : Parts) (facts : List FuncFacts) (P : Place code facts) where
       subst (λ b. NextFits code facts (if b then makes_it kind to args else wrong s)) (sym few)
       (made_of on to kind args tys (rules.if_types (nat_le (length args) width_limit)) (ap (λ i. cells_of i (length args)) q) e g after)
 
-  record PutAll (tys : List Ty) (tos : List ℕ) (R : Effect) (regs : Registers) (vs : List Value) : Type 0 where
-    got : Registers
-    is : put_all tos vs regs ≡ Some got
-    fits : RegsFit code s.world (puts_all S.known.depth tys tos R).after got
-    fewer : (n : ℕ) → in_regs n got ≤ in_regs n regs + in_values n vs
+  pub record PutAll (tys : List Ty) (tos : List ℕ) (R : Effect) (regs : Registers) (vs : List Value) : Type 0 where
+    pub got : Registers
+    pub is : put_all tos vs regs ≡ Some got
+    pub fits : RegsFit code s.world (puts_all S.known.depth tys tos R).after got
+    pub fewer : (n : ℕ) → in_regs n got ≤ in_regs n regs + in_values n vs
 
-  putting : (tys : List Ty) (tos : List ℕ) (R : Effect) (regs : Registers) (vs : List Value) → RegsFit code s.world R.after regs → ArgsFit code s.world tys vs → (puts_all S.known.depth tys tos R).kept.types ≡ true → PutAll tys tos R regs vs
+  pub putting : (tys : List Ty) (tos : List ℕ) (R : Effect) (regs : Registers) (vs : List Value) → RegsFit code s.world R.after regs → ArgsFit code s.world tys vs → (puts_all S.known.depth tys tos R).kept.types ≡ true → PutAll tys tos R regs vs
   putting [] [] R regs [] fits h e = record { got = regs; is = refl; fits = fits; fewer = λ n. omega arith }
   putting [] [] R regs (v ∷ vs) fits h e = absurd h
   putting [] (to ∷ more) R regs vs fits h e = let x : ⊥ = cc in absurd x
@@ -144,7 +144,7 @@ module _ (code : Parts) (facts : List FuncFacts) (P : Place code facts) where
   puts_present (u ∷ tys) [] R e = e
   puts_present (u ∷ tys) (to ∷ more) R e = (and_parts R.kept.present (known.is_free (fact_of R.after to)) (puts_present tys more (rules.gets S.known.depth R.after to u R.kept) e)).0
 
-  opens_parts : (c : Option (List Ty)) (tos : List ℕ) (R : Effect) → (opens_of S.known.depth c tos R).kept.types ≡ true → (opens_of S.known.depth c tos R).kept.present ≡ true → (R.kept.types ≡ true) × (R.kept.present ≡ true)
+  pub opens_parts : (c : Option (List Ty)) (tos : List ℕ) (R : Effect) → (opens_of S.known.depth c tos R).kept.types ≡ true → (opens_of S.known.depth c tos R).kept.present ≡ true → (R.kept.types ≡ true) × (R.kept.present ≡ true)
   opens_parts None tos R e g = (e, g)
   opens_parts (Some tys) tos R e g = (puts_types tys tos R e, puts_present tys tos R g)
 

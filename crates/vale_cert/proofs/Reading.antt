@@ -95,11 +95,11 @@ module _ (code : Parts) (facts : List FuncFacts) (P : Place code facts) where
 
   -- ---- what is read of a cell
 
-  cell_types : (depth : ℕ) (frozen : Bool) (c : Option Ty) (to : ℕ) (R : Effect) → (reads_cell depth frozen c to R).kept.types ≡ true → R.kept.types ≡ true
+  pub cell_types : (depth : ℕ) (frozen : Bool) (c : Option Ty) (to : ℕ) (R : Effect) → (reads_cell depth frozen c to R).kept.types ≡ true → R.kept.types ≡ true
   cell_types depth frozen None to R e = e
   cell_types depth frozen (Some u) to R e = (and_parts R.kept.types (frozen || not (is_isolate u)) e).0
 
-  cell_present : (depth : ℕ) (frozen : Bool) (c : Option Ty) (to : ℕ) (R : Effect) → (reads_cell depth frozen c to R).kept.present ≡ true → R.kept.present ≡ true
+  pub cell_present : (depth : ℕ) (frozen : Bool) (c : Option Ty) (to : ℕ) (R : Effect) → (reads_cell depth frozen c to R).kept.present ≡ true → R.kept.present ≡ true
   cell_present depth frozen None to R e = e
   cell_present depth frozen (Some u) to R e = (and_parts R.kept.present (known.is_free (fact_of R.after to)) e).0
 

@@ -212,7 +212,7 @@ module _ (code : Parts) (facts : List FuncFacts) where
             (acts cert instr instrs e (stepped code F.func F.of.labels F.is_judged.base f.place instr instrs F.came (Some F.known) w)
             (numbers_at F.before instr instrs (subst (λ l. list_all (numbers code F.func.registers) l ≡ true) whole F.is_judged.numbered)))
 
-  config_step : Certified code facts → (last : Config → State) (ty : Ty) (top : Frame) (below : List Frame) (s : State) → FrameFits code facts s.world ty top → StackFits code facts s.world ty (dest_of top) below → WorldFits code s.world
+  pub config_step : Certified code facts → (last : Config → State) (ty : Ty) (top : Frame) (below : List Frame) (s : State) → FrameFits code facts s.world ty top → StackFits code facts s.world ty (dest_of top) below → WorldFits code s.world
       → OwnedBeside code facts s.world (λ n. in_frame n top) below → NextFits code facts (step_of code last top below s)
   config_step cert last ty (Running f) below s fits st heap owned = step_fits last ty f below s fits st heap owned cert
   config_step cert last ty (Dropping f) below s fits st heap owned = drops_on code facts cert f.rest f below s (subst (λ ty. StackFits code facts s.world ty None below) fits st) heap owned

@@ -25,9 +25,10 @@ use Rattle.vale_code.specs.declared.kind.KindInfo.TheVariants as k
 use Rattle.vale_code.specs.declared.ty.Ty.{Ty}
 use Rattle.vale_code.specs.declared.ty.Ty.TheVariants as t
 use Rattle.vale_cert.specs.Certificate.{Certified}
-use Rattle.vale_cert.specs.Known.{Known, entry, label_at, may_enter, has}
+use Rattle.vale_cert.specs.Known.{Known, entry, label_at, may_enter, stated, has}
 use Rattle.vale_cert.specs.Numbers.{is_text}
 use Rattle.vale_cert.specs.Objects.{cells_of, is_implemented}
+use Rattle.vale_cert.specs.Places.{known_at}
 use Rattle.vale_cert.specs.Shape.{destroys, is_destructor_of, takes_owner, field_is_lawful}
 use Rattle.vale_cert.specs.Types.{is_void}
 use Rattle.vale_cert.specs.Walk.{walk}
@@ -36,6 +37,7 @@ use Rattle.vale_cert.proofs.Cells.{leading, died_fits, object_later}
 use Rattle.vale_cert.proofs.Fit.{kind_is, kind_fits, NameFits, Has, RegsFit, WorldFits, has_later, ArgsFit, entry_fits}
 use Rattle.vale_cert.proofs.Heap.{object_at, Later, later_same, later_later, later_died, later_relabelled, relabelled_each, same, same_self, own, own_in, in_regs, in_values, in_world, in_frame, in_frames, alive, living_is, begun_owns, world_set, alive_died, world_relabelled, alive_relabelled, resume_owns}
 use Rattle.vale_cert.proofs.KindLaws.{kind_lawful}
+use Rattle.vale_cert.proofs.Placed.{known_first}
 use Rattle.vale_cert.proofs.Walks.{reaches, Judged, judged}
 
 -- a value of a result's type, or nothing where that is void
@@ -73,10 +75,12 @@ module _ (code : Parts) (facts : List FuncFacts) where
     pub func : Func
     pub of : FuncFacts
     pub found : slice_get code.funcs f.function ≡ Some func
+    pub certified : slice_get facts f.function ≡ Some of
     pub quiet : Quiet (form_of func.form)
     pub is_judged : Judged code func of
     pub returns : func.result ≡ result_type
     pub known : Known
+    pub states : known_at code func of f.place ≡ stated (label_at of.labels f.place) (Some known)
     pub fits : RegsFit code w known.regs f.registers
     pub enters_here : may_enter (label_at of.labels f.place) known ≡ true
     pub before : List Instr
@@ -147,7 +151,7 @@ module _ (code : Parts) (facts : List FuncFacts) where
     owned = subst (λ w. OwnedBeside w (λ n. in_regs n (registers_for func.registers vs)) frames) (sym same_world) (λ n. let x = owned n in let y = begun_owns n func.registers vs in omega (arith, x, y));
   }
     where
-      is : (of : FuncFacts) × Judged code func of
+      is : (of : FuncFacts) × Judged code func of × (slice_get facts g ≡ Some of)
       is = judged code facts cert g func found
 
       top : ActiveFits w func.result (record { call = call; function = g; dest = dest; place = 0; registers = registers_for func.registers vs })
@@ -155,10 +159,12 @@ module _ (code : Parts) (facts : List FuncFacts) where
         func = func;
         of = is.0;
         found = found;
+        certified = is.2;
         quiet = quiet;
         is_judged = is.1;
         returns = refl;
         known = entry func is.0;
+        states = known_first code func is.0 is.1.some;
         fits = entry_fits code w func.registers _ is.0.live func.params vs has;
         enters_here = is.1.enters;
         before = [];

@@ -259,7 +259,7 @@ module _ (code : Parts) (facts : List FuncFacts) (cert : Certified code facts) w
       record { of = s.of; found = s.found; head = d.0; body = d.1; labels = b.1; main = a.1 }
 
   -- each function is judged
-  pub judged : (n : ℕ) (f : Func) → slice_get code.funcs n ≡ Some f → (of : FuncFacts) × Judged code f of
+  pub judged : (n : ℕ) (f : Func) → slice_get code.funcs n ≡ Some f → (of : FuncFacts) × Judged code f of × (slice_get facts n ≡ Some of)
   judged n f h =
       let s = lawful n f h in
       let w = walked code 0 n code.funcs facts f s.of parts.1 h s.found in
@@ -279,6 +279,7 @@ module _ (code : Parts) (facts : List FuncFacts) (cert : Certified code facts) w
           enters = came_in_whole code f s.of.labels w.0 f.body may (Some (entry f s.of)) some r.1;
           walks = r.1;
         },
+        s.found,
       )
 
   -- function `main` has the form that it must have

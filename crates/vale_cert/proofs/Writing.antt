@@ -37,19 +37,19 @@ module _ (code : Parts) (facts : List FuncFacts) (P : Place code facts) where
 
   -- ---- what is written to a cell
 
-  record SwapFound (u : Ty) (to b : ℕ) (after : List RegFact) : Type 0 where
-    took_it : Took code s.world u S.known.regs b f.registers
-    after_is : after ≡ slice_set (after_passing S.known.regs b u) to (Held u S.known.depth false)
+  pub record SwapFound (u : Ty) (to b : ℕ) (after : List RegFact) : Type 0 where
+    pub took_it : Took code s.world u S.known.regs b f.registers
+    pub after_is : after ≡ slice_set (after_passing S.known.regs b u) to (Held u S.known.depth false)
 
-  swap_types : (c : Option Ty) (to b : ℕ) (L : Kept) → (swaps S.known.depth S.known.regs c to b L).kept.types ≡ true → L.types ≡ true
+  pub swap_types : (c : Option Ty) (to b : ℕ) (L : Kept) → (swaps S.known.depth S.known.regs c to b L).kept.types ≡ true → L.types ≡ true
   swap_types None to b L e = e
   swap_types (Some u) to b L e = (and_parts L.types (has u (fact_of S.known.regs b)) e).0
 
-  swap_present : (c : Option Ty) (to b : ℕ) (L : Kept) → (swaps S.known.depth S.known.regs c to b L).kept.present ≡ true → L.present ≡ true
+  pub swap_present : (c : Option Ty) (to b : ℕ) (L : Kept) → (swaps S.known.depth S.known.regs c to b L).kept.present ≡ true → L.present ≡ true
   swap_present None to b L e = e
   swap_present (Some u) to b L e = (and_parts L.present (is_there (fact_of S.known.regs b)) (and_parts (L.present && is_there (fact_of S.known.regs b)) (known.is_free (fact_of (after_passing S.known.regs b u) to)) e).0).0
 
-  swap_found : (c : Option Ty) (u : Ty) (to b : ℕ) (L : Kept) → c ≡ Some u → (swaps S.known.depth S.known.regs c to b L).kept.types ≡ true → (swaps S.known.depth S.known.regs c to b L).kept.present ≡ true
+  pub swap_found : (c : Option Ty) (u : Ty) (to b : ℕ) (L : Kept) → c ≡ Some u → (swaps S.known.depth S.known.regs c to b L).kept.types ≡ true → (swaps S.known.depth S.known.regs c to b L).kept.present ≡ true
       → (row code facts P).after ≡ (swaps S.known.depth S.known.regs c to b L).after → SwapFound u to b (row code facts P).after
   swap_found c u to b L is e g after =
       let types : (swaps S.known.depth S.known.regs (Some u) to b L).kept.types ≡ true = subst (λ c. (swaps S.known.depth S.known.regs c to b L).kept.types ≡ true) is e in
@@ -172,7 +172,7 @@ module _ (code : Parts) (facts : List FuncFacts) (P : Place code facts) where
       stores on to b w.cell F w.name o i old lives q (each_at code s.world w.cell o.values i old ar.values q)
       (array_written w.cell o (slice_set o.values i F.took_it.value) ar (each_set code s.world w.cell o.values i F.took_it.value ar.values F.took_it.has)))))))
 
-  fill_parts : (c : Option Ty) (b : ℕ) (L : Kept) → (pushes S.known.depth S.known.regs c b L).kept.types ≡ true → (pushes S.known.depth S.known.regs c b L).kept.present ≡ true → (L.types ≡ true) × (L.present ≡ true)
+  pub fill_parts : (c : Option Ty) (b : ℕ) (L : Kept) → (pushes S.known.depth S.known.regs c b L).kept.types ≡ true → (pushes S.known.depth S.known.regs c b L).kept.present ≡ true → (L.types ≡ true) × (L.present ≡ true)
   fill_parts None b L e g = (e, g)
   fill_parts (Some u) b L e g = ((and_parts L.types (has u (fact_of S.known.regs b)) e).0, (and_parts L.present (is_there (fact_of S.known.regs b)) g).0)
 
@@ -203,7 +203,7 @@ module _ (code : Parts) (facts : List FuncFacts) (P : Place code facts) where
           (subst (λ x. RegsFit code s.world x (kept b v.value f.registers)) (sym after) v.fits)
           (λ m. let x = v.owned m in let y = values_append m o.values v.value in omega (arith, x, y))
 
-  back_parts : (c : Option Ty) (to : ℕ) (L : Kept) → (pops S.known.depth S.known.regs c to L).kept.types ≡ true → (pops S.known.depth S.known.regs c to L).kept.present ≡ true → (L.types ≡ true) × (L.present ≡ true)
+  pub back_parts : (c : Option Ty) (to : ℕ) (L : Kept) → (pops S.known.depth S.known.regs c to L).kept.types ≡ true → (pops S.known.depth S.known.regs c to L).kept.present ≡ true → (L.types ≡ true) × (L.present ≡ true)
   back_parts None to L e g = (e, g)
   back_parts (Some u) to L e g = (e, (and_parts L.present (known.is_free (fact_of S.known.regs to)) g).0)
 

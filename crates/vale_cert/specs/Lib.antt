@@ -3,6 +3,7 @@ pub mod Input
 pub mod Known
 pub mod Numbers
 pub mod Objects
+pub mod Places
 pub mod Rules
 pub mod Shape
 pub mod Small

@@ -28,14 +28,16 @@ use Rattle.vale_region_laws.proofs.Worlds.{region_is}
 
 -- ---- what a step leads to
 
--- the function goes on, over these frames, where so many freezes are open
+-- the function goes on at a place, over these frames, where so many freezes are open
 pub record Around : Type 0 where
   pub function : ℕ
+  pub dest : Option ℕ
+  pub place : ℕ
   pub below : List Frame
   pub opened : ℕ
 
 abbrev pub TopFits : Around → Marks → List Holder → Frame → List Frame → State → Type 0
-TopFits r ms hs (Running g) fs t = (home : Homes) × FitsAt home (in_registers ms g.registers hs) t × (g.function ≡ r.function) × (fs ≡ r.below) × (t.regions ≡ r.opened)
+TopFits r ms hs (Running g) fs t = (home : Homes) × FitsAt home (in_registers ms g.registers hs) t × (g.function ≡ r.function) × (g.dest ≡ r.dest) × (g.place ≡ r.place) × (fs ≡ r.below) × (t.regions ≡ r.opened)
 TopFits r ms hs (Dropping g) fs t = ⊥
 TopFits r ms hs (Looping g) fs t = ⊥
 TopFits r ms hs (Alone v) fs t = ⊥
@@ -170,7 +172,7 @@ thaw_at P c r e x = subst (λ r. P r (r - 1)) (sym e) (subst (P (suc c)) (let y 
 module _ (code : Parts) (last : Config → State) (f : Active) (below : List Frame) (s : State) (home : Homes) (hs : List Holder) (ms : Marks) (fits : FitsAt home (in_registers ms f.registers hs) s) where
   -- so many are open after it
   abbrev at_depth : ℕ → Around
-  at_depth d = record { function = f.function; below = below; opened = d }
+  at_depth d = record { function = f.function; dest = f.dest; place = f.place + 1; below = below; opened = d }
 
   abbrev r : Around
   r = at_depth s.regions
@@ -178,10 +180,10 @@ module _ (code : Parts) (last : Config → State) (f : Active) (below : List Fra
   -- ---- values and references
 
   pub int_next : (to : ℕ) (n : ℤ) → NextFits_ r (put_mark ms to (Some (Held s.regions))) hs (act code last f below s (i.Int to n))
-  int_next to n = (home, give_fits home hs s to (Held s.regions) (Int n) ms f.registers (add_fits home hs s (Held s.regions) (Int n) _ (λ k. refl) (omega arith, tt) fits), refl, refl, refl)
+  int_next to n = (home, give_fits home hs s to (Held s.regions) (Int n) ms f.registers (add_fits home hs s (Held s.regions) (Int n) _ (λ k. refl) (omega arith, tt) fits), refl, refl, refl, refl, refl)
 
   copies_to : (to : ℕ) (how : How) (v : Value) → ((n : ℕ) → own n v ≡ 0) → HolderFits home s.world s.regions (held_as how v) → NextFits_ r (put_mark ms to (Some how)) hs (onward f (put f.registers to (Some v)) below s)
-  copies_to to how v none x = (home, give_fits home hs s to how v ms f.registers (add_fits home hs s how v _ none x fits), refl, refl, refl)
+  copies_to to how v none x = (home, give_fits home hs s to how v ms f.registers (add_fits home hs s how v _ none x fits), refl, refl, refl, refl, refl)
 
   -- a reference `&X` or a value of this depth
   pub copy_held_next : (to a : ℕ) (v : Value) → mark ms a ≡ Some (Held s.regions) → read f.registers a ≡ Some v → NextFits_ r (put_mark ms to (Some (Held s.regions))) hs (act code last f below s (i.Copy to a))
@@ -212,8 +214,8 @@ module _ (code : Parts) (last : Config → State) (f : Active) (below : List Fra
   move_next to a v m e = one_is _ _ hs s _ v _ e (at v e)
     where
       at : (v : Value) → read f.registers a ≡ Some v → NextFits_ r (put_mark (put_mark ms a None) to (Some (Held s.regions))) hs (gets f to (moved v) (put f.registers a None) below s)
-      at (Own n) e = (home, give_fits home hs s to (Held s.regions) (Own n) _ _ (take_fits home hs s a (Held s.regions) (Own n) ms f.registers None m e fits), refl, refl, refl)
-      at (Iso n) e = (home, give_fits home hs s to (Held s.regions) (Iso n) _ _ (take_fits home hs s a (Held s.regions) (Iso n) ms f.registers None m e fits), refl, refl, refl)
+      at (Own n) e = (home, give_fits home hs s to (Held s.regions) (Own n) _ _ (take_fits home hs s a (Held s.regions) (Own n) ms f.registers None m e fits), refl, refl, refl, refl, refl)
+      at (Iso n) e = (home, give_fits home hs s to (Held s.regions) (Iso n) _ _ (take_fits home hs s a (Held s.regions) (Iso n) ms f.registers None m e fits), refl, refl, refl, refl, refl)
       at (Ref n) e = tt
       at (Int n) e = tt
       at (Truth n) e = tt
@@ -247,9 +249,9 @@ module _ (code : Parts) (last : Config → State) (f : Active) (below : List Fra
   upcast_held_next to a kind v m e = one_is _ _ hs s _ v _ e (at v e)
     where
       at : (v : Value) → read f.registers a ≡ Some v → NextFits_ r (put_mark (taken a v ms) to (Some (Held s.regions))) hs (gets f to (leading v) (kept_from a v f.registers) below s)
-      at (Own n) e = (home, give_fits home hs s to (Held s.regions) (Own n) _ _ (keep_fits home hs s a (Held s.regions) (Own n) ms f.registers m e fits), refl, refl, refl)
-      at (Iso n) e = (home, give_fits home hs s to (Held s.regions) (Iso n) _ _ (keep_fits home hs s a (Held s.regions) (Iso n) ms f.registers m e fits), refl, refl, refl)
-      at (Ref n) e = (home, give_fits home hs s to (Held s.regions) (Ref n) _ _ (keep_fits home hs s a (Held s.regions) (Ref n) ms f.registers m e fits), refl, refl, refl)
+      at (Own n) e = (home, give_fits home hs s to (Held s.regions) (Own n) _ _ (keep_fits home hs s a (Held s.regions) (Own n) ms f.registers m e fits), refl, refl, refl, refl, refl)
+      at (Iso n) e = (home, give_fits home hs s to (Held s.regions) (Iso n) _ _ (keep_fits home hs s a (Held s.regions) (Iso n) ms f.registers m e fits), refl, refl, refl, refl, refl)
+      at (Ref n) e = (home, give_fits home hs s to (Held s.regions) (Ref n) _ _ (keep_fits home hs s a (Held s.regions) (Ref n) ms f.registers m e fits), refl, refl, refl, refl, refl)
       at (Int n) e = tt
       at (Truth n) e = tt
       at (Text n) e = tt
@@ -350,14 +352,14 @@ module _ (code : Parts) (last : Config → State) (f : Active) (below : List Fra
   length_out v = on_found (PlainOut s) v s _ (λ n o e l. (tt, refl))
 
   -- the registers stay
-  pub stays_next : (t : State) → t.world ≡ s.world → t.regions ≡ s.regions → (p : ℕ) → NextFits_ r ms hs (at_place f p below t)
-  stays_next t w e p = (home, subst (λ v. Fits (scene home (in_registers ms f.registers hs) v t.regions)) (sym w) (subst (λ c. Fits (scene home (in_registers ms f.registers hs) s.world c)) (sym e) fits), refl, refl, e)
+  pub stays_next : (t : State) → t.world ≡ s.world → t.regions ≡ s.regions → (p : ℕ) → NextFits_ (record { function = f.function; dest = f.dest; place = p; below = below; opened = s.regions }) ms hs (at_place f p below t)
+  stays_next t w e p = (home, subst (λ v. Fits (scene home (in_registers ms f.registers hs) v t.regions)) (sym w) (subst (λ c. Fits (scene home (in_registers ms f.registers hs) s.world c)) (sym e) fits), refl, refl, refl, refl, e)
 
   -- ---- writing
 
   comes_out : (to : ℕ) (ns : Marks) (regs : Registers) (v : Option Value) (t : State) → ComesOut home s.regions (in_registers ns regs hs) v t → NextFits_ r (put_mark ns to (Some (Held s.regions))) hs (onward f (with_result (Some to) v regs) below t)
   comes_out to ns regs None t p = absurd p
-  comes_out to ns regs (Some v) t p = (home, give_fits home hs t to (Held s.regions) v ns regs p.0, refl, refl, p.1)
+  comes_out to ns regs (Some v) t p = (home, give_fits home hs t to (Held s.regions) v ns regs p.0, refl, refl, refl, refl, p.1)
 
   pub push_next : (a b : ℕ) (at : Spot) (v new : Value) → mark ms a ≡ Some (Held s.regions) → IsNoIso v → (mark ms b ≡ Some (Held s.regions)) ⊎ IsPlain new → read f.registers a ≡ Some v → read f.registers b ≡ Some new
       → NextFits_ r (taken b new ms) hs (act code last f below s (i.Push a b at))
@@ -367,7 +369,7 @@ module _ (code : Parts) (last : Config → State) (f : Active) (below : List Fra
       nothing)
     where
       nothing : (u : Option Value) (t : State) → NothingOut home s.regions (in_registers (taken b new ms) (kept_from b new f.registers) hs) u t → NextFits_ r (taken b new ms) hs (onward f (with_result None u (kept_from b new f.registers)) below t)
-      nothing None t p = (home, p.0, refl, refl, p.1)
+      nothing None t p = (home, p.0, refl, refl, refl, refl, p.1)
       nothing (Some u) t p = absurd p
 
   pub pop_next : (to a : ℕ) (at : Spot) (v : Value) → mark ms a ≡ Some (Held s.regions) → IsNoIso v → read f.registers a ≡ Some v
@@ -427,7 +429,7 @@ module _ (code : Parts) (last : Config → State) (f : Active) (below : List Fra
       → ((t : State) → FitsAt home (holding_all s.regions o.values (in_registers (put_mark ms a None) (put f.registers a None) hs)) t → FitsAt home (in_registers ns regs hs) t)
       → NextFits_ r ns hs (act code last f below s (i.Open to a))
   opened_next to a n o regs ns m e g p put_them = owner_is _ _ hs s _ n _ e (choice_is _ ns hs s (object_of n s) o _ g (registers_are _ ns hs s _ regs _ p (ticked_next ns hs s.left _ (λ u w e.
-      (home, put_them (dies n u) (there u w e), refl, refl, e)))))
+      (home, put_them (dies n u) (there u w e), refl, refl, refl, refl, e)))))
     where
       there : (u : State) → u.world ≡ s.world → u.regions ≡ s.regions → FitsAt home (holding_all s.regions o.values (in_registers (put_mark ms a None) (put f.registers a None) hs)) (dies n u)
       there u w e' =
@@ -444,7 +446,7 @@ module _ (code : Parts) (last : Config → State) (f : Active) (below : List Fra
       more = omega arith
 
       open_or_trap : (b : Bool) → NextFits_ (at_depth (suc s.regions)) ms hs (if b then onward f f.registers below (freeze s) else trap Rattle.vale_base.specs.declared.trap.TrapKind.TheVariants.CallDepth at (Running f ∷ below) s)
-      open_or_trap true = (home, subst (λ c. Fits (scene home (in_registers ms f.registers hs) s.world c)) more (opens_fits home (in_registers ms f.registers hs) s.world s.regions fits), refl, refl, sym more)
+      open_or_trap true = (home, subst (λ c. Fits (scene home (in_registers ms f.registers hs) s.world c)) more (opens_fits home (in_registers ms f.registers hs) s.world s.regions fits), refl, refl, refl, refl, sym more)
       open_or_trap false = tt
 
   module _ (d : ℕ) (e : s.regions ≡ suc d) where
@@ -465,6 +467,8 @@ module _ (code : Parts) (last : Config → State) (f : Active) (below : List Fra
           (merged_fits home (in_registers (put_mark ms a None) (put f.registers a None) hs) s.world d n leave (inner a (Own n) m g)))),
       refl,
       refl,
+      refl,
+      refl,
       so_many,
     )
 
@@ -479,6 +483,8 @@ module _ (code : Parts) (last : Config → State) (f : Active) (below : List Fra
           (kept_fits home (in_registers (put_mark ms a None) (put f.registers a None) hs) s.world d n leave (inner a (Own n) m g) flat))),
       refl,
       refl,
+      refl,
+      refl,
       so_many,
     )
 
@@ -488,6 +494,8 @@ module _ (code : Parts) (last : Config → State) (f : Active) (below : List Fra
       thaw_at (λ r c. Fits (scene (lowered_home d home) (in_registers (lower_marks d ms) f.registers (lower_all d hs)) (Rattle.vale_state_spec.specs.World.cleared (Freeze r) s.world) c)) d s.regions e
           (subst (λ gs. Fits (scene (lowered_home d home) gs (Rattle.vale_state_spec.specs.World.cleared (Freeze (suc d)) s.world) d)) (registers_lowered d ms f.registers hs)
           (cleared_fits home (in_registers ms f.registers hs) s.world d leave (subst (λ c. Fits (scene home (in_registers ms f.registers hs) s.world c)) e fits))),
+      refl,
+      refl,
       refl,
       refl,
       so_many,

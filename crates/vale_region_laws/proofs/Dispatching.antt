@@ -99,13 +99,13 @@ module _ (code : Parts) (last : Config → State) (f : Active) (below : List Fra
     first : Holder
     first = held_as r.how (Ref n)
 
-    behind : FitsAt x.home (in_registers x.top.marks f.registers (held_as r.how (Ref n) ∷ in_frames x.marks below)) s
+    pub behind : FitsAt x.home (in_registers x.top.marks f.registers (held_as r.how (Ref n) ∷ in_frames x.marks below)) s
     behind =
         let m = moves_registers (held_as r.how (Ref n)) x.top.marks f.registers (in_frames x.marks below) (held_as r.how (Ref n) ∷ in_frames x.marks below) (moves_first (held_as r.how (Ref n)) (in_frames x.marks below)) in
         let added = add_fits x.home (in_frames x.marks below) s r.how (Ref n) (in_registers x.top.marks f.registers (in_frames x.marks below)) (λ k. refl) r.fits x.fits in
         held_fits x.home _ (in_registers x.top.marks f.registers (held_as r.how (Ref n) ∷ in_frames x.marks below)) s.world s.regions (λ n. let y = m.counts n in omega (arith, y)) (m.goes _ added.holders.0 added.holders.1) added
 
-    front : (home : Homes) (ps : List How) (vs : List Value) (ns : Marks) (after : Registers) → FitsAt home (in_args ps vs (in_registers ns after (held_as r.how (Ref n) ∷ in_frames x.marks below))) s
+    pub front : (home : Homes) (ps : List How) (vs : List Value) (ns : Marks) (after : Registers) → FitsAt home (in_args ps vs (in_registers ns after (held_as r.how (Ref n) ∷ in_frames x.marks below))) s
         → FitsAt home (held_as r.how (Ref n) ∷ in_args ps vs (in_registers ns after (in_frames x.marks below))) s
     front home ps vs ns after y =
         let m = moves_args (held_as r.how (Ref n)) ps vs (in_registers ns after (in_frames x.marks below)) (in_registers ns after (held_as r.how (Ref n) ∷ in_frames x.marks below))

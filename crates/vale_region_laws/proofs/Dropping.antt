@@ -21,7 +21,7 @@ use Rattle.vale_region_laws.proofs.Relabelling.{joined_fits}
 use Rattle.vale_region_laws.proofs.States.{FitsAt, dies_fits}
 
 -- the first of some values that is owned, and those after it
-first_counts : (n : ℕ) (vs : List Value) (o : Owned) → first_owned vs ≡ Some o → own n o.first + in_values n o.rest ≤ in_values n vs
+pub first_counts : (n : ℕ) (vs : List Value) (o : Owned) → first_owned vs ≡ Some o → own n o.first + in_values n o.rest ≤ in_values n vs
 first_counts n [] o e = let x : ⊥ = cc in absurd x
 first_counts n (Own m ∷ vs) o e = let q : record { first = Own m; rest = vs } ≡ o = some_is _ _ e in subst (λ o. own n o.first + in_values n o.rest ≤ own n (Own m) + in_values n vs) q (omega arith)
   where
@@ -36,7 +36,7 @@ first_counts n (Int m ∷ vs) o e = let x = first_counts n vs o e in omega (arit
 first_counts n (Truth m ∷ vs) o e = let x = first_counts n vs o e in omega (arith, x)
 first_counts n (Text m ∷ vs) o e = let x = first_counts n vs o e in omega (arith, x)
 
-first_each : (P : Holder → Type 0) (a : ℕ) (hs : List Holder) (vs : List Value) (o : Owned) → first_owned vs ≡ Some o → Each P (holding_all a vs hs) → P (holding a o.first) × Each P (holding_all a o.rest hs)
+pub first_each : (P : Holder → Type 0) (a : ℕ) (hs : List Holder) (vs : List Value) (o : Owned) → first_owned vs ≡ Some o → Each P (holding_all a vs hs) → P (holding a o.first) × Each P (holding_all a o.rest hs)
 first_each P a hs [] o e x = let y : ⊥ = cc in absurd y
 first_each P a hs (Own m ∷ vs) o e x = let q : record { first = Own m; rest = vs } ≡ o = some_is _ _ e in subst (λ o. P (holding a o.first) × Each P (holding_all a o.rest hs)) q (x.0, x.1)
   where
@@ -51,7 +51,7 @@ first_each P a hs (Int m ∷ vs) o e x = first_each P a hs vs o e x.1
 first_each P a hs (Truth m ∷ vs) o e x = first_each P a hs vs o e x.1
 first_each P a hs (Text m ∷ vs) o e x = first_each P a hs vs o e x.1
 
-rest_of_all : (P : Holder → Type 0) (a : ℕ) (vs : List Value) (hs : List Holder) → Each P (holding_all a vs hs) → Each P hs
+pub rest_of_all : (P : Holder → Type 0) (a : ℕ) (vs : List Value) (hs : List Holder) → Each P (holding_all a vs hs) → Each P hs
 rest_of_all P a [] hs x = x
 rest_of_all P a (v ∷ vs) hs x = rest_of_all P a vs hs x.1
 

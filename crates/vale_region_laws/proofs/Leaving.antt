@@ -84,11 +84,11 @@ module _ (code : Parts) (last : Config → State) (f : Active) (below : List Fra
   -- ---- the end of a function: at depth 0, where so many freezes are open as at its begin
 
   -- what comes out, alone
-  value_alone : (a : ℕ) (how : How) (v : Value) → mark x.top.marks a ≡ Some how → read f.registers a ≡ Some v → FitsAt x.home (held_as how v ∷ in_frames x.marks below) s
+  pub value_alone : (a : ℕ) (how : How) (v : Value) → mark x.top.marks a ≡ Some how → read f.registers a ≡ Some v → FitsAt x.home (held_as how v ∷ in_frames x.marks below) s
   value_alone a how v m e = drop_fits x.home _ _ s (after_first (held_as how v) _ _ (registers_behind (put_mark x.top.marks a None) (put f.registers a None) (in_frames x.marks below)))
       (take_fits x.home (in_frames x.marks below) s a how v x.top.marks f.registers None m e x.fits)
 
-  nothing_left : FitsAt x.home (in_frames x.marks below) s
+  pub nothing_left : FitsAt x.home (in_frames x.marks below) s
   nothing_left = drop_fits x.home _ _ s (registers_behind x.top.marks f.registers (in_frames x.marks below)) x.fits
 
   pub ret_next : (a : ℕ) (v : Value) → base_of x.stack.1 x.stack.2 ≡ s.regions → (mark x.top.marks a ≡ Some (Held s.regions)) ⊎ IsPlain v → read f.registers a ≡ Some v

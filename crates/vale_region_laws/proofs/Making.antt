@@ -46,7 +46,7 @@ all_stored s home rs ms regs vs ns after hs (one_more r rs' _ _ v vs' _ _ e m re
 
 module _ (code : Parts) (last : Config → State) (f : Active) (below : List Frame) (s : State) (home : Homes) (hs : List Holder) (ms : Marks) (fits : FitsAt home (in_registers ms f.registers hs) s) where
   abbrev r : Around
-  r = record { function = f.function; below = below; opened = s.regions }
+  r = record { function = f.function; dest = f.dest; place = f.place + 1; below = below; opened = s.regions }
 
   pub make_next : (to : ℕ) (kind : Kind) (args : List ℕ) (vs : List Value) (ns : Marks) (after : Registers) → StoreAll s.regions args ms f.registers vs ns after
       → NextFits_ r (put_mark ns to (Some (Held s.regions))) hs (act code last f below s (i.Make to kind args))
@@ -58,6 +58,8 @@ module _ (code : Parts) (last : Config → State) (f : Active) (below : List Fra
         home,
         give_fits home hs (born kind vs (record s { left = n; spent = s.spent + 1 })) to (Held s.regions) (Own (next_name s.world)) ns after
             (make_fits home (in_registers ns after hs) (record s { left = n; spent = s.spent + 1 }) kind vs (all_stored s home args ms f.registers vs ns after hs st fits)),
+        refl,
+        refl,
         refl,
         refl,
         born_regions kind vs (record s { left = n; spent = s.spent + 1 }),

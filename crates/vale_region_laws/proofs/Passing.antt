@@ -175,7 +175,7 @@ taken_under r b a (Int n) ms x = x
 taken_under r b a (Truth n) ms x = x
 taken_under r b a (Text n) ms x = x
 
-given_under : (r b : ℕ) (ty : Ty) (a : ℕ) (v : Value) (ms : Marks) → Each (MarkUnder r b) ms → Each (MarkUnder r b) (given_marks ty a v ms)
+pub given_under : (r b : ℕ) (ty : Ty) (a : ℕ) (v : Value) (ms : Marks) → Each (MarkUnder r b) ms → Each (MarkUnder r b) (given_marks ty a v ms)
 given_under r b (t.Frozen k) a v ms x = x
 given_under r b t.Void a v ms x = taken_under r b a v ms x
 given_under r b t.Int a v ms x = taken_under r b a v ms x

@@ -30,15 +30,15 @@ texts_plain : (ts : List (List ℕ)) → Each IsPlain (texts ts)
 texts_plain [] = tt
 texts_plain (u ∷ ts) = (tt, texts_plain ts)
 
-plain_fits : (home : Homes) (s : State) (vs : List Value) → Each IsPlain vs → FitsAt home [] s → FitsAt home (holding_all s.regions vs []) s
+pub plain_fits : (home : Homes) (s : State) (vs : List Value) → Each IsPlain vs → FitsAt home [] s → FitsAt home (holding_all s.regions vs []) s
 plain_fits home s [] h f = f
 plain_fits home s (v ∷ vs) h f = add_fits home [] s (Held s.regions) v (holding_all s.regions vs []) (plain_owns v h.0) (omega arith, plain_held home s.world s.regions v h.0) (plain_fits home s vs h.1 f)
 
-abbrev ArePlain : Option (List Value) → Type 0
+abbrev pub ArePlain : Option (List Value) → Type 0
 ArePlain None = Unit {0}
 ArePlain (Some vs) = Each IsPlain vs
 
-given_plain : (input : Given) → ArePlain (given input)
+pub given_plain : (input : Given) → ArePlain (given input)
 given_plain no_input = tt
 given_plain (numbers zs) = ints_plain zs
 given_plain (lines ts) = texts_plain ts

@@ -48,7 +48,7 @@ abbrev pub marks_put : ℕ → List ℕ → Marks → Marks
 marks_put c [] ms = ms
 marks_put c (r ∷ rs) ms = marks_put c rs (put_mark ms r (Some (Held c)))
 
-put_all_fits : (c : ℕ) (rs : List ℕ) (vs : List Value) (ms : Marks) (regs after : Registers) (hs : List Holder) → put_all rs vs regs ≡ Some after → Behind (holding_all c vs (in_registers ms regs hs)) (in_registers (marks_put c rs ms) after hs)
+pub put_all_fits : (c : ℕ) (rs : List ℕ) (vs : List Value) (ms : Marks) (regs after : Registers) (hs : List Holder) → put_all rs vs regs ≡ Some after → Behind (holding_all c vs (in_registers ms regs hs)) (in_registers (marks_put c rs ms) after hs)
 put_all_fits c [] [] ms regs after hs e = let q : regs ≡ after = cc in subst (λ a. Behind (in_registers ms regs hs) (in_registers ms a hs)) q (behind_same (in_registers ms regs hs))
 put_all_fits c [] (v ∷ vs) ms regs after hs e = let y : ⊥ = cc in absurd y
 put_all_fits c (r ∷ rs) [] ms regs after hs e = let y : ⊥ = cc in absurd y
@@ -59,7 +59,7 @@ put_all_fits c (r ∷ rs) (v ∷ vs) ms regs after hs e =
     (record { counts = λ n. give_counts n r (Held c) v ms regs hs; each = λ P x. give_each P r (Held c) v ms regs hs (rest_each P ms regs hs x.1) x.0 x.1 }))
     (put_all_fits c rs vs (put_mark ms r (Some (Held c))) (put regs r (Some v)) after hs e))
 
-marks_put_under : (c : ℕ) (rs : List ℕ) (ms : Marks) → Each (MarkUnder c c) ms → Each (MarkUnder c c) (marks_put c rs ms)
+pub marks_put_under : (c : ℕ) (rs : List ℕ) (ms : Marks) → Each (MarkUnder c c) ms → Each (MarkUnder c c) (marks_put c rs ms)
 marks_put_under c [] ms u = u
 marks_put_under c (r ∷ rs) ms u = marks_put_under c rs (put_mark ms r (Some (Held c))) (mark_under c r (Held c) ms (omega arith) u)
   where
@@ -92,39 +92,46 @@ module _ (code : Parts) (last : Config → State) (f : Active) (below : List Fra
   abbrev hs : List Holder
   hs = in_frames x.marks below
 
-  around : ℕ → Around
-  around d = record { function = f.function; below = below; opened = d }
+  -- it goes on in the same function, at a place
+  abbrev at_place_in : ℕ → ℕ → Around
+  at_place_in p d = record { function = f.function; dest = f.dest; place = p; below = below; opened = d }
+
+  abbrev around : ℕ → Around
+  around d = at_place_in (f.place + 1) d
 
   -- the function goes on with other registers
-  goes_on : (d : ℕ) (ns : Marks) (next : Next) → base_of x.stack.1 x.stack.2 ≤ d → Each (MarkUnder d d) ns
-      → NextFits_ (record { function = f.function; below = below; opened = d }) ns (in_frames x.marks below) next → NextFits code next
-  goes_on d ns (Over end v t) le u h = tt
-  goes_on d ns (On e) le u h = at e.top e.below e.state h
+  goes_on : (p d : ℕ) (ns : Marks) (next : Next) → base_of x.stack.1 x.stack.2 ≤ d → Each (MarkUnder d d) ns
+      → NextFits_ (at_place_in p d) ns (in_frames x.marks below) next → NextFits code next
+  goes_on p d ns (Over end v t) le u h = tt
+  goes_on p d ns (On e) le u h = at e.top e.below e.state h
     where
-      at : (top : Frame) (fs : List Frame) (t : State) → ActTop (record { function = f.function; below = below; opened = d }) ns (in_frames x.marks below) top fs t → ConfigFits code (record { top = top; below = fs; state = t })
+      at : (top : Frame) (fs : List Frame) (t : State) → ActTop (at_place_in p d) ns (in_frames x.marks below) top fs t → ConfigFits code (record { top = top; below = fs; state = t })
       at (Running g) fs t h = record {
         home = h.0;
         top = record { depth = t.regions; marks = ns };
         marks = x.marks;
         depth = refl;
-        stack = subst (λ c. TopFits code (record { depth = t.regions; marks = ns }) x.marks (Running g) fs c) (sym h.4)
-            (u, x.stack.1, x.stack.2, ap (form_at code) h.2 ∙ x.stack.3, le, subst (λ fs. StackFits code x.stack.2 (base_of x.stack.1 x.stack.2) x.marks fs) (sym h.3) x.stack.5);
-        fits = subst (λ fs. Fits (scene h.0 (in_registers ns g.registers (in_frames x.marks fs)) t.world t.regions)) (sym h.3) h.1;
+        stack = subst (λ c. TopFits code (record { depth = t.regions; marks = ns }) x.marks (Running g) fs c) (sym h.6)
+            (u, x.stack.1, x.stack.2, ap (form_at code) h.2 ∙ x.stack.3, le, subst (λ fs. StackFits code x.stack.2 (base_of x.stack.1 x.stack.2) x.marks fs) (sym h.5) x.stack.5);
+        fits = subst (λ fs. Fits (scene h.0 (in_registers ns g.registers (in_frames x.marks fs)) t.world t.regions)) (sym h.5) h.1;
       }
       at (Dropping g) fs t h = absurd h
       at (Looping g) fs t h = absurd h
       at (Alone v) fs t h = absurd h
 
-  here_on : (ns : Marks) (next : Next) → Each (MarkUnder s.regions s.regions) ns → NextFits_ (record { function = f.function; below = below; opened = s.regions }) ns (in_frames x.marks below) next → NextFits code next
-  here_on ns next u h = goes_on s.regions ns next x.stack.4 u h
+  here_at : (p : ℕ) (ns : Marks) (next : Next) → Each (MarkUnder s.regions s.regions) ns → NextFits_ (at_place_in p s.regions) ns (in_frames x.marks below) next → NextFits code next
+  here_at p ns next u h = goes_on p s.regions ns next x.stack.4 u h
 
-  gets_held : (to : ℕ) (next : Next) → NextFits_ (record { function = f.function; below = below; opened = s.regions }) (put_mark x.top.marks to (Some (Held s.regions))) (in_frames x.marks below) next → NextFits code next
+  here_on : (ns : Marks) (next : Next) → Each (MarkUnder s.regions s.regions) ns → NextFits_ (around s.regions) ns (in_frames x.marks below) next → NextFits code next
+  here_on ns next u h = here_at (f.place + 1) ns next u h
+
+  gets_held : (to : ℕ) (next : Next) → NextFits_ (around s.regions) (put_mark x.top.marks to (Some (Held s.regions))) (in_frames x.marks below) next → NextFits code next
   gets_held to next h = here_on _ next (mark_put code s.regions to (Held s.regions) x.top.marks (omega arith) x.stack.0) h
 
-  gets_seen : (to : ℕ) (next : Next) → NextFits_ (record { function = f.function; below = below; opened = s.regions }) (put_mark x.top.marks to (Some (Seen s.regions))) (in_frames x.marks below) next → NextFits code next
+  gets_seen : (to : ℕ) (next : Next) → NextFits_ (around s.regions) (put_mark x.top.marks to (Some (Seen s.regions))) (in_frames x.marks below) next → NextFits code next
   gets_seen to next h = here_on _ next (mark_put code s.regions to (Seen s.regions) x.top.marks (omega arith) x.stack.0) h
 
-  after_taking : (to b : ℕ) (v : Value) (next : Next) → NextFits_ (record { function = f.function; below = below; opened = s.regions }) (put_mark (taken b v x.top.marks) to (Some (Held s.regions))) (in_frames x.marks below) next → NextFits code next
+  after_taking : (to b : ℕ) (v : Value) (next : Next) → NextFits_ (around s.regions) (put_mark (taken b v x.top.marks) to (Some (Held s.regions))) (in_frames x.marks below) next → NextFits code next
   after_taking to b v next h = here_on _ next (mark_put code s.regions to (Held s.regions) (taken b v x.top.marks) (omega arith) (taken_under s.regions s.regions b v x.top.marks x.stack.0)) h
 
   -- ---- operands that may be missing
@@ -141,7 +148,7 @@ module _ (code : Parts) (last : Config → State) (f : Active) (below : List Fra
   any_choice (Some a) go each = each a
 
   stays : (t : State) → t.world ≡ s.world → t.regions ≡ s.regions → (p : ℕ) → NextFits code (at_place f p below t)
-  stays t w e p = here_on x.top.marks (at_place f p below t) x.stack.0 (stays_next code last f below s x.home (in_frames x.marks below) x.top.marks x.fits t w e p)
+  stays t w e p = here_at p x.top.marks (at_place f p below t) x.stack.0 (stays_next code last f below s x.home (in_frames x.marks below) x.top.marks x.fits t w e p)
 
   jumps : (free : Bool) (p : ℕ) → NextFits code (jump_by free f p below s)
   jumps true p = stays s refl refl p
@@ -168,16 +175,16 @@ module _ (code : Parts) (last : Config → State) (f : Active) (below : List Fra
 
   -- ---- each instruction
 
-  held_act : (to : ℕ) (instr : Instr) → NextFits_ (record { function = f.function; below = below; opened = s.regions }) (put_mark x.top.marks to (Some (Held s.regions))) (in_frames x.marks below) (act code last f below s instr) → NextFits code (act code last f below s instr)
+  held_act : (to : ℕ) (instr : Instr) → NextFits_ (around s.regions) (put_mark x.top.marks to (Some (Held s.regions))) (in_frames x.marks below) (act code last f below s instr) → NextFits code (act code last f below s instr)
   held_act to instr h = gets_held to (act code last f below s instr) h
 
-  seen_act : (to : ℕ) (instr : Instr) → NextFits_ (record { function = f.function; below = below; opened = s.regions }) (put_mark x.top.marks to (Some (Seen s.regions))) (in_frames x.marks below) (act code last f below s instr) → NextFits code (act code last f below s instr)
+  seen_act : (to : ℕ) (instr : Instr) → NextFits_ (around s.regions) (put_mark x.top.marks to (Some (Seen s.regions))) (in_frames x.marks below) (act code last f below s instr) → NextFits code (act code last f below s instr)
   seen_act to instr h = gets_seen to (act code last f below s instr) h
 
-  stored_act : (to b : ℕ) (v : Value) (instr : Instr) → NextFits_ (record { function = f.function; below = below; opened = s.regions }) (put_mark (taken b v x.top.marks) to (Some (Held s.regions))) (in_frames x.marks below) (act code last f below s instr) → NextFits code (act code last f below s instr)
+  stored_act : (to b : ℕ) (v : Value) (instr : Instr) → NextFits_ (around s.regions) (put_mark (taken b v x.top.marks) to (Some (Held s.regions))) (in_frames x.marks below) (act code last f below s instr) → NextFits code (act code last f below s instr)
   stored_act to b v instr h = after_taking to b v (act code last f below s instr) h
 
-  moved_act : (to a : ℕ) (instr : Instr) → NextFits_ (record { function = f.function; below = below; opened = s.regions }) (put_mark (put_mark x.top.marks a None) to (Some (Held s.regions))) (in_frames x.marks below) (act code last f below s instr) → NextFits code (act code last f below s instr)
+  moved_act : (to a : ℕ) (instr : Instr) → NextFits_ (around s.regions) (put_mark (put_mark x.top.marks a None) to (Some (Held s.regions))) (in_frames x.marks below) (act code last f below s instr) → NextFits code (act code last f below s instr)
   moved_act to a instr h = here_on _ (act code last f below s instr) (mark_put code s.regions to (Held s.regions) (put_mark x.top.marks a None) (omega arith) (none_put s.regions s.regions a x.top.marks x.stack.0)) h
 
   -- with a trap or without, of what is computed
@@ -207,8 +214,8 @@ module _ (code : Parts) (last : Config → State) (f : Active) (below : List Fra
   outer_same : (d : ℕ) → base_of x.stack.1 x.stack.2 ≤ d → lower_all d (in_frames x.marks below) ≡ in_frames x.marks below
   outer_same d le = standing_same x.stack.2 (base_of x.stack.1 x.stack.2) d (let y = base_out x.stack.1 x.stack.2 in omega (arith, y, le)) (in_frames x.marks below) (stack_stands code x.stack.2 (base_of x.stack.1 x.stack.2) x.marks below x.stack.5)
 
-  thaws_act : (d : ℕ) (ns : Marks) (instr : Instr) → base_of x.stack.1 x.stack.2 ≤ d → Each (MarkUnder d d) ns → NextFits_ (record { function = f.function; below = below; opened = d }) ns (lower_all d (in_frames x.marks below)) (act code last f below s instr) → NextFits code (act code last f below s instr)
-  thaws_act d ns instr le u h = goes_on d ns (act code last f below s instr) le u (subst (λ hs. NextFits_ (record { function = f.function; below = below; opened = d }) ns hs (act code last f below s instr)) (outer_same d le) h)
+  thaws_act : (d : ℕ) (ns : Marks) (instr : Instr) → base_of x.stack.1 x.stack.2 ≤ d → Each (MarkUnder d d) ns → NextFits_ (around d) ns (lower_all d (in_frames x.marks below)) (act code last f below s instr) → NextFits code (act code last f below s instr)
+  thaws_act d ns instr le u h = goes_on (f.place + 1) d ns (act code last f below s instr) le u (subst (λ hs. NextFits_ (around d) ns hs (act code last f below s instr)) (outer_same d le) h)
 
   put_under : (d to : ℕ) (ns : Marks) → Each (MarkUnder d d) ns → Each (MarkUnder d d) (put_mark ns to (Some (Held d)))
   put_under d to ns u = mark_put code d to (Held d) ns (omega arith) u
@@ -293,7 +300,7 @@ module _ (code : Parts) (last : Config → State) (f : Active) (below : List Fra
       (λ t g. drop_fits x.home _ _ t (put_all_fits s.regions to q.1.values (put_mark x.top.marks a None) (put f.registers a None) q.2 (in_frames x.marks below) q.6) g))
   act_fits (i.Destroy a at) q = destroy_next code last f below s x a at q.0 q.2 q.1
   act_fits (i.Merge to a) q = moved_act to a (i.Merge to a) (merge_next code last f below s x.home (in_frames x.marks below) x.top.marks x.fits to a q.0 q.2 q.1)
-  act_fits (i.Freeze at) q = goes_on (suc s.regions) x.top.marks (act code last f below s (i.Freeze at)) (let y = x.stack.4 in omega (arith, y)) (each_map _ _ x.top.marks deeper x.stack.0)
+  act_fits (i.Freeze at) q = goes_on (f.place + 1) (suc s.regions) x.top.marks (act code last f below s (i.Freeze at)) (let y = x.stack.4 in omega (arith, y)) (each_map _ _ x.top.marks deeper x.stack.0)
       (freeze_next code last f below s x.home (in_frames x.marks below) x.top.marks x.fits at)
     where
       one_deeper : (how : How) → IsUnder s.regions s.regions how → IsUnder (suc s.regions) (suc s.regions) how

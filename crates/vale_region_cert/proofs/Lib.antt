@@ -1,0 +1,15 @@
+pub mod Around
+pub mod Calls
+pub mod Ending
+pub mod Frames
+pub mod Giving
+pub mod Lawful
+pub mod Leaving
+pub mod Making
+pub mod Methods
+pub mod Reading
+pub mod Simple
+pub mod Starting
+pub mod Steps
+pub mod Told
+pub mod Writing

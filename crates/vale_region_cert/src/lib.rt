@@ -1,0 +1,6 @@
+//! The region invariant of certified code.
+#![tactic(auto)]
+
+mod laws;
+
+pub use laws::certified_code_keeps_regions;
