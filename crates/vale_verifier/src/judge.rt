@@ -134,31 +134,35 @@ fn lowest(kept: Kept, came: bool, enters: bool, lives: bool, leads: bool) -> Opt
     None
 }
 
+/// Where an instruction stands.
+#[derive(Drop)]
+pub struct Standing<'a> {
+    pub code: &'a Code,
+    pub func: &'a Func,
+    /// The labels of the function.
+    pub labels: &'a [Label],
+    /// Those of them after the instruction.
+    pub left: &'a [Label],
+    /// Its place in the function.
+    pub place: usize,
+    /// Whether the function's entry may enter the label at the first instruction.
+    pub came: bool,
+}
+
 /// The lowest rule that an instruction breaks, before which this is known; the depth and the registers are those after it.
-/// `left` are the labels after it, and `came` says that the function's entry may enter the label at its first instruction.
-pub fn step(
-    code: &Code,
-    func: &Func,
-    labels: &[Label],
-    left: &[Label],
-    place: usize,
-    came: bool,
-    depth: &mut u32,
-    regs: &mut [RegFact],
-    instr: &Instr,
-) -> Option<u8>
-    requires place { place < 2 ^ 32 }
-    requires all { Ahead 0 labels.now }
-    requires ahead { Ahead (place + 1) left.now }
-    requires same { (q : ℕ) → place < q → label_at left.now q ≡ label_at labels.now q }
-    ensures rule { (base : ℕ) → result ≡ broken (rules code.now func.now labels.now base place came instr.now (record { depth = depth.old; regs = regs.old })) }
-    ensures after { (base : ℕ) → after code.now func.now labels.now base instr.now (record { depth = depth.old; regs = regs.old }) ≡ record { depth = depth.new; regs = regs.new } }
+pub fn step(here: &Standing, depth: &mut u32, regs: &mut [RegFact], instr: &Instr) -> Option<u8>
+    requires place { here.now.place < 2 ^ 32 }
+    requires all { Ahead 0 here.now.labels.now }
+    requires ahead { Ahead (here.now.place + 1) here.now.left.now }
+    requires same { (q : ℕ) → here.now.place < q → label_at here.now.left.now q ≡ label_at here.now.labels.now q }
+    ensures rule { (base : ℕ) → result ≡ broken (rules here.now.code.now here.now.func.now here.now.labels.now base here.now.place here.now.came instr.now (record { depth = depth.old; regs = regs.old })) }
+    ensures after { (base : ℕ) → after here.now.code.now here.now.func.now here.now.labels.now base instr.now (record { depth = depth.old; regs = regs.old }) ≡ record { depth = depth.new; regs = regs.new } }
 {
-    let row = row_of(code, func.result, *depth, regs, instr);
+    let row = row_of(here.code, here.func.result, *depth, regs, instr);
     *depth = row.depth;
-    let enters = enters_labels(labels, left, place, row.depth, regs, instr);
-    let leads = leads_on(func, labels, place, instr);
-    lowest(row.kept, came, enters, row.lives, leads)
+    let enters = enters_labels(here.labels, here.left, here.place, row.depth, regs, instr);
+    let leads = leads_on(here.func, here.labels, here.place, instr);
+    lowest(row.kept, here.came, enters, row.lives, leads)
 }
 
 /// The depth after an instruction, where that is its successor.

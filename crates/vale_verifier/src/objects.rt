@@ -40,46 +40,44 @@ pub fn come_back(depth: u32, regs: &mut [RegFact], ty: Ty, to: u32, kept: Kept) 
     }
 }
 
-/// The receiver is the first argument.
-fn call_method(
-    depth: u32,
-    regs: &mut [RegFact],
-    m: &MethodInfo,
+/// A call of a method of an interface.
+#[derive(Drop)]
+struct MethodCall<'a> {
+    /// The register for its result.
     to: u32,
-    a: u32,
-    args: &[u32],
-) -> Kept
-    ensures { calls_method depth regs.old (Some m.now) to a args.now ≡ record { kept = result; after = regs.new } }
+    interface: u32,
+    /// The method's number in the interface.
+    method: u32,
+    /// The receiver's register.
+    object: u32,
+    /// Those of the other arguments.
+    args: &'a [u32],
+}
+
+/// The receiver is the first argument.
+fn call_method(depth: u32, regs: &mut [RegFact], m: &MethodInfo, call: &MethodCall) -> Kept
+    ensures { calls_method depth regs.old (Some m.now) call.now.to call.now.object call.now.args.now ≡ record { kept = result; after = regs.new } }
 {
     if m.is_pure {
         return if_types(false);
     }
-    find_alive(depth, regs, a);
+    find_alive(depth, regs, call.object);
     match m.params.as_slice() {
-        [] => come_back(depth, regs, m.result, to, if_types(false)),
+        [] => come_back(depth, regs, m.result, call.to, if_types(false)),
         [ty, more @ ..] => {
-            let kept = pass(depth, regs, a, *ty, if_types(true));
-            let kept = pass_all(depth, regs, more, args, kept);
-            come_back(depth, regs, m.result, to, kept)
+            let kept = pass(depth, regs, call.object, *ty, if_types(true));
+            let kept = pass_all(depth, regs, more, call.args, kept);
+            come_back(depth, regs, m.result, call.to, kept)
         }
     }
 }
 
-fn calls_method(
-    code: &Code,
-    depth: u32,
-    regs: &mut [RegFact],
-    to: u32,
-    interface: u32,
-    method: u32,
-    a: u32,
-    args: &[u32],
-) -> Kept
-    ensures { calls_method depth regs.old (method_of code.now interface method) to a args.now ≡ record { kept = result; after = regs.new } }
+fn calls_method(code: &Code, depth: u32, regs: &mut [RegFact], call: &MethodCall) -> Kept
+    ensures { calls_method depth regs.old (method_of code.now call.now.interface call.now.method) call.now.to call.now.object call.now.args.now ≡ record { kept = result; after = regs.new } }
 {
-    match method_of(code, interface, method) {
+    match method_of(code, call.interface, call.method) {
         None => if_types(false),
-        Some(m) => call_method(depth, regs, m, to, a, args),
+        Some(m) => call_method(depth, regs, m, call),
     }
 }
 
@@ -365,47 +363,54 @@ fn give_back(depth: u32, regs: &mut [RegFact], cell: Option<Ty>, to: u32, kept: 
     }
 }
 
-fn swap_in(depth: u32, regs: &mut [RegFact], cell: Option<Ty>, to: u32, v: u32, kept: Kept) -> Kept
-    ensures { swaps depth regs.old cell to v kept ≡ record { kept = result; after = regs.new } }
-{
-    let kept = fill(depth, regs, cell, v, kept);
-    give_back(depth, regs, cell, to, kept)
+/// The registers of an exchange with a cell.
+#[derive(Clone, Copy)]
+struct Exchange {
+    /// The one for what was in the cell.
+    to: u32,
+    /// The one that has the cell's object, its owner or a reference to it.
+    object: u32,
+    /// The one that has the new value.
+    value: u32,
 }
 
-fn swap_own(
-    code: &Code,
+fn swap_in(
     depth: u32,
     regs: &mut [RegFact],
-    to: u32,
-    a: u32,
-    field: u32,
-    v: u32,
+    cell: Option<Ty>,
+    exchange: Exchange,
+    kept: Kept,
 ) -> Kept
-    ensures { swaps depth regs.old (cell_by (field_of code.now field) (owner_kind (fact_of regs.old a))) to v (leads_as_owner (field_of code.now field) depth (fact_of regs.old a)) ≡ record { kept = result; after = regs.new } }
+    ensures { swaps depth regs.old cell exchange.to exchange.value kept ≡ record { kept = result; after = regs.new } }
 {
-    let fact = fact_of(regs, a);
+    let kept = fill(depth, regs, cell, exchange.value, kept);
+    give_back(depth, regs, cell, exchange.to, kept)
+}
+
+fn swap_own(code: &Code, depth: u32, regs: &mut [RegFact], field: u32, exchange: Exchange) -> Kept
+    ensures { swaps depth regs.old (cell_by (field_of code.now field) (owner_kind (fact_of regs.old exchange.object))) exchange.to exchange.value (leads_as_owner (field_of code.now field) depth (fact_of regs.old exchange.object)) ≡ record { kept = result; after = regs.new } }
+{
+    let fact = fact_of(regs, exchange.object);
     let cell = field_by(code, field, owner_kind(fact));
     swap_in(
         depth,
         regs,
         cell,
-        to,
-        v,
+        exchange,
         leads(is_usable(depth, fact), fact, cell),
     )
 }
 
-fn swap(code: &Code, depth: u32, regs: &mut [RegFact], to: u32, a: u32, field: u32, v: u32) -> Kept
-    ensures { swaps depth regs.old (cell_by (field_of code.now field) (reference_kind (fact_of regs.old a))) to v (leads_as_reference (field_of code.now field) depth (fact_of regs.old a)) ≡ record { kept = result; after = regs.new } }
+fn swap(code: &Code, depth: u32, regs: &mut [RegFact], field: u32, exchange: Exchange) -> Kept
+    ensures { swaps depth regs.old (cell_by (field_of code.now field) (reference_kind (fact_of regs.old exchange.object))) exchange.to exchange.value (leads_as_reference (field_of code.now field) depth (fact_of regs.old exchange.object)) ≡ record { kept = result; after = regs.new } }
 {
-    let fact = fact_of(regs, a);
+    let fact = fact_of(regs, exchange.object);
     let cell = field_by(code, field, reference_kind(fact));
     swap_in(
         depth,
         regs,
         cell,
-        to,
-        v,
+        exchange,
         leads(is_usable(depth, fact), fact, cell),
     )
 }
@@ -414,26 +419,34 @@ fn swap_el_own(
     code: &Code,
     depth: u32,
     regs: &mut [RegFact],
-    to: u32,
-    a: u32,
-    x: u32,
-    v: u32,
+    index: u32,
+    exchange: Exchange,
 ) -> Kept
-    ensures { swaps depth regs.old (cell_by (item_of code.now) (owner_kind (fact_of regs.old a))) to v (reads regs.old x Ty.Int (leads_as_owner (item_of code.now) depth (fact_of regs.old a))) ≡ record { kept = result; after = regs.new } }
+    ensures { swaps depth regs.old (cell_by (item_of code.now) (owner_kind (fact_of regs.old exchange.object))) exchange.to exchange.value (reads regs.old index Ty.Int (leads_as_owner (item_of code.now) depth (fact_of regs.old exchange.object))) ≡ record { kept = result; after = regs.new } }
 {
-    let fact = fact_of(regs, a);
+    let fact = fact_of(regs, exchange.object);
     let cell = item_by(code, owner_kind(fact));
-    let kept = reads(regs, x, Ty::Int, leads(is_usable(depth, fact), fact, cell));
-    swap_in(depth, regs, cell, to, v, kept)
+    let kept = reads(
+        regs,
+        index,
+        Ty::Int,
+        leads(is_usable(depth, fact), fact, cell),
+    );
+    swap_in(depth, regs, cell, exchange, kept)
 }
 
-fn swap_el(code: &Code, depth: u32, regs: &mut [RegFact], to: u32, a: u32, x: u32, v: u32) -> Kept
-    ensures { swaps depth regs.old (cell_by (item_of code.now) (reference_kind (fact_of regs.old a))) to v (reads regs.old x Ty.Int (leads_as_reference (item_of code.now) depth (fact_of regs.old a))) ≡ record { kept = result; after = regs.new } }
+fn swap_el(code: &Code, depth: u32, regs: &mut [RegFact], index: u32, exchange: Exchange) -> Kept
+    ensures { swaps depth regs.old (cell_by (item_of code.now) (reference_kind (fact_of regs.old exchange.object))) exchange.to exchange.value (reads regs.old index Ty.Int (leads_as_reference (item_of code.now) depth (fact_of regs.old exchange.object))) ≡ record { kept = result; after = regs.new } }
 {
-    let fact = fact_of(regs, a);
+    let fact = fact_of(regs, exchange.object);
     let cell = item_by(code, reference_kind(fact));
-    let kept = reads(regs, x, Ty::Int, leads(is_usable(depth, fact), fact, cell));
-    swap_in(depth, regs, cell, to, v, kept)
+    let kept = reads(
+        regs,
+        index,
+        Ty::Int,
+        leads(is_usable(depth, fact), fact, cell),
+    );
+    swap_in(depth, regs, cell, exchange, kept)
 }
 
 fn push(code: &Code, depth: u32, regs: &mut [RegFact], a: u32, v: u32) -> Kept
@@ -478,16 +491,16 @@ pub fn object_effect(code: &Code, depth: u32, regs: &mut [RegFact], instr: &Inst
             object,
             args,
             ..
-        } => calls_method(
-            code,
-            depth,
-            regs,
-            *to,
-            *interface,
-            *method,
-            *object,
-            args.as_slice(),
-        ),
+        } => {
+            let call = MethodCall {
+                to: *to,
+                interface: *interface,
+                method: *method,
+                object: *object,
+                args: args.as_slice(),
+            };
+            calls_method(code, depth, regs, &call)
+        }
         Instr::Make { to, kind, args } => makes(code, depth, regs, *kind, *to, args.as_slice()),
         Instr::Borrow { to, from } => borrows(depth, regs, *to, *from),
         Instr::LoadOwn { to, object, field } => load_own(code, depth, regs, *to, *object, *field),
@@ -515,28 +528,56 @@ pub fn object_effect(code: &Code, depth: u32, regs: &mut [RegFact], instr: &Inst
             object,
             field,
             value,
-        } => swap_own(code, depth, regs, *to, *object, *field, *value),
+        } => {
+            let exchange = Exchange {
+                to: *to,
+                object: *object,
+                value: *value,
+            };
+            swap_own(code, depth, regs, *field, exchange)
+        }
         Instr::Swap {
             to,
             object,
             field,
             value,
             ..
-        } => swap(code, depth, regs, *to, *object, *field, *value),
+        } => {
+            let exchange = Exchange {
+                to: *to,
+                object: *object,
+                value: *value,
+            };
+            swap(code, depth, regs, *field, exchange)
+        }
         Instr::SwapElOwn {
             to,
             object,
             index,
             value,
             ..
-        } => swap_el_own(code, depth, regs, *to, *object, *index, *value),
+        } => {
+            let exchange = Exchange {
+                to: *to,
+                object: *object,
+                value: *value,
+            };
+            swap_el_own(code, depth, regs, *index, exchange)
+        }
         Instr::SwapEl {
             to,
             object,
             index,
             value,
             ..
-        } => swap_el(code, depth, regs, *to, *object, *index, *value),
+        } => {
+            let exchange = Exchange {
+                to: *to,
+                object: *object,
+                value: *value,
+            };
+            swap_el(code, depth, regs, *index, exchange)
+        }
         Instr::Push { object, value, .. } => push(code, depth, regs, *object, *value),
         Instr::Pop { to, object, .. } => pop(code, depth, regs, *to, *object),
         Instr::Open { to, from } => opens(code, depth, regs, to.as_slice(), *from),

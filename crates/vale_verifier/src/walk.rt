@@ -7,7 +7,7 @@ ghost use Rattle.vale_cert.specs.Types.{reaches_isolate};
 ghost use Rattle.vale_cert.specs.Walk.{walk, function_fault, functions_fault};
 ghost use Rattle.vale_verifier.specs.Walking.{Ahead, states_all, has_room};
 
-use crate::judge::{depth_after, step};
+use crate::judge::{Standing, depth_after, step};
 use crate::known::{enter, may_enter, state};
 use crate::labels::{behind, front_at, rise};
 use vale_cert::{Facts, Fault, FuncFacts, Label, RegFact};
@@ -41,7 +41,15 @@ fn walk(
             return Some(Fault { rule: 7, at });
         };
         let mut now = known;
-        match step(code, func, labels, left, place, came, &mut now, regs, instr) {
+        let here = Standing {
+            code,
+            func,
+            labels,
+            left,
+            place,
+            came,
+        };
+        match step(&here, &mut now, regs, instr) {
             Some(rule) => return Some(Fault { rule, at }),
             None => {}
         }
