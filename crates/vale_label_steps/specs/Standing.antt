@@ -6,6 +6,7 @@ use Rattle.vale_lowering.specs.Scopes.{Around}
 use Rattle.vale_lower_facts.specs.Slots as s
 use Rattle.vale_label_steps.specs.declared.slots.Local.{Local}
 use Rattle.vale_label_steps.specs.declared.slots.Slots.{Slots}
+use Rattle.vale_label_steps.specs.declared.slots.Standing.{Standing}
 use Rattle.vale_label_steps.specs.declared.slots.Slots.TheVariants.{Outside, Frame', Waits', Holds'}
 
 abbrev pub slot_of : Local → s.Slot
@@ -27,8 +28,8 @@ slots_of (Frame' ls p outer) = framed ls.now (slots_of outer)
 slots_of (Waits' h es p outer) = waited (map view_expr es.now) h (slots_of outer)
 slots_of (Holds' r ty p outer) = s.holds r (view_ty ty.now) ∷ slots_of outer
 
-abbrev pub stand : Slots → Bool → s.Stand
-stand slots over = record { slots = slots_of slots; over = over }
+abbrev pub stand : Standing → s.Stand
+stand here = record { slots = slots_of here.slots.now; over = here.over }
 
 -- what the labels need of what a body names
 abbrev pub plain : Bool → Around

@@ -7,7 +7,7 @@ ghost use Rattle.vale_lower_facts.specs.Slots.{facts_from};
 ghost use Rattle.vale_label_steps.specs.Filling.{nothing_known, last_known, locals_known, args_known, slots_known};
 ghost use Rattle.vale_label_steps.specs.Standing.{stand, slots_of};
 
-use crate::slots::{Local, Slots, code_type};
+use crate::slots::{Local, Slots, Standing, code_type};
 use std::alloc::Global;
 use vale_base::Memory;
 use vale_cert::RegFact;
@@ -94,16 +94,15 @@ fn hold_slots<'a>(slots: &'a Slots<'a>, facts: &mut Vec<RegFact>)
 #[tactic(auto, using(crate::proofs::FillLaws::all_known))]
 pub fn facts_at(
     alloc: Global,
-    slots: &Slots,
-    over: bool,
+    here: &Standing,
     registers: u32,
     last: u32,
     result_type: Option<CodeTy>,
 ) -> Result<Sequence<RegFact>, Memory>
-    ensures { IfOk result (λ facts. facts ≡ facts_from (record { register = last; ty = result_type }) (stand slots.now over) 0 registers) }
+    ensures { IfOk result (λ facts. facts ≡ facts_from (record { register = last; ty = result_type }) (stand here.now) 0 registers) }
 {
     let mut facts = empties(alloc, registers)?;
-    hold_last(&mut facts, over, last, result_type);
-    hold_slots(slots, &mut facts);
+    hold_last(&mut facts, here.over, last, result_type);
+    hold_slots(here.slots, &mut facts);
     Ok(Sequence::from_vec(facts))
 }

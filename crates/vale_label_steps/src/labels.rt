@@ -5,7 +5,7 @@ ghost use Rattle.vale_label_steps.specs.Progress.{progress, with_marks};
 ghost use Rattle.vale_label_steps.specs.Standing.{stand};
 
 use crate::known::facts_at;
-use crate::slots::Slots;
+use crate::slots::Standing;
 use std::alloc::Global;
 use vale_base::Memory;
 use vale_cert::Label;
@@ -46,12 +46,12 @@ impl Labels {
 
     /// One more instruction, where this is known. It has a label where one is due.
     #[tactic(auto, using(crate::proofs::ProgressLaws::labelled))]
-    pub fn put(&mut self, alloc: Global, slots: &Slots, over: bool) -> Result<(), Memory>
-        ensures marks { OnOk result (progress self.new ≡ with_marks (mark self.old.due (stand slots.now over) ∷ []) (progress self.old)) }
+    pub fn put(&mut self, alloc: Global, here: &Standing) -> Result<(), Memory>
+        ensures marks { OnOk result (progress self.new ≡ with_marks (mark self.old.due (stand here.now) ∷ []) (progress self.old)) }
         ensures due { OnOk result (self.new.due ≡ false) }
     {
         if self.due {
-            self.put_labelled(alloc, slots, over)
+            self.put_labelled(alloc, here)
         } else {
             self.put_plain()
         }
@@ -59,18 +59,11 @@ impl Labels {
 
     // One more instruction with a label.
     #[tactic(auto, using(crate::proofs::ProgressLaws::labelled))]
-    fn put_labelled(&mut self, alloc: Global, slots: &Slots, over: bool) -> Result<(), Memory>
-        ensures marks { OnOk result (progress self.new ≡ with_marks (Some (stand slots.now over) ∷ []) (progress self.old)) }
+    fn put_labelled(&mut self, alloc: Global, here: &Standing) -> Result<(), Memory>
+        ensures marks { OnOk result (progress self.new ≡ with_marks (Some (stand here.now) ∷ []) (progress self.old)) }
         ensures due { OnOk result (self.new.due ≡ false) }
     {
-        let regs = facts_at(
-            alloc,
-            slots,
-            over,
-            self.registers,
-            self.last,
-            self.result_type,
-        )?;
+        let regs = facts_at(alloc, here, self.registers, self.last, self.result_type)?;
         self.labels.push(Label {
             at: self.place,
             depth: 0,

@@ -30,6 +30,19 @@ pub enum Slots<'a> {
     Holds(u32, &'a Ty, &'a Slots<'a>),
 }
 
+/// Where a node of a body stands.
+#[derive(Drop)]
+pub struct Standing<'a> {
+    /// The next free register, to which the node's value goes.
+    pub next: u32,
+    /// The registers that hold a value.
+    pub slots: &'a Slots<'a>,
+    /// Whether the function has returned on every way before.
+    pub over: bool,
+    /// Whether the function gives a value.
+    pub returns: bool,
+}
+
 /// The code's type of the values.
 pub fn code_type(ty: &Ty) -> CodeTy
     ensures { result ≡ code_type (view_ty ty.now) }

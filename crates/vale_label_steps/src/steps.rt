@@ -15,7 +15,7 @@ ghost use Rattle.vale_label_steps.specs.Standing.{stand, slots_of};
 ghost use Rattle.vale_lower_facts.specs.Slots as s;
 
 use crate::labels::Labels;
-use crate::slots::{Slots, is_local};
+use crate::slots::{Slots, Standing, is_local};
 use std::alloc::Global;
 use vale_base::Memory;
 use vale_core::{Block, Expr, Node, Ty, block_returns};
@@ -44,34 +44,29 @@ fn sets_local(place: &Expr, slots: &Slots) -> bool
 }
 
 /// An instruction where the register has a value of this type.
-pub fn put_held(
-    alloc: Global,
-    h: u32,
-    ty: &Ty,
-    slots: &Slots,
-    over: bool,
-    labels: &mut Labels,
-) -> Result<(), Memory>
-    ensures marks { OnOk result (progress labels.new ≡ with_marks (mark labels.old.due (with_slot (holds h (view_ty ty.now)) (stand slots.now over)) ∷ []) (progress labels.old)) }
+pub fn put_held(alloc: Global, ty: &Ty, here: &Standing, labels: &mut Labels) -> Result<(), Memory>
+    ensures marks { OnOk result (progress labels.new ≡ with_marks (mark labels.old.due (with_slot (holds here.now.next (view_ty ty.now)) (stand here.now)) ∷ []) (progress labels.old)) }
     ensures due { OnOk result (labels.new.due ≡ false) }
 {
-    let inner = Slots::Holds(h, ty, &*slots);
-    labels.put(alloc, &inner, over)
+    let inner = Slots::Holds(here.next, ty, &*here.slots);
+    let held = Standing {
+        slots: &inner,
+        ..*here
+    };
+    labels.put(alloc, &held)
 }
 
 /// A return of what the register has, a value of this type; the place after it is due a label.
 pub fn put_return(
     alloc: Global,
-    h: u32,
     ty: &Ty,
-    slots: &Slots,
-    over: bool,
+    here: &Standing,
     labels: &mut Labels,
 ) -> Result<(), Memory>
-    ensures marks { OnOk result (progress labels.new ≡ with_marks (mark labels.old.due (with_slot (holds h (view_ty ty.now)) (stand slots.now over)) ∷ []) (progress labels.old)) }
+    ensures marks { OnOk result (progress labels.new ≡ with_marks (mark labels.old.due (with_slot (holds here.now.next (view_ty ty.now)) (stand here.now)) ∷ []) (progress labels.old)) }
     ensures due { OnOk result (labels.new.due ≡ true) }
 {
-    put_held(alloc, h, ty, slots, over, labels)?;
+    put_held(alloc, ty, here, labels)?;
     labels.set_due(true);
     Ok(())
 }
@@ -81,17 +76,15 @@ pub fn put_return(
 pub fn put_set(
     alloc: Global,
     place: &Expr,
-    h: u32,
     ty: &Ty,
-    slots: &Slots,
-    over: bool,
+    here: &Standing,
     labels: &mut Labels,
 ) -> Result<(), Memory>
-    ensures marks { OnOk result (progress labels.new ≡ with_marks (marked labels.old.due (with_slot (holds h (view_ty ty.now)) (stand slots.now over)) (set_code (view_expr place.now) h (scope_at (stand slots.now over)))) (progress labels.old)) }
+    ensures marks { OnOk result (progress labels.new ≡ with_marks (marked labels.old.due (with_slot (holds here.now.next (view_ty ty.now)) (stand here.now)) (set_code (view_expr place.now) here.now.next (scope_at (stand here.now)))) (progress labels.old)) }
     ensures due { OnOk result (labels.new.due ≡ false) }
 {
-    put_held(alloc, h, ty, slots, over, labels)?;
-    if sets_local(place, slots) {
+    put_held(alloc, ty, here, labels)?;
+    if sets_local(place, here.slots) {
         labels.put_plain()?;
         return labels.put_plain();
     }
@@ -103,16 +96,14 @@ pub fn put_set(
 pub fn put_unary(
     alloc: Global,
     op: UnaryOp,
-    h: u32,
     ty: &Ty,
-    slots: &Slots,
-    over: bool,
+    here: &Standing,
     labels: &mut Labels,
 ) -> Result<(), Memory>
-    ensures marks { OnOk result ((at : Spot) → progress labels.new ≡ with_marks (marked labels.old.due (with_slot (holds h (view_ty ty.now)) (stand slots.now over)) (unary_code op at h)) (progress labels.old)) }
+    ensures marks { OnOk result ((at : Spot) → progress labels.new ≡ with_marks (marked labels.old.due (with_slot (holds here.now.next (view_ty ty.now)) (stand here.now)) (unary_code op at here.now.next)) (progress labels.old)) }
     ensures due { OnOk result (labels.new.due ≡ false) }
 {
-    put_held(alloc, h, ty, slots, over, labels)?;
+    put_held(alloc, ty, here, labels)?;
     match op {
         UnaryOp::Minus => labels.put_plain(),
         UnaryOp::Not | UnaryOp::Borrow | UnaryOp::Merge => Ok(()),
@@ -123,19 +114,17 @@ pub fn put_unary(
 fn put_given(
     alloc: Global,
     gives: bool,
-    h: u32,
     ty: &Ty,
-    slots: &Slots,
-    over: bool,
+    here: &Standing,
     labels: &mut Labels,
 ) -> Result<(), Memory>
-    ensures marks { OnOk result (progress labels.new ≡ with_marks (mark labels.old.due (given gives h (view_ty ty.now) (stand slots.now over)) ∷ []) (progress labels.old)) }
+    ensures marks { OnOk result (progress labels.new ≡ with_marks (mark labels.old.due (given gives here.now.next (view_ty ty.now) (stand here.now)) ∷ []) (progress labels.old)) }
     ensures due { OnOk result (labels.new.due ≡ false) }
 {
     if gives {
-        put_held(alloc, h, ty, slots, over, labels)
+        put_held(alloc, ty, here, labels)
     } else {
-        labels.put(alloc, slots, over)
+        labels.put(alloc, here)
     }
 }
 
@@ -145,50 +134,39 @@ pub fn end_side(
     alloc: Global,
     block: &Block,
     gives: bool,
-    h: u32,
-    slots: &Slots,
-    over: bool,
+    here: &Standing,
     labels: &mut Labels,
 ) -> Result<(), Memory>
-    ensures marks { OnOk result (progress labels.new ≡ with_marks (mark labels.old.due (given gives h (block_type (view_block block.now)) (behind (block_returns (view_block block.now)) (stand slots.now over))) ∷ []) (progress labels.old)) }
+    ensures marks { OnOk result (progress labels.new ≡ with_marks (mark labels.old.due (given gives here.now.next (block_type (view_block block.now)) (behind (block_returns (view_block block.now)) (stand here.now))) ∷ []) (progress labels.old)) }
     ensures due { OnOk result (labels.new.due ≡ true) }
 {
-    let over = block_returns(block) || over;
-    put_given(alloc, gives, h, &block.ty, slots, over, labels)?;
+    let after = Standing {
+        over: block_returns(block) || here.over,
+        ..*here
+    };
+    put_given(alloc, gives, &block.ty, &after, labels)?;
     labels.set_due(true);
     Ok(())
 }
 
 /// The jump to a loop's test, and the first instruction of its body.
 #[tactic(auto, using(crate::proofs::StepLaws::turns))]
-pub fn begin_loop(
-    alloc: Global,
-    slots: &Slots,
-    over: bool,
-    labels: &mut Labels,
-) -> Result<(), Memory>
-    ensures marks { OnOk result (progress labels.new ≡ with_marks (mark labels.old.due (stand slots.now over) ∷ Some (stand slots.now over) ∷ []) (progress labels.old)) }
+pub fn begin_loop(alloc: Global, here: &Standing, labels: &mut Labels) -> Result<(), Memory>
+    ensures marks { OnOk result (progress labels.new ≡ with_marks (mark labels.old.due (stand here.now) ∷ Some (stand here.now) ∷ []) (progress labels.old)) }
     ensures due { OnOk result (labels.new.due ≡ false) }
 {
-    labels.put(alloc, slots, over)?;
+    labels.put(alloc, here)?;
     labels.set_due(true);
-    labels.put(alloc, slots, over)
+    labels.put(alloc, here)
 }
 
 /// The two jumps after a loop's test, of this type.
 #[tactic(auto, using(crate::proofs::StepLaws::turns))]
-pub fn end_loop(
-    alloc: Global,
-    h: u32,
-    ty: &Ty,
-    slots: &Slots,
-    over: bool,
-    labels: &mut Labels,
-) -> Result<(), Memory>
-    ensures marks { OnOk result (progress labels.new ≡ with_marks (mark labels.old.due (with_slot (holds h (view_ty ty.now)) (stand slots.now over)) ∷ None ∷ []) (progress labels.old)) }
+pub fn end_loop(alloc: Global, ty: &Ty, here: &Standing, labels: &mut Labels) -> Result<(), Memory>
+    ensures marks { OnOk result (progress labels.new ≡ with_marks (mark labels.old.due (with_slot (holds here.now.next (view_ty ty.now)) (stand here.now)) ∷ None ∷ []) (progress labels.old)) }
     ensures due { OnOk result (labels.new.due ≡ true) }
 {
-    put_held(alloc, h, ty, slots, over, labels)?;
+    put_held(alloc, ty, here, labels)?;
     labels.put_plain()?;
     labels.set_due(true);
     Ok(())
@@ -196,19 +174,14 @@ pub fn end_loop(
 
 /// The beginning of a loop over numbers.
 #[tactic(auto, using(crate::proofs::StepLaws::turns))]
-pub fn begin_count(
-    alloc: Global,
-    slots: &Slots,
-    over: bool,
-    labels: &mut Labels,
-) -> Result<(), Memory>
-    ensures marks { OnOk result (progress labels.new ≡ with_marks (mark labels.old.due (stand slots.now over) ∷ None ∷ Some (stand slots.now over) ∷ None ∷ []) (progress labels.old)) }
+pub fn begin_count(alloc: Global, here: &Standing, labels: &mut Labels) -> Result<(), Memory>
+    ensures marks { OnOk result (progress labels.new ≡ with_marks (mark labels.old.due (stand here.now) ∷ None ∷ Some (stand here.now) ∷ None ∷ []) (progress labels.old)) }
     ensures due { OnOk result (labels.new.due ≡ false) }
 {
-    labels.put(alloc, slots, over)?;
+    labels.put(alloc, here)?;
     labels.put_plain()?;
     labels.set_due(true);
-    labels.put(alloc, slots, over)?;
+    labels.put(alloc, here)?;
     labels.put_plain()
 }
 
@@ -217,17 +190,20 @@ pub fn begin_count(
 pub fn end_count(
     alloc: Global,
     block: &Block,
-    slots: &Slots,
-    over: bool,
+    here: &Standing,
     labels: &mut Labels,
 ) -> Result<(), Memory>
-    ensures marks { OnOk result (progress labels.new ≡ with_marks (mark labels.old.due (behind (block_returns (view_block block.now)) (stand slots.now over)) ∷ None ∷ Some (stand slots.now over) ∷ None ∷ None ∷ []) (progress labels.old)) }
+    ensures marks { OnOk result (progress labels.new ≡ with_marks (mark labels.old.due (behind (block_returns (view_block block.now)) (stand here.now)) ∷ None ∷ Some (stand here.now) ∷ None ∷ None ∷ []) (progress labels.old)) }
     ensures due { OnOk result (labels.new.due ≡ true) }
 {
-    labels.put(alloc, slots, block_returns(block) || over)?;
+    let after = Standing {
+        over: block_returns(block) || here.over,
+        ..*here
+    };
+    labels.put(alloc, &after)?;
     labels.put_plain()?;
     labels.set_due(true);
-    labels.put(alloc, slots, over)?;
+    labels.put(alloc, here)?;
     labels.put_plain()?;
     labels.put_plain()?;
     labels.set_due(true);

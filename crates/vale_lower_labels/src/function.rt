@@ -18,7 +18,7 @@ use vale_base::Memory;
 use vale_cert::{FuncFacts, Label};
 use vale_code::{Sequence, Ty as CodeTy};
 use vale_core::{Block, Function, block_returns};
-use vale_label_steps::{Frame, Labels, Slots};
+use vale_label_steps::{Frame, Labels, Slots, Standing};
 use vale_lower_expr::above;
 use vale_seen::type_of;
 use vale_syntax::{Param, TypeExpr};
@@ -72,18 +72,18 @@ fn body_labels(
     let mut labels = Labels::new(alloc, registers, frame.next, result_type);
     let outside = Slots::Outside;
     let slots = Slots::Frame(&frame.locals, &outside);
-    walk_block(
-        alloc,
-        block,
-        false,
+    let here = Standing {
         next,
-        &slots,
-        frame.over,
+        slots: &slots,
+        over: frame.over,
         returns,
-        &mut labels,
-    )?;
-    let over = block_returns(block) || frame.over;
-    labels.put(alloc, &slots, over)?;
+    };
+    walk_block(alloc, block, false, &here, &mut labels)?;
+    let after = Standing {
+        over: block_returns(block) || frame.over,
+        ..here
+    };
+    labels.put(alloc, &after)?;
     Ok(labels)
 }
 

@@ -14,28 +14,25 @@ use std::alloc::Global;
 use vale_base::{Memory, Name};
 use vale_core::{Block, ElseIf, Expr, Form, Link, Node, Stmt, Ty, expr_returns, stmt_returns};
 use vale_label_steps::{
+<<<<<<< HEAD
     Frame, Labels, Local, Slots, begin_count, begin_loop, end_count, end_loop, end_side, put_held,
     put_return, put_set, put_unary,
+=======
+    Frame, Labels, Local, Slots, Standing, begin_count, begin_loop, end_count, end_loop, end_side,
+    put_held, put_return, put_set, put_unary,
+>>>>>>> f21061f (Where a node stands is one struct in the walk of the labels)
 };
 use vale_lower_expr::{above, agree, is_set};
 use vale_syntax::BinaryOp;
 
 #[cycle(walk)]
 #[tactic(auto, using(crate::proofs::WalkLaws::exprs))]
-fn walk_expr(
-    alloc: Global,
-    expr: &Expr,
-    h: u32,
-    slots: &Slots,
-    over: bool,
-    returns: bool,
-    labels: &mut Labels,
-) -> Result<(), Memory>
-    ensures marks { OnOk result (progress labels.new ≡ with_marks (expr_marks (plain returns) (view_expr expr.now) h (stand slots.now over) labels.old.due) (progress labels.old)) }
+fn walk_expr(alloc: Global, expr: &Expr, here: &Standing, labels: &mut Labels) -> Result<(), Memory>
+    ensures marks { OnOk result (progress labels.new ≡ with_marks (expr_marks (plain here.now.returns) (view_expr expr.now) here.now.next (stand here.now) labels.old.due) (progress labels.old)) }
     ensures due { OnOk result (labels.new.due ≡ expr_due (view_expr expr.now)) }
 {
     let gives = expr.seen.value.is_copy();
-    walk_node(alloc, &expr.node, gives, h, slots, over, returns, labels)
+    walk_node(alloc, &expr.node, gives, here, labels)
 }
 
 // An expression whose value is used.
@@ -44,19 +41,16 @@ fn walk_expr(
 fn walk_value(
     alloc: Global,
     expr: &Expr,
-    h: u32,
-    slots: &Slots,
-    over: bool,
-    returns: bool,
+    here: &Standing,
     labels: &mut Labels,
 ) -> Result<(), Memory>
-    ensures marks { OnOk result (progress labels.new ≡ with_marks (value_marks (plain returns) (view_expr expr.now) h (stand slots.now over) labels.old.due) (progress labels.old)) }
+    ensures marks { OnOk result (progress labels.new ≡ with_marks (value_marks (plain here.now.returns) (view_expr expr.now) here.now.next (stand here.now) labels.old.due) (progress labels.old)) }
     ensures due { OnOk result (labels.new.due ≡ value_due (view_expr expr.now)) }
 {
     if !expr.seen.value.is_copy() {
-        return labels.put(alloc, slots, over);
+        return labels.put(alloc, here);
     }
-    walk_node(alloc, &expr.node, true, h, slots, over, returns, labels)
+    walk_node(alloc, &expr.node, true, here, labels)
 }
 
 // An expression whose value isn't used.
@@ -65,19 +59,16 @@ fn walk_value(
 fn walk_unused(
     alloc: Global,
     expr: &Expr,
-    h: u32,
-    slots: &Slots,
-    over: bool,
-    returns: bool,
+    here: &Standing,
     labels: &mut Labels,
 ) -> Result<(), Memory>
-    ensures marks { OnOk result (progress labels.new ≡ with_marks (unused_marks (plain returns) (view_expr expr.now) h (stand slots.now over) labels.old.due) (progress labels.old)) }
+    ensures marks { OnOk result (progress labels.new ≡ with_marks (unused_marks (plain here.now.returns) (view_expr expr.now) here.now.next (stand here.now) labels.old.due) (progress labels.old)) }
     ensures due { OnOk result (labels.new.due ≡ unused_due (view_expr expr.now)) }
 {
     if !is_set(expr) {
-        return walk_expr(alloc, expr, h, slots, over, returns, labels);
+        return walk_expr(alloc, expr, here, labels);
     }
-    walk_store(alloc, &expr.node, h, slots, over, returns, labels)
+    walk_store(alloc, &expr.node, here, labels)
 }
 
 // A `set` whose value isn't used.
@@ -86,20 +77,17 @@ fn walk_unused(
 fn walk_store(
     alloc: Global,
     node: &Node,
-    h: u32,
-    slots: &Slots,
-    over: bool,
-    returns: bool,
+    here: &Standing,
     labels: &mut Labels,
 ) -> Result<(), Memory>
-    ensures marks { OnOk result (progress labels.new ≡ with_marks (store_marks (plain returns) (view_node node.now) h (stand slots.now over) labels.old.due) (progress labels.old)) }
+    ensures marks { OnOk result (progress labels.new ≡ with_marks (store_marks (plain here.now.returns) (view_node node.now) here.now.next (stand here.now) labels.old.due) (progress labels.old)) }
     ensures due { OnOk result (labels.new.due ≡ false) }
 {
     match node {
         Node::Set(_, _, value) => {
             let value = value.get();
-            walk_value(alloc, value, h, slots, over, returns, labels)?;
-            put_held(alloc, h, &value.seen.value, slots, over, labels)
+            walk_value(alloc, value, here, labels)?;
+            put_held(alloc, &value.seen.value, here, labels)
         }
         Node::Chain(..)
         | Node::Unary(..)
@@ -112,7 +100,7 @@ fn walk_store(
         | Node::Paren(..)
         | Node::Array(..)
         | Node::Iso(..)
-        | Node::Form(..) => labels.put(alloc, slots, over),
+        | Node::Form(..) => labels.put(alloc, here),
     }
 }
 
@@ -122,78 +110,62 @@ fn walk_node(
     alloc: Global,
     node: &Node,
     gives: bool,
-    h: u32,
-    slots: &Slots,
-    over: bool,
-    returns: bool,
+    here: &Standing,
     labels: &mut Labels,
 ) -> Result<(), Memory>
-    ensures marks { OnOk result (progress labels.new ≡ with_marks (node_marks (plain returns) gives (view_node node.now) h (stand slots.now over) labels.old.due) (progress labels.old)) }
+    ensures marks { OnOk result (progress labels.new ≡ with_marks (node_marks (plain here.now.returns) gives (view_node node.now) here.now.next (stand here.now) labels.old.due) (progress labels.old)) }
     ensures due { OnOk result (labels.new.due ≡ node_due gives (view_node node.now)) }
 {
     match node {
         Node::Paren(_, inner) => {
             let inner = inner.get();
             if !agree(gives, inner.seen.value.is_copy()) {
-                return labels.put(alloc, slots, over);
+                return labels.put(alloc, here);
             }
-            walk_expr(alloc, inner, h, slots, over, returns, labels)
+            walk_expr(alloc, inner, here, labels)
         }
         Node::Chain(first_operand, links) => {
             if !gives {
-                return labels.put(alloc, slots, over);
+                return labels.put(alloc, here);
             }
             let operand = first_operand.get();
-            walk_value(alloc, operand, h, slots, over, returns, labels)?;
-            walk_links(
-                alloc,
-                links,
-                &operand.seen.value,
-                h,
-                slots,
-                over,
-                returns,
-                labels,
-            )
+            walk_value(alloc, operand, here, labels)?;
+            walk_links(alloc, links, &operand.seen.value, here, labels)
         }
         Node::Unary(_, op, operand) => {
             if !gives {
-                return labels.put(alloc, slots, over);
+                return labels.put(alloc, here);
             }
             let operand = operand.get();
-            walk_value(alloc, operand, h, slots, over, returns, labels)?;
-            put_unary(alloc, *op, h, &operand.seen.value, slots, over, labels)
+            walk_value(alloc, operand, here, labels)?;
+            put_unary(alloc, *op, &operand.seen.value, here, labels)
         }
         Node::Set(_, place, value) => {
             if !gives {
-                return labels.put(alloc, slots, over);
+                return labels.put(alloc, here);
             }
             let value = value.get();
-            walk_value(alloc, value, h, slots, over, returns, labels)?;
-            put_set(
-                alloc,
-                place.get(),
-                h,
-                &value.seen.value,
-                slots,
-                over,
-                labels,
-            )
+            walk_value(alloc, value, here, labels)?;
+            put_set(alloc, place.get(), &value.seen.value, here, labels)
         }
         Node::Call(_, _, args) => {
             let args = args.as_slice();
-            walk_args(alloc, args, h, slots, over, returns, labels)?;
-            let inner = Slots::Waits(h, args, &*slots);
-            labels.put(alloc, &inner, over)
+            walk_args(alloc, args, here, labels)?;
+            let inner = Slots::Waits(here.next, args, &*here.slots);
+            let after = Standing {
+                slots: &inner,
+                ..*here
+            };
+            labels.put(alloc, &after)
         }
-        Node::Form(form) => walk_form(alloc, form.get(), gives, h, slots, over, returns, labels),
+        Node::Form(form) => walk_form(alloc, form.get(), gives, here, labels),
         Node::Number(..)
         | Node::Quote(..)
         | Node::Truth(..)
         | Node::Name { .. }
         | Node::Steps(..)
         | Node::Array(..)
-        | Node::Iso(..) => labels.put(alloc, slots, over),
+        | Node::Iso(..) => labels.put(alloc, here),
     }
 }
 
@@ -203,19 +175,21 @@ fn walk_node(
 fn walk_args(
     alloc: Global,
     args: &[Expr],
-    h: u32,
-    slots: &Slots,
-    over: bool,
-    returns: bool,
+    here: &Standing,
     labels: &mut Labels,
 ) -> Result<(), Memory>
-    ensures marks { OnOk result (progress labels.new ≡ with_marks (args_marks (plain returns) (exprs_of (map view_expr args.now)) h (stand slots.now over) labels.old.due) (progress labels.old)) }
+    ensures marks { OnOk result (progress labels.new ≡ with_marks (args_marks (plain here.now.returns) (exprs_of (map view_expr args.now)) here.now.next (stand here.now) labels.old.due) (progress labels.old)) }
     ensures due { OnOk result (labels.new.due ≡ args_due (exprs_of (map view_expr args.now)) labels.old.due) }
 {
-    let mut next = h;
+    let mut next = here.next;
     for (at, arg) in args.iter().enumerate() {
-        let inner = Slots::Waits(h, &args[..at], &*slots);
-        walk_value(alloc, arg, next, &inner, over, returns, labels)?;
+        let inner = Slots::Waits(here.next, &args[..at], &*here.slots);
+        let behind = Standing {
+            next,
+            slots: &inner,
+            ..*here
+        };
+        walk_value(alloc, arg, &behind, labels)?;
         next = above(next)?;
     }
     Ok(())
@@ -228,35 +202,37 @@ fn walk_link(
     alloc: Global,
     link: &Link,
     ty: &Ty,
-    h: u32,
-    slots: &Slots,
-    over: bool,
-    returns: bool,
+    here: &Standing,
     labels: &mut Labels,
 ) -> Result<(), Memory>
-    ensures marks { OnOk result (progress labels.new ≡ with_marks (one_link_marks (plain returns) (view_ty ty.now) (view_link link.now) h (stand slots.now over) labels.old.due) (progress labels.old)) }
+    ensures marks { OnOk result (progress labels.new ≡ with_marks (one_link_marks (plain here.now.returns) (view_ty ty.now) (view_link link.now) here.now.next (stand here.now) labels.old.due) (progress labels.old)) }
     ensures due { OnOk result (labels.new.due ≡ link_due (link_op (view_link link.now))) }
 {
     match link.op {
         BinaryOp::Or => {
-            put_held(alloc, h, ty, slots, over, labels)?;
+            put_held(alloc, ty, here, labels)?;
             labels.put_plain()?;
             labels.set_due(true);
-            walk_value(alloc, &link.operand, h, slots, over, returns, labels)?;
+            walk_value(alloc, &link.operand, here, labels)?;
             labels.set_due(true);
             Ok(())
         }
         BinaryOp::And => {
-            put_held(alloc, h, ty, slots, over, labels)?;
-            walk_value(alloc, &link.operand, h, slots, over, returns, labels)?;
+            put_held(alloc, ty, here, labels)?;
+            walk_value(alloc, &link.operand, here, labels)?;
             labels.set_due(true);
             Ok(())
         }
         _ => {
-            let next = above(h)?;
-            let inner = Slots::Holds(h, ty, &*slots);
-            walk_value(alloc, &link.operand, next, &inner, over, returns, labels)?;
-            put_held(alloc, next, &link.operand.seen.value, &inner, over, labels)
+            let next = above(here.next)?;
+            let inner = Slots::Holds(here.next, ty, &*here.slots);
+            let behind = Standing {
+                next,
+                slots: &inner,
+                ..*here
+            };
+            walk_value(alloc, &link.operand, &behind, labels)?;
+            put_held(alloc, &link.operand.seen.value, &behind, labels)
         }
     }
 }
@@ -267,19 +243,16 @@ fn walk_links(
     alloc: Global,
     links: &Items<Link>,
     ty: &Ty,
-    h: u32,
-    slots: &Slots,
-    over: bool,
-    returns: bool,
+    here: &Standing,
     labels: &mut Labels,
 ) -> Result<(), Memory>
-    ensures marks { OnOk result (progress labels.new ≡ with_marks (links_marks (plain returns) (view_ty ty.now) (links_of (map view_link links.now)) h (stand slots.now over) labels.old.due) (progress labels.old)) }
+    ensures marks { OnOk result (progress labels.new ≡ with_marks (links_marks (plain here.now.returns) (view_ty ty.now) (links_of (map view_link links.now)) here.now.next (stand here.now) labels.old.due) (progress labels.old)) }
     ensures due { OnOk result (labels.new.due ≡ links_due (links_of (map view_link links.now)) labels.old.due) }
 {
     let mut held = ty;
     let slice = links.as_slice();
     for link in slice {
-        walk_link(alloc, link, held, h, slots, over, returns, labels)?;
+        walk_link(alloc, link, held, here, labels)?;
         held = &link.seen.value;
     }
     Ok(())
@@ -291,29 +264,27 @@ fn walk_form(
     alloc: Global,
     form: &Form,
     gives: bool,
-    h: u32,
-    slots: &Slots,
-    over: bool,
-    returns: bool,
+    here: &Standing,
     labels: &mut Labels,
 ) -> Result<(), Memory>
-    ensures marks { OnOk result (progress labels.new ≡ with_marks (form_marks (plain returns) gives (view_form form.now) h (stand slots.now over) labels.old.due) (progress labels.old)) }
+    ensures marks { OnOk result (progress labels.new ≡ with_marks (form_marks (plain here.now.returns) gives (view_form form.now) here.now.next (stand here.now) labels.old.due) (progress labels.old)) }
     ensures due { OnOk result (labels.new.due ≡ form_due (view_form form.now)) }
 {
     match form {
         Form::If(_, condition, block, else_ifs, otherwise) => {
-            let next = above(h)?;
-            walk_value(alloc, condition, h, slots, over, returns, labels)?;
-            put_held(alloc, h, &condition.seen.value, slots, over, labels)?;
-            walk_block(alloc, block, gives, next, slots, over, returns, labels)?;
-            end_side(alloc, block, gives, h, slots, over, labels)?;
-            walk_else_ifs(alloc, else_ifs, gives, h, slots, over, returns, labels)?;
-            walk_else(alloc, otherwise, gives, h, slots, over, returns, labels)?;
+            let next = above(here.next)?;
+            let inner = Standing { next, ..*here };
+            walk_value(alloc, condition, here, labels)?;
+            put_held(alloc, &condition.seen.value, here, labels)?;
+            walk_block(alloc, block, gives, &inner, labels)?;
+            end_side(alloc, block, gives, here, labels)?;
+            walk_else_ifs(alloc, else_ifs, gives, here, labels)?;
+            walk_else(alloc, otherwise, gives, here, labels)?;
             labels.set_due(true);
             Ok(())
         }
         Form::Pure(..) | Form::ParallelRange(..) | Form::ParallelEach(..) => {
-            labels.put(alloc, slots, over)
+            labels.put(alloc, here)
         }
     }
 }
@@ -324,29 +295,18 @@ fn walk_else_if(
     alloc: Global,
     else_if: &ElseIf,
     gives: bool,
-    h: u32,
-    slots: &Slots,
-    over: bool,
-    returns: bool,
+    here: &Standing,
     labels: &mut Labels,
 ) -> Result<(), Memory>
-    ensures marks { OnOk result (progress labels.new ≡ with_marks (side_marks (plain returns) gives (view_else_if else_if.now) h (stand slots.now over) labels.old.due) (progress labels.old)) }
+    ensures marks { OnOk result (progress labels.new ≡ with_marks (side_marks (plain here.now.returns) gives (view_else_if else_if.now) here.now.next (stand here.now) labels.old.due) (progress labels.old)) }
     ensures due { OnOk result (labels.new.due ≡ true) }
 {
-    let next = above(h)?;
-    walk_value(alloc, &else_if.condition, h, slots, over, returns, labels)?;
-    put_held(alloc, h, &else_if.condition.seen.value, slots, over, labels)?;
-    walk_block(
-        alloc,
-        &else_if.block,
-        gives,
-        next,
-        slots,
-        over,
-        returns,
-        labels,
-    )?;
-    end_side(alloc, &else_if.block, gives, h, slots, over, labels)
+    let next = above(here.next)?;
+    let inner = Standing { next, ..*here };
+    walk_value(alloc, &else_if.condition, here, labels)?;
+    put_held(alloc, &else_if.condition.seen.value, here, labels)?;
+    walk_block(alloc, &else_if.block, gives, &inner, labels)?;
+    end_side(alloc, &else_if.block, gives, here, labels)
 }
 
 #[cycle(walk)]
@@ -355,18 +315,15 @@ fn walk_else_ifs(
     alloc: Global,
     else_ifs: &Items<ElseIf>,
     gives: bool,
-    h: u32,
-    slots: &Slots,
-    over: bool,
-    returns: bool,
+    here: &Standing,
     labels: &mut Labels,
 ) -> Result<(), Memory>
-    ensures marks { OnOk result (progress labels.new ≡ with_marks (sides_marks (plain returns) gives (map view_else_if else_ifs.now) h (stand slots.now over) labels.old.due) (progress labels.old)) }
+    ensures marks { OnOk result (progress labels.new ≡ with_marks (sides_marks (plain here.now.returns) gives (map view_else_if else_ifs.now) here.now.next (stand here.now) labels.old.due) (progress labels.old)) }
     ensures due { OnOk result (labels.new.due ≡ sides_due (map view_else_if else_ifs.now) labels.old.due) }
 {
     let slice = else_ifs.as_slice();
     for else_if in slice {
-        walk_else_if(alloc, else_if, gives, h, slots, over, returns, labels)?;
+        walk_else_if(alloc, else_if, gives, here, labels)?;
     }
     Ok(())
 }
@@ -377,22 +334,20 @@ fn walk_else(
     alloc: Global,
     otherwise: &Option<Block>,
     gives: bool,
-    h: u32,
-    slots: &Slots,
-    over: bool,
-    returns: bool,
+    here: &Standing,
     labels: &mut Labels,
 ) -> Result<(), Memory>
-    ensures { OnOk result (progress labels.new ≡ with_marks (elses_marks (plain returns) gives (else_end (option_map view_block otherwise.now)) h (stand slots.now over) labels.old.due) (progress labels.old)) }
+    ensures { OnOk result (progress labels.new ≡ with_marks (elses_marks (plain here.now.returns) gives (else_end (option_map view_block otherwise.now)) here.now.next (stand here.now) labels.old.due) (progress labels.old)) }
 {
     match otherwise {
         Some(block) => {
-            let next = above(h)?;
-            walk_block(alloc, block, gives, next, slots, over, returns, labels)
+            let next = above(here.next)?;
+            let inner = Standing { next, ..*here };
+            walk_block(alloc, block, gives, &inner, labels)
         }
         None => {
             if gives {
-                return labels.put(alloc, slots, over);
+                return labels.put(alloc, here);
             }
             Ok(())
         }
@@ -406,34 +361,28 @@ pub fn walk_block(
     alloc: Global,
     block: &Block,
     gives: bool,
-    h: u32,
-    slots: &Slots,
-    over: bool,
-    returns: bool,
+    here: &Standing,
     labels: &mut Labels,
 ) -> Result<(), Memory>
-    ensures marks { OnOk result (progress labels.new ≡ with_marks (block_marks (plain returns) gives (view_block block.now) h (stand slots.now over) labels.old.due) (progress labels.old)) }
-    ensures due { OnOk result (labels.new.due ≡ block_due returns gives (view_block block.now) labels.old.due) }
+    ensures marks { OnOk result (progress labels.new ≡ with_marks (block_marks (plain here.now.returns) gives (view_block block.now) here.now.next (stand here.now) labels.old.due) (progress labels.old)) }
+    ensures due { OnOk result (labels.new.due ≡ block_due here.now.returns gives (view_block block.now) labels.old.due) }
 {
-    let mut frame = Frame::new(alloc, h, over);
+    let mut frame = Frame::new(alloc, here.next, here.over);
     let stmts = block.stmts.as_slice();
     for stmt in stmts {
-        let goes_on = walk_next(alloc, stmt, &mut frame, slots, returns, labels)?;
+        let goes_on = walk_next(alloc, stmt, &mut frame, here.slots, here.returns, labels)?;
         if !goes_on {
             return Ok(());
         }
     }
-    let inner = Slots::Frame(&frame.locals, &*slots);
-    walk_last(
-        alloc,
-        &block.last,
-        gives,
-        frame.next,
-        &inner,
-        frame.over,
-        returns,
-        labels,
-    )
+    let inner = Slots::Frame(&frame.locals, &*here.slots);
+    let after = Standing {
+        next: frame.next,
+        slots: &inner,
+        over: frame.over,
+        returns: here.returns,
+    };
+    walk_last(alloc, &block.last, gives, &after, labels)
 }
 
 #[cycle(walk)]
@@ -442,31 +391,31 @@ fn walk_last(
     alloc: Global,
     last: &Option<Boxed<Expr>>,
     gives: bool,
-    h: u32,
-    slots: &Slots,
-    over: bool,
-    returns: bool,
+    here: &Standing,
     labels: &mut Labels,
 ) -> Result<(), Memory>
-    ensures marks { OnOk result (progress labels.new ≡ with_marks (stmts_marks (plain returns) gives (last_end (option_map view_expr last.now)) h (stand slots.now over) labels.old.due) (progress labels.old)) }
-    ensures due { OnOk result (labels.new.due ≡ stmts_due returns gives (last_end (option_map view_expr last.now)) labels.old.due) }
+    ensures marks { OnOk result (progress labels.new ≡ with_marks (stmts_marks (plain here.now.returns) gives (last_end (option_map view_expr last.now)) here.now.next (stand here.now) labels.old.due) (progress labels.old)) }
+    ensures due { OnOk result (labels.new.due ≡ stmts_due here.now.returns gives (last_end (option_map view_expr last.now)) labels.old.due) }
 {
     match last {
         Some(value) => {
             let value = value.get();
             if gives {
-                walk_value(alloc, value, h, slots, over, returns, labels)?;
-                let over = expr_returns(value) || over;
-                return put_held(alloc, h, &value.seen.value, slots, over, labels);
+                walk_value(alloc, value, here, labels)?;
+                let after = Standing {
+                    over: expr_returns(value) || here.over,
+                    ..*here
+                };
+                return put_held(alloc, &value.seen.value, &after, labels);
             }
             if value.seen.value.is_copy() {
-                return labels.put(alloc, slots, over);
+                return labels.put(alloc, here);
             }
-            walk_expr(alloc, value, h, slots, over, returns, labels)
+            walk_expr(alloc, value, here, labels)
         }
         None => {
             if gives {
-                return labels.put(alloc, slots, over);
+                return labels.put(alloc, here);
             }
             Ok(())
         }
@@ -494,21 +443,37 @@ fn walk_next(
     match stmt {
         Stmt::Declare(name, ty, value) => {
             let inner = Slots::Frame(&frame.locals, &*slots);
-            walk_value(
-                alloc, value, frame.next, &inner, frame.over, returns, labels,
-            )?;
+            let here = Standing {
+                next: frame.next,
+                slots: &inner,
+                over: frame.over,
+                returns,
+            };
+            walk_value(alloc, value, &here, labels)?;
             frame.declare(name.name, ty.copy(alloc)?)?;
             Ok(true)
         }
         Stmt::Destructure(..) => {
             let inner = Slots::Frame(&frame.locals, &*slots);
-            labels.put(alloc, &inner, frame.over)?;
+            let here = Standing {
+                next: frame.next,
+                slots: &inner,
+                over: frame.over,
+                returns,
+            };
+            labels.put(alloc, &here)?;
             Ok(false)
         }
         Stmt::Return(..) | Stmt::While(..) | Stmt::Foreach(..) | Stmt::Form(_) | Stmt::Express(_) =>
             {
                 let inner = Slots::Frame(&frame.locals, &*slots);
-                walk_stmt(alloc, stmt, frame.next, &inner, frame.over, returns, labels)?;
+                let here = Standing {
+                    next: frame.next,
+                    slots: &inner,
+                    over: frame.over,
+                    returns,
+                };
+                walk_stmt(alloc, stmt, &here, labels)?;
                 frame.over = stmt_returns(stmt) || frame.over;
                 Ok(true)
             }
@@ -517,49 +482,48 @@ fn walk_next(
 
 #[cycle(walk)]
 #[tactic(auto, using(crate::proofs::WalkLaws::stmts))]
-fn walk_stmt(
-    alloc: Global,
-    stmt: &Stmt,
-    h: u32,
-    slots: &Slots,
-    over: bool,
-    returns: bool,
-    labels: &mut Labels,
-) -> Result<(), Memory>
-    ensures marks { OnOk result (progress labels.new ≡ with_marks (stmt_marks (plain returns) (view_stmt stmt.now) h (stand slots.now over) labels.old.due) (progress labels.old)) }
-    ensures due { OnOk result (labels.new.due ≡ stmt_due returns (view_stmt stmt.now)) }
+fn walk_stmt(alloc: Global, stmt: &Stmt, here: &Standing, labels: &mut Labels) -> Result<(), Memory>
+    ensures marks { OnOk result (progress labels.new ≡ with_marks (stmt_marks (plain here.now.returns) (view_stmt stmt.now) here.now.next (stand here.now) labels.old.due) (progress labels.old)) }
+    ensures due { OnOk result (labels.new.due ≡ stmt_due here.now.returns (view_stmt stmt.now)) }
 {
     match stmt {
-        Stmt::Declare(..) | Stmt::Destructure(..) => labels.put(alloc, slots, over),
+        Stmt::Declare(..) | Stmt::Destructure(..) => labels.put(alloc, here),
         Stmt::Return(_, None) => {
-            labels.put(alloc, slots, over)?;
-            labels.set_due(!returns);
+            labels.put(alloc, here)?;
+            labels.set_due(!here.returns);
             Ok(())
         }
-        Stmt::Return(_, Some(value)) => {
-            walk_return(alloc, value.get(), h, slots, over, returns, labels)
-        }
+        Stmt::Return(_, Some(value)) => { walk_return(alloc, value.get(), here, labels) }
         Stmt::While(_, condition, block) => {
-            let next = above(h)?;
-            begin_loop(alloc, slots, over, labels)?;
-            walk_block(alloc, block, false, next, slots, over, returns, labels)?;
+            let next = above(here.next)?;
+            let inner = Standing { next, ..*here };
+            begin_loop(alloc, here, labels)?;
+            walk_block(alloc, block, false, &inner, labels)?;
             labels.set_due(true);
-            walk_value(alloc, condition, h, slots, over, returns, labels)?;
-            end_loop(alloc, h, &condition.seen.value, slots, over, labels)
+            walk_value(alloc, condition, here, labels)?;
+            end_loop(alloc, &condition.seen.value, here, labels)
         }
         Stmt::Foreach(_, name, from, to, block) => {
-            let bound = above(h)?;
+            let bound = above(here.next)?;
             let turn = above(bound)?;
-            walk_value(alloc, from, h, slots, over, returns, labels)?;
-            let counter = Slots::Holds(h, &from.seen.value, &*slots);
-            walk_value(alloc, to, bound, &counter, over, returns, labels)?;
+            walk_value(alloc, from, here, labels)?;
+            let counter = Slots::Holds(here.next, &from.seen.value, &*here.slots);
+            let bounded = Standing {
+                next: bound,
+                slots: &counter,
+                ..*here
+            };
+            walk_value(alloc, to, &bounded, labels)?;
             let counted = Slots::Holds(bound, &to.seen.value, &counter);
-            walk_turns(
-                alloc, block, name.name, turn, &counted, over, returns, labels,
-            )
+            let turned = Standing {
+                next: turn,
+                slots: &counted,
+                ..*here
+            };
+            walk_turns(alloc, block, name.name, &turned, labels)
         }
-        Stmt::Form(form) => walk_form(alloc, form, false, h, slots, over, returns, labels),
-        Stmt::Express(value) => walk_unused(alloc, value, h, slots, over, returns, labels),
+        Stmt::Form(form) => walk_form(alloc, form, false, here, labels),
+        Stmt::Express(value) => walk_unused(alloc, value, here, labels),
     }
 }
 
@@ -569,20 +533,17 @@ fn walk_stmt(
 fn walk_return(
     alloc: Global,
     value: &Expr,
-    h: u32,
-    slots: &Slots,
-    over: bool,
-    returns: bool,
+    here: &Standing,
     labels: &mut Labels,
 ) -> Result<(), Memory>
-    ensures marks { OnOk result (progress labels.new ≡ with_marks (return_marks (plain returns) (view_expr value.now) h (stand slots.now over) labels.old.due) (progress labels.old)) }
-    ensures due { OnOk result (labels.new.due ≡ returns) }
+    ensures marks { OnOk result (progress labels.new ≡ with_marks (return_marks (plain here.now.returns) (view_expr value.now) here.now.next (stand here.now) labels.old.due) (progress labels.old)) }
+    ensures due { OnOk result (labels.new.due ≡ here.now.returns) }
 {
-    if !returns {
-        return labels.put(alloc, slots, over);
+    if !here.returns {
+        return labels.put(alloc, here);
     }
-    walk_value(alloc, value, h, slots, over, returns, labels)?;
-    put_return(alloc, h, &value.seen.value, slots, over, labels)
+    walk_value(alloc, value, here, labels)?;
+    put_return(alloc, &value.seen.value, here, labels)
 }
 
 // A loop over numbers after its bounds, where each turn has its number in a register.
@@ -592,23 +553,25 @@ fn walk_turns(
     alloc: Global,
     block: &Block,
     name: Name,
-    turn: u32,
-    slots: &Slots,
-    over: bool,
-    returns: bool,
+    here: &Standing,
     labels: &mut Labels,
 ) -> Result<(), Memory>
-    ensures marks { OnOk result (progress labels.new ≡ with_marks (turns_marks (plain returns) (view_block block.now) name.0 turn (stand slots.now over) labels.old.due) (progress labels.old)) }
+    ensures marks { OnOk result (progress labels.new ≡ with_marks (turns_marks (plain here.now.returns) (view_block block.now) name.0 here.now.next (stand here.now) labels.old.due) (progress labels.old)) }
     ensures due { OnOk result (labels.new.due ≡ true) }
 {
-    let next = above(turn)?;
-    begin_count(alloc, slots, over, labels)?;
+    let next = above(here.next)?;
+    begin_count(alloc, here, labels)?;
     let local = [Local {
         name,
-        register: turn,
+        register: here.next,
         ty: Ty::Int,
     }];
-    let inner = Slots::Frame(&local, &*slots);
-    walk_block(alloc, block, false, next, &inner, over, returns, labels)?;
-    end_count(alloc, block, slots, over, labels)
+    let inner = Slots::Frame(&local, &*here.slots);
+    let turn = Standing {
+        next,
+        slots: &inner,
+        ..*here
+    };
+    walk_block(alloc, block, false, &turn, labels)?;
+    end_count(alloc, block, here, labels)
 }
