@@ -12,7 +12,7 @@ ghost use Rattle.vale_lower_expr.specs.Entries.{framed};
 ghost use Rattle.vale_lower_expr.specs.Held.{texts_of, functions_of};
 ghost use Rattle.vale_lower_expr.specs.Surroundings.{view_around};
 
-use crate::walk::emit_block;
+use crate::walk::{Standing, emit_block};
 use std::alloc::Global;
 use vale_base::{Memory, Text};
 use vale_code::{Func, Instr, Sequence, Ty};
@@ -83,7 +83,12 @@ fn emit_body(
     let next = above(to)?;
     let outside = Scope::Outside;
     let scope = Scope::Frame(&frame.locals, &outside);
-    emit_block(alloc, block, false, to, next, &scope, around, &mut buffer)?;
+    let here = Standing {
+        next,
+        scope: &scope,
+        around: &*around,
+    };
+    emit_block(alloc, block, false, to, &here, &mut buffer)?;
     if around.gives {
         buffer.put(Instr::Ret { from: to })?;
         return Ok(buffer);

@@ -22,5 +22,5 @@ pub use names::{all_texts, number_of_main, text_of};
 pub use nodes::{is_set, put_callee, put_local, put_operator, put_quote, put_set, put_set_only};
 pub use registers::registers_in;
 pub use scope::{Local, Scope};
-pub use shapes::{agree, put_number, put_truth, put_unary};
+pub use shapes::{Call, agree, put_number, put_truth, put_unary};
 pub use texts::Texts;

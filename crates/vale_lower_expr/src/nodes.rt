@@ -14,13 +14,15 @@ ghost use Rattle.vale_lower_expr.specs.Surroundings.{view_around};
 use crate::around::Around;
 use crate::code_buffer::{CodeBuffer, above};
 use crate::scope::{Scope, place_of};
-use crate::shapes::{operator, put_built_in, put_exchange, put_load, put_store, registers_from};
+use crate::shapes::{
+    Call, operator, put_built_in, put_exchange, put_load, put_store, registers_from,
+};
 use crate::texts::Texts;
 use std::alloc::Global;
 use vale_base::{Memory, Name, Spot, TEXT_LIMIT, Text};
 use vale_code::Instr;
 use vale_core::{Callee, Expr, Node, Ty};
-use vale_syntax::{BinaryOp, NameAt};
+use vale_syntax::BinaryOp;
 
 // Whether a `str` may have this text. Each byte of it is one.
 #[tactic(auto, using(crate::proofs::NodeLaws::lawful_text))]
@@ -144,49 +146,43 @@ pub fn put_operator(
     buffer.put(operator(op, ty, at, h, next))
 }
 
-// A call of the first function of a name.
+// A call of the first function of the name.
 #[tactic(auto, using(crate::proofs::NodeLaws::call_by_number))]
 fn put_call(
     alloc: Global,
     buffer: &mut CodeBuffer,
     around: &Around,
-    gives: bool,
-    name: NameAt,
-    values: usize,
-    h: u32,
+    call: Call,
 ) -> Result<(), Memory>
-    ensures { OnOk result (buffer.new.code.items ≡ buffer.old.code.items ++ call_code (view_around around.now) gives name values h) }
+    ensures { OnOk result (buffer.new.code.items ≡ buffer.old.code.items ++ call_code (view_around around.now) call.gives call.name call.values call.first) }
 {
-    match around.functions.called(name.name, gives) {
-        None => buffer.put_stuck(h),
+    match around.functions.called(call.name.name, call.gives) {
+        None => buffer.put_stuck(call.first),
         Some(func) => {
-            let args = registers_from(alloc, h, values)?;
+            let args = registers_from(alloc, call.first, call.values)?;
             buffer.put(Instr::Call {
-                to: h,
+                to: call.first,
                 func,
                 args,
-                at: name.at,
+                at: call.name.at,
             })
         }
     }
 }
 
-/// A call of so many values in the registers from one on.
+/// A call of what the name stands for.
 pub fn put_callee(
     alloc: Global,
     buffer: &mut CodeBuffer,
     around: &Around,
-    gives: bool,
-    name: NameAt,
     callee: Callee,
-    values: usize,
-    h: u32,
+    call: Call,
 ) -> Result<(), Memory>
-    ensures { OnOk result (buffer.new.code.items ≡ buffer.old.code.items ++ callee_code (view_around around.now) gives name (view_callee callee) values h) }
+    ensures { OnOk result (buffer.new.code.items ≡ buffer.old.code.items ++ callee_code (view_around around.now) call.gives call.name (view_callee callee) call.values call.first) }
 {
     match callee {
-        Callee::BuiltIn(f) => put_built_in(buffer, f, values, gives, name.at, h),
-        Callee::Constructor => buffer.put_stuck(h),
-        Callee::Function(_) => put_call(alloc, buffer, around, gives, name, values, h),
+        Callee::BuiltIn(f) => put_built_in(buffer, f, call),
+        Callee::Constructor => buffer.put_stuck(call.first),
+        Callee::Function(_) => put_call(alloc, buffer, around, call),
     }
 }

@@ -13,7 +13,7 @@ use std::alloc::Global;
 use vale_base::{Memory, Spot};
 use vale_code::{Instr, Sequence};
 use vale_core::Ty;
-use vale_syntax::{BinaryOp, BuiltIn, UnaryOp};
+use vale_syntax::{BinaryOp, BuiltIn, NameAt, UnaryOp};
 
 /// Whether a value is given exactly where one is wanted.
 pub fn agree(one: bool, other: bool) -> bool
@@ -205,20 +205,31 @@ fn only_where(one: bool, other: bool, instr: Instr, h: u32) -> Instr
     }
 }
 
-/// A built-in function of so many values in the registers from one on, where a value is wanted or none.
-fn built_in(
-    f: BuiltIn,
-    values: usize,
-    gives: bool,
-    at: Spot,
-    h: u32,
-    next: u32,
-    after: u32,
-) -> Instr
-    requires next { next ≡ h + 1 }
+/// A call, once its values stand in registers.
+#[derive(Clone, Copy)]
+pub struct Call {
+    pub name: NameAt,
+    /// Whether a value is wanted of it.
+    pub gives: bool,
+    /// How many values it passes.
+    pub values: usize,
+    /// The register of the first of them, to which the call's value goes; the others stand in those after it.
+    pub first: u32,
+}
+
+// A call of a built-in function, where these are the two registers after the first.
+fn built_in(f: BuiltIn, call: Call, next: u32, after: u32) -> Instr
+    requires next { next ≡ call.first + 1 }
     requires after { after ≡ next + 1 }
-    ensures { result ∷ [] ≡ built_in_code f values gives at h }
+    ensures { result ∷ [] ≡ built_in_code f call.values call.gives call.name.at call.first }
 {
+    let Call {
+        name,
+        gives,
+        values,
+        first: h,
+    } = call;
+    let at = name.at;
     let (to, from) = (h, h);
     match f {
         BuiltIn::Print => only_where(values == 1, !gives, Instr::Print { from, choice: 0 }, h),
@@ -250,18 +261,11 @@ fn built_in(
     }
 }
 
-/// The same, at the end of what was emitted.
-pub fn put_built_in(
-    buffer: &mut CodeBuffer,
-    f: BuiltIn,
-    values: usize,
-    gives: bool,
-    at: Spot,
-    h: u32,
-) -> Result<(), Memory>
-    ensures { OnOk result (buffer.new.code.items ≡ buffer.old.code.items ++ built_in_code f values gives at h) }
+/// A call of a built-in function.
+pub fn put_built_in(buffer: &mut CodeBuffer, f: BuiltIn, call: Call) -> Result<(), Memory>
+    ensures { OnOk result (buffer.new.code.items ≡ buffer.old.code.items ++ built_in_code f call.values call.gives call.name.at call.first) }
 {
-    let next = above(h)?;
+    let next = above(call.first)?;
     let after = above(next)?;
-    buffer.put(built_in(f, values, gives, at, h, next, after))
+    buffer.put(built_in(f, call, next, after))
 }
