@@ -14,13 +14,8 @@ use std::alloc::Global;
 use vale_base::{Memory, Name};
 use vale_core::{Block, ElseIf, Expr, Form, Link, Node, Stmt, Ty, expr_returns, stmt_returns};
 use vale_label_steps::{
-<<<<<<< HEAD
-    Frame, Labels, Local, Slots, begin_count, begin_loop, end_count, end_loop, end_side, put_held,
-    put_return, put_set, put_unary,
-=======
     Frame, Labels, Local, Slots, Standing, begin_count, begin_loop, end_count, end_loop, end_side,
     put_held, put_return, put_set, put_unary,
->>>>>>> f21061f (Where a node stands is one struct in the walk of the labels)
 };
 use vale_lower_expr::{above, agree, is_set};
 use vale_syntax::BinaryOp;
