@@ -138,7 +138,10 @@ fn read_four_words_list_spot(
 {
     let (first, rest) = read_word(bytes)?;
     match read_three_words_list_spot(alloc, rest) {
-        Ok(((second, third, fourth, list, at), rest)) => Ok(((first, second, third, fourth, list, at), rest)),
+        Ok(((second, third, fourth, list, at), rest)) => Ok((
+            (first, second, third, fourth, list, at),
+            rest,
+        )),
         Err(fault) => Err(fault),
     }
 }
@@ -229,11 +232,7 @@ fn read_two_words_kind(bytes: &[u8]) -> Result<((u32, u32, Kind), &[u8]), Fail<F
 }
 
 // The operands of the forms from 0 to 10.
-fn read_operands_0_to_10(
-    alloc: Global,
-    tag: u8,
-    bytes: &[u8],
-) -> Result<(Instr, &[u8]), Fail<Fault>>
+fn read_operands_0_to_10(tag: u8, bytes: &[u8]) -> Result<(Instr, &[u8]), Fail<Fault>>
     requires from { 0 ≤ tag }
     requires up_to { tag < 11 }
     ensures { Gives (λ x. (x.0, x.1.now)) result ((pick instr_forms tag).read bytes.now) }
@@ -260,38 +259,82 @@ fn read_operands_0_to_10(
             Err(fault) => Err(fault),
         },
         5 => match read_three_words_spot(bytes) {
-            Ok(((to, left, right, at), rest)) => Ok((Instr::Add { to, left, right, at }, rest)),
+            Ok(((to, left, right, at), rest)) => Ok((
+                Instr::Add {
+                    to,
+                    left,
+                    right,
+                    at,
+                },
+                rest,
+            )),
             Err(fault) => Err(fault),
         },
         6 => match read_three_words_spot(bytes) {
-            Ok(((to, left, right, at), rest)) => Ok((Instr::Sub { to, left, right, at }, rest)),
+            Ok(((to, left, right, at), rest)) => Ok((
+                Instr::Sub {
+                    to,
+                    left,
+                    right,
+                    at,
+                },
+                rest,
+            )),
             Err(fault) => Err(fault),
         },
         7 => match read_three_words_spot(bytes) {
-            Ok(((to, left, right, at), rest)) => Ok((Instr::Mul { to, left, right, at }, rest)),
+            Ok(((to, left, right, at), rest)) => Ok((
+                Instr::Mul {
+                    to,
+                    left,
+                    right,
+                    at,
+                },
+                rest,
+            )),
             Err(fault) => Err(fault),
         },
         8 => match read_three_words_spot(bytes) {
-            Ok(((to, left, right, at), rest)) => Ok((Instr::Div { to, left, right, at }, rest)),
+            Ok(((to, left, right, at), rest)) => Ok((
+                Instr::Div {
+                    to,
+                    left,
+                    right,
+                    at,
+                },
+                rest,
+            )),
             Err(fault) => Err(fault),
         },
         9 => match read_three_words_spot(bytes) {
-            Ok(((to, left, right, at), rest)) => Ok((Instr::Rem { to, left, right, at }, rest)),
+            Ok(((to, left, right, at), rest)) => Ok((
+                Instr::Rem {
+                    to,
+                    left,
+                    right,
+                    at,
+                },
+                rest,
+            )),
             Err(fault) => Err(fault),
         },
         _ => match read_word_choice_two_words(bytes) {
-            Ok(((to, choice, left, right), rest)) => Ok((Instr::Cmp { to, choice, left, right }, rest)),
+            Ok(((to, choice, left, right), rest)) => Ok((
+                Instr::Cmp {
+                    to,
+                    choice,
+                    left,
+                    right,
+                },
+                rest,
+            )),
             Err(fault) => Err(fault),
         },
     }
 }
 
 // The operands of the forms from 11 to 21.
-fn read_operands_11_to_21(
-    alloc: Global,
-    tag: u8,
-    bytes: &[u8],
-) -> Result<(Instr, &[u8]), Fail<Fault>>
+fn read_operands_11_to_21(tag: u8, bytes: &[u8]) -> Result<(Instr, &[u8]), Fail<Fault>>
     requires from { 11 ≤ tag }
     requires up_to { tag < 22 }
     ensures { Gives (λ x. (x.0, x.1.now)) result ((pick instr_forms tag).read bytes.now) }
@@ -302,7 +345,15 @@ fn read_operands_11_to_21(
             Err(fault) => Err(fault),
         },
         12 => match read_three_words_spot(bytes) {
-            Ok(((to, left, right, at), rest)) => Ok((Instr::Join { to, left, right, at }, rest)),
+            Ok(((to, left, right, at), rest)) => Ok((
+                Instr::Join {
+                    to,
+                    left,
+                    right,
+                    at,
+                },
+                rest,
+            )),
             Err(fault) => Err(fault),
         },
         13 => match read_two_words(bytes) {
@@ -310,11 +361,28 @@ fn read_operands_11_to_21(
             Err(fault) => Err(fault),
         },
         14 => match read_four_words_spot(bytes) {
-            Ok(((to, from, first, end, at), rest)) => Ok((Instr::Slice { to, from, first, end, at }, rest)),
+            Ok(((to, from, first, end, at), rest)) => Ok((
+                Instr::Slice {
+                    to,
+                    from,
+                    first,
+                    end,
+                    at,
+                },
+                rest,
+            )),
             Err(fault) => Err(fault),
         },
         15 => match read_three_words_spot(bytes) {
-            Ok(((to, from, index, at), rest)) => Ok((Instr::Byte { to, from, index, at }, rest)),
+            Ok(((to, from, index, at), rest)) => Ok((
+                Instr::Byte {
+                    to,
+                    from,
+                    index,
+                    at,
+                },
+                rest,
+            )),
             Err(fault) => Err(fault),
         },
         16 => match read_two_words(bytes) {
@@ -361,11 +429,31 @@ fn read_operands_22_to_32(
             Err(fault) => Err(fault),
         },
         24 => match read_four_words_list_spot(alloc, bytes) {
-            Ok(((to, interface, method, object, args, at), rest)) => Ok((Instr::CallM { to, interface, method, object, args, at }, rest)),
+            Ok(((to, interface, method, object, args, at), rest)) => Ok((
+                Instr::CallM {
+                    to,
+                    interface,
+                    method,
+                    object,
+                    args,
+                    at,
+                },
+                rest,
+            )),
             Err(fault) => Err(fault),
         },
         25 => match read_four_words_list_spot(alloc, bytes) {
-            Ok(((to, interface, method, object, args, at), rest)) => Ok((Instr::CallMLive { to, interface, method, object, args, at }, rest)),
+            Ok(((to, interface, method, object, args, at), rest)) => Ok((
+                Instr::CallMLive {
+                    to,
+                    interface,
+                    method,
+                    object,
+                    args,
+                    at,
+                },
+                rest,
+            )),
             Err(fault) => Err(fault),
         },
         26 => match read_word(bytes) {
@@ -390,7 +478,15 @@ fn read_operands_22_to_32(
             Err(fault) => Err(fault),
         },
         _ => match read_three_words_spot(bytes) {
-            Ok(((to, object, field, at), rest)) => Ok((Instr::Load { to, object, field, at }, rest)),
+            Ok(((to, object, field, at), rest)) => Ok((
+                Instr::Load {
+                    to,
+                    object,
+                    field,
+                    at,
+                },
+                rest,
+            )),
             Err(fault) => Err(fault),
         },
     }
@@ -412,15 +508,39 @@ fn read_operands_33_to_43(
             Err(fault) => Err(fault),
         },
         34 => match read_three_words_spot(bytes) {
-            Ok(((to, object, index, at), rest)) => Ok((Instr::ElemOwn { to, object, index, at }, rest)),
+            Ok(((to, object, index, at), rest)) => Ok((
+                Instr::ElemOwn {
+                    to,
+                    object,
+                    index,
+                    at,
+                },
+                rest,
+            )),
             Err(fault) => Err(fault),
         },
         35 => match read_three_words_spot(bytes) {
-            Ok(((to, object, index, at), rest)) => Ok((Instr::Elem { to, object, index, at }, rest)),
+            Ok(((to, object, index, at), rest)) => Ok((
+                Instr::Elem {
+                    to,
+                    object,
+                    index,
+                    at,
+                },
+                rest,
+            )),
             Err(fault) => Err(fault),
         },
         36 => match read_three_words_spot(bytes) {
-            Ok(((to, object, index, at), rest)) => Ok((Instr::ElemLive { to, object, index, at }, rest)),
+            Ok(((to, object, index, at), rest)) => Ok((
+                Instr::ElemLive {
+                    to,
+                    object,
+                    index,
+                    at,
+                },
+                rest,
+            )),
             Err(fault) => Err(fault),
         },
         37 => match read_two_words_spot(bytes) {
@@ -432,19 +552,54 @@ fn read_operands_33_to_43(
             Err(fault) => Err(fault),
         },
         39 => match read_four_words(bytes) {
-            Ok(((to, object, field, value), rest)) => Ok((Instr::SwapOwn { to, object, field, value }, rest)),
+            Ok(((to, object, field, value), rest)) => Ok((
+                Instr::SwapOwn {
+                    to,
+                    object,
+                    field,
+                    value,
+                },
+                rest,
+            )),
             Err(fault) => Err(fault),
         },
         40 => match read_four_words_spot(bytes) {
-            Ok(((to, object, field, value, at), rest)) => Ok((Instr::Swap { to, object, field, value, at }, rest)),
+            Ok(((to, object, field, value, at), rest)) => Ok((
+                Instr::Swap {
+                    to,
+                    object,
+                    field,
+                    value,
+                    at,
+                },
+                rest,
+            )),
             Err(fault) => Err(fault),
         },
         41 => match read_four_words_spot(bytes) {
-            Ok(((to, object, index, value, at), rest)) => Ok((Instr::SwapElOwn { to, object, index, value, at }, rest)),
+            Ok(((to, object, index, value, at), rest)) => Ok((
+                Instr::SwapElOwn {
+                    to,
+                    object,
+                    index,
+                    value,
+                    at,
+                },
+                rest,
+            )),
             Err(fault) => Err(fault),
         },
         42 => match read_four_words_spot(bytes) {
-            Ok(((to, object, index, value, at), rest)) => Ok((Instr::SwapEl { to, object, index, value, at }, rest)),
+            Ok(((to, object, index, value, at), rest)) => Ok((
+                Instr::SwapEl {
+                    to,
+                    object,
+                    index,
+                    value,
+                    at,
+                },
+                rest,
+            )),
             Err(fault) => Err(fault),
         },
         _ => match read_two_words_spot(bytes) {
@@ -495,11 +650,30 @@ fn read_operands_44_to_54(
         },
         51 => Ok((Instr::ThawClear, bytes)),
         52 => match read_four_words_list_spot(alloc, bytes) {
-            Ok(((to, first, end, func, args, at), rest)) => Ok((Instr::ParRange { to, first, end, func, args, at }, rest)),
+            Ok(((to, first, end, func, args, at), rest)) => Ok((
+                Instr::ParRange {
+                    to,
+                    first,
+                    end,
+                    func,
+                    args,
+                    at,
+                },
+                rest,
+            )),
             Err(fault) => Err(fault),
         },
         53 => match read_three_words_list_spot(alloc, bytes) {
-            Ok(((to, array, func, args, at), rest)) => Ok((Instr::ParEach { to, array, func, args, at }, rest)),
+            Ok(((to, array, func, args, at), rest)) => Ok((
+                Instr::ParEach {
+                    to,
+                    array,
+                    func,
+                    args,
+                    at,
+                },
+                rest,
+            )),
             Err(fault) => Err(fault),
         },
         _ => match read_two_words_kind(bytes) {
@@ -516,8 +690,8 @@ pub fn read_instr(alloc: Global, bytes: &[u8]) -> Result<(Instr, &[u8]), Fail<Fa
 {
     let (tag, rest) = read_choice(bytes, 54)?;
     match tag {
-        0..=10 => read_operands_0_to_10(alloc, tag, rest),
-        11..=21 => read_operands_11_to_21(alloc, tag, rest),
+        0..=10 => read_operands_0_to_10(tag, rest),
+        11..=21 => read_operands_11_to_21(tag, rest),
         22..=32 => read_operands_22_to_32(alloc, tag, rest),
         33..=43 => read_operands_33_to_43(alloc, tag, rest),
         _ => read_operands_44_to_54(alloc, tag, rest),
