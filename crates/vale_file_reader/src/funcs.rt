@@ -220,7 +220,7 @@ pub fn read_funcs(
     read_each_func(alloc, count, rest)
 }
 
-/// The functions and their facts split_facts.
+/// The functions, and their facts.
 pub fn split_facts(
     alloc: Global,
     pairs: Vec<(Func, FuncFacts)>,
