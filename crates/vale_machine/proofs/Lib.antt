@@ -2,6 +2,7 @@ pub mod Beginning
 pub mod Certified
 pub mod Comparing
 pub mod Entering
+pub mod Keeping
 pub mod Obeying
 pub mod Operands
 pub mod Operations

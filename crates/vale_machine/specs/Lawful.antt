@@ -35,6 +35,28 @@ is_served (i.Ret a) = true
 is_served i.RetVoid = true
 is_served _ = false
 
+-- the instructions of arithmetic
+abbrev pub calculates : Instr → Bool
+calculates (i.Add to a b at) = true
+calculates (i.Sub to a b at) = true
+calculates (i.Mul to a b at) = true
+calculates (i.Div to a b at) = true
+calculates (i.Rem to a b at) = true
+calculates _ = false
+
+-- the instructions that come to a value by those of registers
+abbrev pub evaluates : Instr → Bool
+evaluates (i.Cmp to choice a b) = true
+evaluates (i.Not to a) = true
+evaluates (i.Join to a b at) = true
+evaluates (i.TextLen to a) = true
+evaluates (i.Slice to a x y at) = true
+evaluates (i.Byte to a x at) = true
+evaluates (i.TextOf to a) = true
+evaluates (i.IsNum to a) = true
+evaluates (i.Num to a at) = true
+evaluates instr = calculates instr
+
 -- the register that an instruction writes, or whose value it takes away
 abbrev pub register_of : Instr → Option ℕ
 register_of (i.Int to n) = Some to

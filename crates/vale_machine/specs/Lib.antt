@@ -2,6 +2,7 @@ pub mod Calls
 pub mod Cells
 pub mod Finishes
 pub mod Given
+pub mod Kept
 pub mod Lawful
 pub mod Replies
 pub mod UnderWay

@@ -7,7 +7,8 @@ use Rattle.vale_state_spec.specs.World.{Value}
 use Rattle.vale_base.specs.declared.piece.Piece.{Piece}
 use Rattle.vale_code.specs.Frames.{Config, Next, On, Over}
 use Rattle.vale_code.specs.Parts.{Parts}
-use Rattle.vale_code.specs.Run.{steps}
+use Rattle.vale_code.specs.Run.{state_in, steps}
+use Rattle.vale_text.specs.Progress.{Begins}
 use Rattle.vale_machine.specs.Lawful.{IsRunnable}
 use Rattle.vale_machine.specs.View.{IsLaid, config_of, state_of}
 use Rattle.vale_machine.specs.declared.machine.Machine.{Machine}
@@ -31,12 +32,13 @@ pub record IsUnderWay (code : Parts) (taken : List Piece) (m : Machine) : Type 0
 abbrev pub IsRunning : Parts → Machine → Type 0
 IsRunning code m = (taken : List Piece) × IsUnderWay code taken m
 
--- an end of the machine is the one that the step leads to; of the want of memory nothing is said
+-- an end of the machine is the one that the step leads to; where memory is wanting, the pieces are the first of those that
+-- it leads to
 abbrev pub Ends : End → Next → State → Type 0
 Ends (end.Done ticks) next s = (ticks ≡ s.spent) × (v : Option Value) × (next ≡ Over Done v s)
 Ends (end.Trap ticks info) next s = (ticks ≡ s.spent) × (next ≡ Over (Trap info) None s)
 Ends end.Cut next s = next ≡ Over Cut None s
-Ends end.Memory next s = Unit {0}
+Ends end.Memory next s = Begins s.pieces (state_in next).pieces
 
 -- A turn is a step of the code's meaning, where these pieces were taken before.
 abbrev pub Turned : Parts → List Piece → Turn → Next → Machine → Type 0

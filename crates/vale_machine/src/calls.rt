@@ -11,6 +11,7 @@ ghost use Rattle.vale_code.specs.Registers.{read, give_all, given_value};
 ghost use Rattle.vale_machine.specs.Calls.{ArePassed, HasRegister, IsCallable, IsEntered};
 ghost use Rattle.vale_machine.specs.Cells.{value_in, values_in};
 ghost use Rattle.vale_machine.specs.Replies.{Replies, on_value};
+ghost use Rattle.vale_machine.specs.Kept.{KeepsPieces};
 ghost use Rattle.vale_machine.specs.View.{HasMemory, HasRoom, IfGoing, IsLaid, KeepsTicks, Stepped, active, below, config_of, state_of};
 
 use crate::cell::Cell;
@@ -110,6 +111,7 @@ impl Machine {
             (a.call code.now last (active code.now self.old) (below code.now self.old) (state_of taken self.old) to function args.now at) self.new }
         ensures laid { IfGoing result (IsLaid code.now self.new) }
         ensures ticks { KeepsTicks self.old self.new }
+        ensures kept { KeepsPieces result self.old self.new }
     {
         let callee = function_of(code, function);
         let base = self.cells.len();
@@ -146,7 +148,8 @@ impl Machine {
     // The caller goes on after its instruction later; this frame is the innermost.
     fn enter(&mut self, frame: Frame) -> Step
         requires { self.old.top.place + 1 < 2 ^ 64 }
-        ensures { IsEntered result frame self.old self.new }
+        ensures entered { IsEntered result frame self.old self.new }
+        ensures kept { KeepsPieces result self.old self.new }
     {
         let mut caller = mem::replace(&mut self.top, frame);
         caller.place += 1;

@@ -9,6 +9,7 @@ ghost use Rattle.vale_code.specs.Parts.{Parts};
 ghost use Rattle.vale_code.specs.Registers.{put};
 ghost use Rattle.vale_machine.specs.Cells.{value_in};
 ghost use Rattle.vale_machine.specs.Replies.{IsSure, Replies};
+ghost use Rattle.vale_machine.specs.Kept.{KeepsPieces};
 ghost use Rattle.vale_machine.specs.View.{is_going, HasMemory, IsLaid, IsRight, IsTicked, KeepsTicks, Stepped, active, below, config_of, state_of};
 
 use crate::cell::Cell;
@@ -107,6 +108,7 @@ impl Machine {
         ensures memory { IsSure reply → HasMemory result }
         ensures laid { (code : Parts) → IsLaid code self.old → IsLaid code self.new }
         ensures ticks { KeepsTicks self.old self.new }
+        ensures kept { KeepsPieces result self.old self.new }
     {
         match reply {
             Reply::Gives(cell) => {
@@ -128,6 +130,7 @@ impl Machine {
         ensures memory { IsSure reply → HasMemory result }
         ensures laid { (code : Parts) → IsLaid code self.old → IsLaid code self.new }
         ensures ticks { KeepsTicks self.old self.new }
+        ensures kept { KeepsPieces result self.old self.new }
     {
         match reply {
             Reply::Gives(cell) => {

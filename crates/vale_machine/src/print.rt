@@ -9,6 +9,7 @@ ghost use Rattle.vale_code.specs.Parts.{Parts};
 ghost use Rattle.vale_code.specs.Registers.{read};
 ghost use Rattle.vale_code.specs.declared.instr.Instr.{Instr};
 ghost use Rattle.vale_machine.specs.Cells.{shown_in, value_in, values_in};
+ghost use Rattle.vale_machine.specs.Kept.{KeepsPieces};
 ghost use Rattle.vale_machine.specs.View.{IsLaid, KeepsTicks, Stepped, active, below, state_of};
 
 use crate::cell::{Cell, cell_at};
@@ -72,6 +73,7 @@ impl Machine {
             (certain (active code self.old) None (active code self.old).registers (below code self.old) (state_of taken self.old) (print_text line (Some bytes.items) (state_of taken self.old))) self.new }
         ensures laid { (code : Parts) → IsLaid code self.old → IsLaid code self.new }
         ensures ticks { KeepsTicks self.old self.new }
+        ensures kept { KeepsPieces result self.old self.new }
     {
         let bytes = match ended(bytes, line) {
             Ok(bytes) => bytes,
@@ -99,6 +101,7 @@ impl Machine {
             (act code last (active code self.old) (below code self.old) (state_of taken self.old) (Instr.Print from choice)) self.new }
         ensures laid { (code : Parts) → IsLaid code self.old → IsLaid code self.new }
         ensures ticks { KeepsTicks self.old self.new }
+        ensures kept { KeepsPieces result self.old self.new }
     {
         match chosen(choice) {
             Some(line) => match bytes_at(self.alloc, self.registers(), from) {

@@ -23,8 +23,8 @@ pub struct Finished {
     pub end: End,
 }
 
-/// Runs certified code: what is printed, when, and how it ends is what the code means, unless memory is wanting. There are
-/// no objects yet, so the code has no kinds.
+/// Runs certified code: what is printed, when, and how it ends is what the code means. Where memory is wanting, what was
+/// printed is the first of it. There are no objects yet, so the code has no kinds.
 pub fn run(alloc: Global, code: &Verified, input: Input, ticks: u64) -> Finished
     requires no_kinds { code.now.code.kinds ≡ [] }
     requires takes { takes_input code.now.code (given_of input) ≡ true }

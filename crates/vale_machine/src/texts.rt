@@ -11,6 +11,7 @@ ghost use Rattle.vale_code.specs.declared.instr.Instr.{Instr};
 ghost use Rattle.vale_text.specs.Steps.{join, slice, byte, text_of, is_number, number};
 ghost use Rattle.vale_machine.specs.Cells.{values_in};
 ghost use Rattle.vale_machine.specs.Replies.{IsSure, Replies, on_value, on_values};
+ghost use Rattle.vale_machine.specs.Kept.{KeepsPieces};
 ghost use Rattle.vale_machine.specs.View.{HasMemory, IsLaid, KeepsTicks, Stepped, active, below, state_of};
 
 use crate::cell::{Cell, int_at, ints_at, text_at};
@@ -108,6 +109,7 @@ impl Machine {
             (act code last (active code self.old) (below code self.old) (state_of taken self.old) (Instr.Join to left right at)) self.new }
         ensures laid { (code : Parts) → IsLaid code self.old → IsLaid code self.new }
         ensures ticks { KeepsTicks self.old self.new }
+        ensures kept { KeepsPieces result self.old self.new }
     {
         let reply = joined(self.alloc, self.registers(), left, right);
         self.answer(to, at, reply)
@@ -135,6 +137,7 @@ impl Machine {
             (act code last (active code self.old) (below code self.old) (state_of taken self.old) (Instr.Slice to from first end at)) self.new }
         ensures laid { (code : Parts) → IsLaid code self.old → IsLaid code self.new }
         ensures ticks { KeepsTicks self.old self.new }
+        ensures kept { KeepsPieces result self.old self.new }
     {
         let reply = part(self.alloc, self.registers(), from, first, end);
         self.answer(to, at, reply)
@@ -162,6 +165,7 @@ impl Machine {
             (act code last (active code self.old) (below code self.old) (state_of taken self.old) (Instr.TextOf to from)) self.new }
         ensures laid { (code : Parts) → IsLaid code self.old → IsLaid code self.new }
         ensures ticks { KeepsTicks self.old self.new }
+        ensures kept { KeepsPieces result self.old self.new }
     {
         let reply = written(self.alloc, self.registers(), from);
         self.surely(to, reply)

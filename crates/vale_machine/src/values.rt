@@ -11,6 +11,7 @@ ghost use Rattle.vale_code.specs.Registers.{read};
 ghost use Rattle.vale_code.specs.declared.instr.Instr.{Instr};
 ghost use Rattle.vale_machine.specs.Cells.{value_in, values_in};
 ghost use Rattle.vale_machine.specs.Replies.{Replies, on_value};
+ghost use Rattle.vale_machine.specs.Kept.{KeepsPieces};
 ghost use Rattle.vale_machine.specs.View.{HasMemory, IsLaid, KeepsTicks, Stepped, active, below, state_of};
 
 use crate::cell::{Cell, cell_at};
@@ -95,6 +96,7 @@ impl Machine {
             (act code.now last (active code.now self.old) (below code.now self.old) (state_of taken self.old) (Instr.Text to text)) self.new }
         ensures laid { IsLaid code.now self.old → IsLaid code.now self.new }
         ensures ticks { KeepsTicks self.old self.new }
+        ensures kept { KeepsPieces result self.old self.new }
     {
         match text_numbered(code, text) {
             Some(text) => match Text::from_slice(self.alloc, text.as_slice()) {
@@ -112,6 +114,7 @@ impl Machine {
             (act code last (active code self.old) (below code self.old) (state_of taken self.old) (Instr.Copy to from)) self.new }
         ensures laid { (code : Parts) → IsLaid code self.old → IsLaid code self.new }
         ensures ticks { KeepsTicks self.old self.new }
+        ensures kept { KeepsPieces result self.old self.new }
     {
         let reply = copy_at(self.alloc, self.registers(), from);
         self.surely(to, reply)

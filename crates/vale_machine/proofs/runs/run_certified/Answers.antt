@@ -1,7 +1,8 @@
-use Rattle.std.proofs.Common.{[], ◌∙◌}
-use Rattle.vale_code.specs.Run.{step}
+use Rattle.std.proofs.Common.{[], ◌++◌, sym, ap, ◌∙◌}
+use Rattle.vale_code.specs.Run.{run_code, step}
 use Rattle.vale_machine.specs.Given.{given_of}
 use Rattle.vale_machine.specs.View.{config_of}
+use Rattle.vale_machine.proofs.Keeping.{has_first}
 use Rattle.vale_machine.proofs.Running.{finishes, leads_first, leads_on, less_fuel}
 use Rattle.vale_machine.proofs.Turning.{going, going_laid, goes_on, over, right}
 use Rattle.vale_machine.proofs.runs.run_certified.Goals as goal
@@ -41,4 +42,10 @@ pub returns-then-not-is_going : goal.returns-then-not-is_going
 returns-then-not-is_going c =
     let code = c.args.code.now in
     finishes code (given_of c.args.input) c.args.ticks (config_of code [] c.turns.machine) c.step-step.new.self c.end_of-end.result c.take_pieces.result.items
-    (c.end_of-end.ensures.step [] (step code (config_of code [] c.turns.machine)) (c.step-step.ensures.step [])) c.turns.invariant.leads c.take_pieces.ensures.taken (c.step-step.ensures.ticks ∙ c.turns.invariant.ticks)
+    (c.end_of-end.ensures.step [] (step code (config_of code [] c.turns.machine)) (c.step-step.ensures.step [])
+    (has_first code [] c.step-step.result c.turns.machine c.step-step.new.self c.step-step.ensures.kept)) c.turns.invariant.leads c.take_pieces.ensures.taken (c.step-step.ensures.ticks ∙ c.turns.invariant.ticks)
+
+pub returns-in-Err : goal.returns-in-Err
+returns-in-Err c =
+    let all = (run_code c.args.code.now (given_of c.args.input) c.args.ticks).pieces in
+    (all, ap (λ ps. ps ++ all) (sym c.new.ensures.items))

@@ -12,6 +12,7 @@ use Rattle.vale_machine.specs.declared.cell.Cell.TheVariants as cell
 use Rattle.vale_machine.specs.declared.machine.Frame.{Frame}
 use Rattle.vale_machine.specs.declared.machine.Machine.{Machine}
 use Rattle.vale_machine.proofs.Entering.{same_func, call_is, call_wrong, too_deep, deep_enough, entered_so, entered_laid, call_entered, call_laid, frame_for}
+use Rattle.vale_machine.proofs.Keeping.{keeps_on}
 use Rattle.vale_machine.proofs.Passing.{given_length, full}
 use Rattle.vale_machine.proofs.Told.{ticked_on, not_ticked}
 use Rattle.vale_machine.proofs.machine.Machine.call.Goals as goal
@@ -68,7 +69,7 @@ returns-in-Ok-clause-step c = λ last taken.
     ∙ ap (λ l. l ++ replicate (c.len-base.result + func.registers - length l) cell.Empty) (ap (λ (x : Machine). x.cells.items) t.1 ∙ p.behind)
     ∙ ap (λ n. (m.cells.items ++ p.more) ++ replicate (n + func.registers - length (m.cells.items ++ p.more)) cell.Empty) base in
     let mid : Machine = record c.take_tick.new.self { cells = c.fill.new.cells } in
-    entered_so code taken c.enter.result frame mid c.enter.new.self _ c.enter.ensures (λ h.
+    entered_so code taken c.enter.result frame mid c.enter.new.self _ c.enter.ensures.entered (λ h.
     call_is code last (active code m) (below code m) (state_of taken m) c.args.to c.args.function c.args.args.now c.args.at func p.values (active code m).registers c.function_of-callee.ensures plain given
     ∙ deep_enough code taken m (active code m).registers c.args.at _ flat
     ∙ ticked_on (state_of taken m) _ t.0
@@ -93,5 +94,10 @@ returns-in-Ok-clause-laid c =
     let params = subst (λ (f : Func). length f.params ≤ f.registers) same c.requires.callable.params in
     let few : length p.values ≤ func.registers = omega (arith, given_length func.params c.args.args.now (active code m).registers _ given, params) in
     let room = subst (λ (f : Func). HasRegister (result_to f.result c.args.to) m.top.base (length m.cells.items)) same c.requires.callable.room in
-    entered_laid code c.enter.result frame mid c.enter.new.self c.enter.ensures (λ h.
+    entered_laid code c.enter.result frame mid c.enter.new.self c.enter.ensures.entered (λ h.
     call_laid code m mid c.enter.new.self frame func p.more p.values c.args.function c.args.to c.args.at is (ap (λ (x : Machine). x.top) t.1) (ap (λ (x : Machine). x.below) t.1) cells p.all h c.function_of-callee.ensures plain few room c.requires.laid)
+
+pub returns-in-Ok-clause-kept : goal.returns-in-Ok-clause-kept
+returns-in-Ok-clause-kept c =
+    let mid : Machine = record c.take_tick.new.self { cells = c.fill.new.cells } in
+    keeps_on c.enter.result c.args.self.now mid c.enter.new.self (ap (λ (x : Machine). x.pieces.items) c.if-not-take_tick.ensures.1) c.enter.ensures.kept
