@@ -1,0 +1,38 @@
+use Rattle.vale_turn.proofs.Rules.{add_ints, sub_ints, mul_ints, div_ints, rem_ints, copied_value, cmp_right}
+use Rattle.vale_turn.proofs.obey.obey.Goals as goal
+
+pub copy-requires-clause-value : goal.copy-requires-clause-value
+copy-requires-clause-value c = copied_value c.args.body.now c.args.place.now c.args.cells.now c.args.left.now c.args.instr.now c.in-Copy.to c.in-Copy.from c.in-Copy.is c.requires.right
+
+pub int_at-requires : goal.int_at-requires
+int_at-requires c = (add_ints c.args.body.now c.args.place.now c.args.cells.now c.args.left.now c.args.instr.now c.in-Add.to c.in-Add.left c.in-Add.right c.in-Add.at c.in-Add.is c.requires.right).0
+
+pub int_at-requires-in-Add : goal.int_at-requires-in-Add
+int_at-requires-in-Add c = (add_ints c.args.body.now c.args.place.now c.args.cells.now c.args.left.now c.args.instr.now c.in-Add.to c.in-Add.left c.in-Add.right c.in-Add.at c.in-Add.is c.requires.right).1
+
+pub int_at-requires-in-Sub : goal.int_at-requires-in-Sub
+int_at-requires-in-Sub c = (sub_ints c.args.body.now c.args.place.now c.args.cells.now c.args.left.now c.args.instr.now c.in-Sub.to c.in-Sub.left c.in-Sub.right c.in-Sub.at c.in-Sub.is c.requires.right).0
+
+pub int_at-requires-in-Sub-2 : goal.int_at-requires-in-Sub-2
+int_at-requires-in-Sub-2 c = (sub_ints c.args.body.now c.args.place.now c.args.cells.now c.args.left.now c.args.instr.now c.in-Sub.to c.in-Sub.left c.in-Sub.right c.in-Sub.at c.in-Sub.is c.requires.right).1
+
+pub int_at-requires-in-Mul : goal.int_at-requires-in-Mul
+int_at-requires-in-Mul c = (mul_ints c.args.body.now c.args.place.now c.args.cells.now c.args.left.now c.args.instr.now c.in-Mul.to c.in-Mul.left c.in-Mul.right c.in-Mul.at c.in-Mul.is c.requires.right).0
+
+pub int_at-requires-in-Mul-2 : goal.int_at-requires-in-Mul-2
+int_at-requires-in-Mul-2 c = (mul_ints c.args.body.now c.args.place.now c.args.cells.now c.args.left.now c.args.instr.now c.in-Mul.to c.in-Mul.left c.in-Mul.right c.in-Mul.at c.in-Mul.is c.requires.right).1
+
+pub int_at-requires-in-Div : goal.int_at-requires-in-Div
+int_at-requires-in-Div c = (div_ints c.args.body.now c.args.place.now c.args.cells.now c.args.left.now c.args.instr.now c.in-Div.to c.in-Div.left c.in-Div.right c.in-Div.at c.in-Div.is c.requires.right).0
+
+pub int_at-requires-in-Div-2 : goal.int_at-requires-in-Div-2
+int_at-requires-in-Div-2 c = (div_ints c.args.body.now c.args.place.now c.args.cells.now c.args.left.now c.args.instr.now c.in-Div.to c.in-Div.left c.in-Div.right c.in-Div.at c.in-Div.is c.requires.right).1
+
+pub int_at-requires-in-Rem : goal.int_at-requires-in-Rem
+int_at-requires-in-Rem c = (rem_ints c.args.body.now c.args.place.now c.args.cells.now c.args.left.now c.args.instr.now c.in-Rem.to c.in-Rem.left c.in-Rem.right c.in-Rem.at c.in-Rem.is c.requires.right).0
+
+pub int_at-requires-in-Rem-2 : goal.int_at-requires-in-Rem-2
+int_at-requires-in-Rem-2 c = (rem_ints c.args.body.now c.args.place.now c.args.cells.now c.args.left.now c.args.instr.now c.in-Rem.to c.in-Rem.left c.in-Rem.right c.in-Rem.at c.in-Rem.is c.requires.right).1
+
+pub compare-requires-clause-right : goal.compare-requires-clause-right
+compare-requires-clause-right c = cmp_right c.args.body.now c.args.place.now c.args.cells.now c.args.left.now c.args.instr.now c.in-Cmp.to c.in-Cmp.choice c.in-Cmp.left c.in-Cmp.right c.in-Cmp.is c.requires.right

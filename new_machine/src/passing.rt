@@ -1,0 +1,122 @@
+// Values of registers go to other registers, with their texts.
+ghost use Rattle.std.specs.Prelude.{◌≡◌, ℕ, ◌+◌, ◌-◌, ◌<◌, ◌≤◌, ◌++◌, List, OnOk, length, replicate, slice_set};
+ghost use Rattle.vale_registers.specs.Cells.{HoldsValue, empty, value_in, values_in};
+ghost use Rattle.vale_registers.specs.Texts.{text_at};
+ghost use Rattle.vale_code.specs.Registers.{read};
+ghost use Rattle.vale_machine.specs.Calls.{AreWithin, IsHanded, IsPassed, IsPushed};
+ghost use Rattle.vale_turn.specs.Served.{HasRegister};
+
+use vale_base::Memory;
+use vale_registers::{Cell, Row, Shape};
+
+// A copy of a register, by its shape alone.
+#[inline(always)]
+fn copy_of(cells: &[Cell], register: usize) -> Cell
+    requires { register < length cells.now }
+    ensures { (t : ℕ → List ℕ) → value_in result (t register) ≡ read (values_in t cells.now) register }
+{
+    match cells[register].shape {
+        Shape::Int => Cell {
+            shape: Shape::Int,
+            truth: false,
+            number: cells[register].number,
+        },
+        Shape::Truth => Cell {
+            shape: Shape::Truth,
+            truth: cells[register].truth,
+            number: 0,
+        },
+        Shape::Text => Cell {
+            shape: Shape::Text,
+            truth: false,
+            number: 0,
+        },
+        Shape::Empty => Cell {
+            shape: Shape::Empty,
+            truth: false,
+            number: 0,
+        },
+    }
+}
+
+// Puts a copy of a register behind all cells.
+#[inline(always)]
+fn push_copy(cells: &mut Vec<Cell>, texts: &mut Row, register: usize) -> Result<(), Memory>
+    requires { register < length cells.old.items }
+    ensures { OnOk result (IsPushed register cells.old.items texts.old cells.new.items texts.new) }
+{
+    let to = cells.len();
+    let cell = copy_of(cells, register);
+    match cell.shape {
+        Shape::Text => texts.share(register, to)?,
+        _ => {}
+    }
+    cells.push(cell)?;
+    Ok(())
+}
+
+// Puts copies of registers behind all cells.
+#[inline(always)]
+pub fn pass(cells: &mut Vec<Cell>, texts: &mut Row, base: usize, args: &[u32]) -> Result<(), Memory>
+    requires { AreWithin args.now base (length cells.old.items) }
+    ensures { OnOk result (IsPassed base args.now cells.old.items texts.old cells.new.items texts.new) }
+{
+    for from in args {
+        push_copy(cells, texts, base + *from as usize)?;
+    }
+    Ok(())
+}
+
+// Empty cells behind all cells, until there are so many.
+#[inline(always)]
+pub fn fill(cells: &mut Vec<Cell>, count: usize) -> Result<(), Memory>
+    requires { length cells.old.items ≤ count }
+    ensures { OnOk result (cells.new.items ≡ cells.old.items ++ replicate (count - length cells.old.items) empty) }
+{
+    let cell = Cell {
+        shape: Shape::Empty,
+        truth: false,
+        number: 0,
+    };
+    cells.resize(count, cell)?;
+    Ok(())
+}
+
+// A register gets what another cell holds.
+#[inline(always)]
+fn put(cells: &mut [Cell], register: usize, cell: Cell)
+    requires { register < length cells.old }
+    ensures { cells.new ≡ slice_set cells.old register cell }
+{
+    let slot = &mut cells[register];
+    slot.shape = cell.shape;
+    slot.truth = cell.truth;
+    slot.number = cell.number;
+}
+
+// The value of a register goes to one of the frame from the base on, under the top, where there is one.
+#[inline(always)]
+pub fn hand(
+    cells: &mut Vec<Cell>,
+    texts: &mut Row,
+    base: usize,
+    top: usize,
+    dest: Option<u32>,
+    from: usize,
+)
+    requires register { from < length cells.old.items }
+    requires above { top ≤ from }
+    requires base { base ≤ top }
+    requires room { HasRegister dest (top - base) }
+    requires value { HoldsValue cells.old.items from }
+    ensures { IsHanded base top dest (read (values_in (text_at texts.old) cells.old.items) from) cells.old.items texts.old cells.new.items texts.new }
+{
+    if let Some(to) = dest {
+        let cell = copy_of(cells, from);
+        match cell.shape {
+            Shape::Text => texts.hand(from, base + to as usize),
+            _ => {}
+        }
+        put(cells, base + to as usize, cell);
+    }
+}
