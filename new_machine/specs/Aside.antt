@@ -1,5 +1,5 @@
 -- What an instruction does that is done aside from the cells: the frames stay, and only a register and the place are others.
-use Rattle.std.specs.Prelude.{◌≡◌, ◌+◌, List, length}
+use Rattle.std.specs.Prelude.{◌≡◌, ◌+◌, ℕ, List, false, length, pos, slice_set}
 use Rattle.vale_base.specs.declared.piece.Piece.{Piece}
 use Rattle.vale_code.specs.Act.{act}
 use Rattle.vale_code.specs.Frames.{Next}
@@ -7,10 +7,25 @@ use Rattle.vale_code.specs.Parts.{Parts}
 use Rattle.vale_code.specs.Registers.{Registers}
 use Rattle.vale_code.specs.Run.{last_state}
 use Rattle.vale_code.specs.declared.instr.Instr.{Instr}
+use Rattle.vale_registers.specs.declared.cell.Cell.{Cell}
+use Rattle.vale_registers.specs.declared.cell.Shape.TheVariants as shape
 use Rattle.vale_turn.specs.View.{IsRight}
 use Rattle.vale_machine.specs.View.{KeepsPieces, KeepsTicks, active, below, registers_of, state_of}
 use Rattle.vale_machine.specs.declared.machine.Machine.{Machine}
 use Rattle.vale_machine.specs.declared.machine.Step.{Step}
+
+-- a cell went to a register of the innermost function, which goes on at its next instruction
+pub record Receives (to : ℕ) (cell : Cell) (old new : Machine) : Type 0 where
+  pub cells : new.cells.items ≡ slice_set old.cells.items (old.top.base + to) cell
+  pub top : new.top ≡ record old.top { place = old.top.place + 1 }
+  pub texts : new.texts ≡ old.texts
+  pub below : new.below ≡ old.below
+  pub left : new.left ≡ old.left
+  pub given : new.given ≡ old.given
+  pub pieces : new.pieces ≡ old.pieces
+
+abbrev pub text_cell : Cell
+text_cell = record { shape = shape.Text; truth = false; number = pos 0 }
 
 -- the innermost function goes on at its next instruction with these registers
 pub record Gets (registers : Registers) (old new : Machine) : Type 0 where

@@ -1,5 +1,5 @@
 -- How the machine enters and leaves functions.
-use Rattle.std.specs.Prelude.{◌≡◌, ℕ, ◌+◌, ◌<◌, ◌≤◌, List, [], ◌∷◌, ◌++◌, length, take, drop, map, Option, Some, None, slice_get, slice_index}
+use Rattle.std.specs.Prelude.{◌≡◌, ◌≢◌, ℕ, ◌+◌, ◌<◌, ◌≤◌, List, [], ◌∷◌, ◌++◌, length, take, drop, map, Option, Some, None, slice_get, slice_index}
 use Rattle.vale_base.specs.declared.piece.Piece.{Piece}
 use Rattle.vale_base.specs.declared.spot.Spot.{Spot}
 use Rattle.vale_state_spec.specs.World.{Value}
@@ -11,8 +11,10 @@ use Rattle.vale_code.specs.Registers.{Registers, Read, give_all, read, with_resu
 use Rattle.vale_code.specs.Run.{last_state}
 use Rattle.vale_code.specs.declared.func.Func.{Func}
 use Rattle.vale_registers.specs.Cells.{value_in, values_in}
-use Rattle.vale_registers.specs.Texts.{text_at}
+use Rattle.vale_registers.specs.Texts.{IsWritten, text_at}
 use Rattle.vale_registers.specs.declared.cell.Cell.{Cell}
+use Rattle.vale_registers.specs.declared.cell.Shape.{Shape}
+use Rattle.vale_registers.specs.declared.cell.Shape.TheVariants as shape
 use Rattle.vale_turn.specs.Served.{HasRegister}
 use Rattle.vale_machine.specs.View.{active, below, from_base, state_of}
 use Rattle.vale_machine.specs.declared.machine.Frame.{Frame}
@@ -37,6 +39,16 @@ pub record HasGiven (code : Parts) (function : ℕ) (args : List ℕ) (registers
 abbrev pub AreWithin : List ℕ → ℕ → ℕ → Type 0
 AreWithin args base count = (k : ℕ) → k < length args → base + slice_index args k < count
 
+-- a register has the text of another, where it is to hold one
+abbrev pub IsCarried : Shape → ℕ → ℕ → List (List ℕ) → List (List ℕ) → Type 0
+IsCarried shape.Text from to old new = IsWritten to (text_at old from) old new
+IsCarried _ from to old new = new ≡ old
+
+-- the same, where the other may have lost it
+abbrev pub IsCarriedDown : Shape → ℕ → ℕ → List (List ℕ) → List (List ℕ) → Type 0
+IsCarriedDown shape.Text from to old new = (text_at new to ≡ text_at old from) × ((i : ℕ) → i ≢ to → i ≢ from → text_at new i ≡ text_at old i)
+IsCarriedDown _ from to old new = new ≡ old
+
 -- a copy of a register was put behind the cells
 pub record IsPushed (register : ℕ) (cells : List Cell) (texts : List (List ℕ)) (new : List Cell) (newer : List (List ℕ)) : Type 0 where
   pub cell : Cell
@@ -53,7 +65,7 @@ pub record IsPassed (base : ℕ) (args : List ℕ) (cells : List Cell) (texts : 
 
 -- A register of the frame that lies under a base got what another register holds, where it is to have a value.
 pub record IsHanded (base top : ℕ) (dest : Option ℕ) (v : Option Value) (cells : List Cell) (texts : List (List ℕ)) (new : List Cell) (newer : List (List ℕ)) : Type 0 where
-  pub length : length new ≡ length cells
+  pub size : length new ≡ length cells
   pub above : values_in (from_base base (text_at newer)) (drop base (take top new)) ≡ with_result dest v (values_in (from_base base (text_at texts)) (drop base (take top cells)))
   pub below : take base new ≡ take base cells
   pub others : (i : ℕ) → i < base → text_at newer i ≡ text_at texts i

@@ -12,6 +12,7 @@ use Rattle.vale_text.specs.Progress.{Begins}
 use Rattle.vale_code.specs.declared.instr.Instr.{Instr}
 use Rattle.vale_turn.specs.View.{EndsBy, IsSafe, Leads}
 use Rattle.vale_turn.specs.declared.stop.Stop.{Stop}
+use Rattle.vale_turn.specs.declared.stop.Stop.TheVariants as stop
 use Rattle.vale_machine.specs.Lawful.{IsRunnable}
 use Rattle.vale_machine.specs.View.{IsLaid, KeepsPieces, Stepped, config_of, own_cells, scene_of, state_of}
 use Rattle.vale_machine.specs.declared.machine.Machine.{Machine}
@@ -36,6 +37,11 @@ IsRunning code m = (taken : List Piece) × IsUnderWay code taken m
 -- a stretch ended so at the machine
 abbrev pub EndsSo : Parts → Stop → Machine → Type 0
 EndsSo code stop m = (taken : List Piece) → EndsBy code m.top.function (scene_of code taken m) stop m.top.place (own_cells m) m.left
+
+-- one instruction: its step leads on, or the machine stands where it stood, and a stretch ends there
+abbrev pub TookOne : Parts → List Piece → Stop → Machine → Machine → Type 0
+TookOne code taken stop.Going old new = step code (config_of code taken old) ≡ On (config_of code taken new)
+TookOne code taken t old new = EndsBy code new.top.function (scene_of code taken new) t new.top.place (own_cells new) new.left × (config_of code taken new ≡ config_of code taken old)
 
 -- a function has an instruction at a place
 abbrev pub IsFetched : Parts → ℕ → ℕ → Type 0

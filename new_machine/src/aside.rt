@@ -1,12 +1,12 @@
 // Instructions on texts, and those that may be: they read texts where they lie, and make or share others.
-ghost use Rattle.std.specs.Prelude.{◌≡◌, ℕ, ◌+◌, ◌<◌, ◌≤◌, ◌^◌, Bool, List, Some, false, length, true};
+ghost use Rattle.std.specs.Prelude.{◌≡◌, ◌+◌, ◌<◌, ◌≤◌, ◌^◌, Bool, List, Some, false, length, slice_get, true};
 ghost use Rattle.vale_base.specs.declared.piece.Piece.{Piece};
 ghost use Rattle.vale_state_spec.specs.World.{Text as a_text};
 ghost use Rattle.vale_code.specs.Instructions.{comparison_of};
 ghost use Rattle.vale_code.specs.Parts.{Parts};
 ghost use Rattle.vale_code.specs.Registers.{read};
 ghost use Rattle.vale_code.specs.declared.instr.Instr.{Instr};
-ghost use Rattle.vale_registers.specs.Cells.{HoldsValue, values_in};
+ghost use Rattle.vale_registers.specs.Cells.{HoldsValue};
 ghost use Rattle.vale_turn.specs.Comparing.{compared};
 ghost use Rattle.vale_turn.specs.Served.{HasRegister, is_aside, may_want, register_of};
 ghost use Rattle.vale_machine.specs.Aside.{HasRuleIn, KeepsFrames, next_in};
@@ -35,6 +35,14 @@ fn collated(choice: u8, left: &Text, right: &Text) -> bool
     }
 }
 
+// A text of a code.
+fn text_numbered(code: &Code, number: u32) -> &Text
+    requires { number < length code.now.texts }
+    ensures { slice_get code.now.texts number ≡ Some result.now }
+{
+    &code.texts.as_slice()[number as usize]
+}
+
 impl Machine {
     // A value goes to another register.
     fn copy(&mut self, to: u32, from: u32) -> Step
@@ -45,7 +53,7 @@ impl Machine {
         ensures step { (code : Parts) (taken : List Piece) → Stepped code taken result (next_in code taken self.old (Instr.Copy to from)) self.new }
         ensures keeps { KeepsFrames result self.old self.new }
     {
-        match shape_at(&self.cells[self.top.base..], from) {
+        match shape_at(self.registers(), from) {
             Shape::Int => {
                 let number = self.int(from);
                 self.get_int(to, number);
@@ -67,10 +75,10 @@ impl Machine {
     // Whether a comparison holds of what two registers hold.
     fn compared(&self, choice: u8, left: u32, right: u32) -> bool
         requires base { self.now.top.base ≤ length self.now.cells.items }
-        requires right { (t : ℕ → List ℕ) × (b : Bool) × (compared (comparison_of choice) (read (values_in t (own_cells self.now)) left) (read (values_in t (own_cells self.now)) right) ≡ Some b) }
+        requires right { (b : Bool) × (compared (comparison_of choice) (read (registers_of self.now) left) (read (registers_of self.now) right) ≡ Some b) }
         ensures { compared (comparison_of choice) (read (registers_of self.now) left) (read (registers_of self.now) right) ≡ Some result }
     {
-        match shape_at(&self.cells[self.top.base..], left) {
+        match shape_at(self.registers(), left) {
             Shape::Int => {
                 let first = self.int(left);
                 let second = self.int(right);
@@ -99,7 +107,7 @@ impl Machine {
         ensures step { (taken : List Piece) → Stepped code.now taken result (next_in code.now taken self.old (Instr.Text to text)) self.new }
         ensures keeps { KeepsFrames result self.old self.new }
     {
-        let quoted = &code.texts.as_slice()[text as usize];
+        let quoted = text_numbered(code, text);
         match Text::from_slice(self.alloc, quoted.as_slice()) {
             Ok(text) => self.take_text(to, text),
             Err(_) => Step::Memory,

@@ -3,7 +3,7 @@ ghost use Rattle.std.specs.Prelude.{◌≡◌, ℕ, ◌+◌, ◌-◌, ◌<◌, �
 ghost use Rattle.vale_registers.specs.Cells.{HoldsValue, empty, value_in, values_in};
 ghost use Rattle.vale_registers.specs.Texts.{text_at};
 ghost use Rattle.vale_code.specs.Registers.{read};
-ghost use Rattle.vale_machine.specs.Calls.{AreWithin, IsHanded, IsPassed, IsPushed};
+ghost use Rattle.vale_machine.specs.Calls.{AreWithin, IsCarried, IsCarriedDown, IsHanded, IsPassed, IsPushed};
 ghost use Rattle.vale_turn.specs.Served.{HasRegister};
 
 use vale_base::Memory;
@@ -39,6 +39,29 @@ fn copy_of(cells: &[Cell], register: usize) -> Cell
     }
 }
 
+// A text goes with its cell to a register behind.
+#[inline(always)]
+fn carry(texts: &mut Row, shape: Shape, from: usize, to: usize) -> Result<(), Memory>
+    ensures { OnOk result (IsCarried shape from to texts.old texts.new) }
+{
+    match shape {
+        Shape::Text => texts.share(from, to),
+        _ => Ok(()),
+    }
+}
+
+// A text goes with its cell to a register before, which takes no memory.
+#[inline(always)]
+fn carry_down(texts: &mut Row, shape: Shape, from: usize, to: usize)
+    requires { to < from }
+    ensures { IsCarriedDown shape from to texts.old texts.new }
+{
+    match shape {
+        Shape::Text => texts.hand(from, to),
+        _ => {}
+    }
+}
+
 // Puts a copy of a register behind all cells.
 #[inline(always)]
 fn push_copy(cells: &mut Vec<Cell>, texts: &mut Row, register: usize) -> Result<(), Memory>
@@ -47,10 +70,7 @@ fn push_copy(cells: &mut Vec<Cell>, texts: &mut Row, register: usize) -> Result<
 {
     let to = cells.len();
     let cell = copy_of(cells, register);
-    match cell.shape {
-        Shape::Text => texts.share(register, to)?,
-        _ => {}
-    }
+    carry(texts, cell.shape, register, to)?;
     cells.push(cell)?;
     Ok(())
 }
@@ -106,17 +126,13 @@ pub fn hand(
 )
     requires register { from < length cells.old.items }
     requires above { top ≤ from }
-    requires base { base ≤ top }
     requires room { HasRegister dest (top - base) }
     requires value { HoldsValue cells.old.items from }
     ensures { IsHanded base top dest (read (values_in (text_at texts.old) cells.old.items) from) cells.old.items texts.old cells.new.items texts.new }
 {
     if let Some(to) = dest {
         let cell = copy_of(cells, from);
-        match cell.shape {
-            Shape::Text => texts.hand(from, base + to as usize),
-            _ => {}
-        }
+        carry_down(texts, cell.shape, from, base + to as usize);
         put(cells, base + to as usize, cell);
     }
 }

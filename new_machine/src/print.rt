@@ -53,7 +53,7 @@ impl Machine {
         requires shown { IsShown self.now from }
         ensures { IfOk result (λ bytes. shown_in (read (registers_of self.now) from) ≡ Some bytes.items) }
     {
-        match shape_at(&self.cells[self.top.base..], from) {
+        match shape_at(self.registers(), from) {
             Shape::Int => {
                 let number = self.int(from);
                 let text = vale_text::text_of(self.alloc, number)?;

@@ -71,8 +71,10 @@ impl Machine {
     {
         match stop {
             Stop::Enters => self.enter(code),
-            Stop::Leaves(Some(from)) => self.ret(from),
-            Stop::Leaves(None) => self.ret_void(),
+            Stop::Leaves(from) => match from {
+                Some(register) => self.ret(register),
+                None => self.ret_void(),
+            },
             Stop::Aside => self.turn_aside(code),
             Stop::Trap(kind, at) => Step::Trap(kind, at),
             Stop::Cut => Step::Cut,

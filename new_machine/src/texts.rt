@@ -9,21 +9,30 @@ ghost use Rattle.vale_code.specs.Registers.{put, read};
 ghost use Rattle.vale_registers.specs.Cells.{HoldsInt, HoldsText, HoldsTruth};
 ghost use Rattle.vale_text.specs.Gives.{Gives};
 ghost use Rattle.vale_text.specs.Steps.{gives_int, gives_text};
-ghost use Rattle.vale_machine.specs.Aside.{Gets, KeepsFrames};
+ghost use Rattle.vale_machine.specs.Aside.{Gets, KeepsFrames, Receives, text_cell};
+ghost use Rattle.vale_machine.specs.declared.machine.Step.{Step};
 ghost use Rattle.vale_machine.specs.View.{Stepped, active, below, own_cells, registers_of, state_of};
 
 use crate::machine::{Machine, Step};
 use vale_base::{Fail, Memory, Spot, Text, TrapKind};
-use vale_registers::{int_at, set_int, set_text, set_truth, truth_at};
+use vale_registers::{Cell, Shape, int_at, truth_at};
 
 impl Machine {
+    // The cells of the innermost function.
+    pub(crate) fn registers(&self) -> &[Cell]
+        requires { self.now.top.base ≤ length self.now.cells.items }
+        ensures { result.now ≡ own_cells self.now }
+    {
+        &self.cells[self.top.base..]
+    }
+
     // The number in a register of the innermost function.
     pub(crate) fn int(&self, register: u32) -> i64
         requires base { self.now.top.base ≤ length self.now.cells.items }
         requires holds { HoldsInt (own_cells self.now) register }
         ensures { read (registers_of self.now) register ≡ Some (an_int result) }
     {
-        int_at(&self.cells[self.top.base..], register)
+        int_at(self.registers(), register)
     }
 
     // The truth in a register of the innermost function.
@@ -32,7 +41,7 @@ impl Machine {
         requires holds { HoldsTruth (own_cells self.now) register }
         ensures { read (registers_of self.now) register ≡ Some (a_truth result) }
     {
-        truth_at(&self.cells[self.top.base..], register)
+        truth_at(self.registers(), register)
     }
 
     // The text in a register of the innermost function.
@@ -44,6 +53,34 @@ impl Machine {
         self.texts.text(self.top.base + register as usize)
     }
 
+    // A cell goes to a register, and the next instruction is the one after.
+    fn receive(&mut self, to: u32, cell: Cell)
+        requires base { self.old.top.base ≤ length self.old.cells.items }
+        requires room { to < length (own_cells self.old) }
+        requires place { self.old.top.place + 1 < 2 ^ 64 }
+        ensures { Receives to cell self.old self.new }
+    {
+        self.cells[self.top.base + to as usize] = cell;
+        self.top.place += 1;
+    }
+
+    // The same of a cell whose text is there.
+    fn receive_text(&mut self, to: u32)
+        requires base { self.old.top.base ≤ length self.old.cells.items }
+        requires room { to < length (own_cells self.old) }
+        requires place { self.old.top.place + 1 < 2 ^ 64 }
+        ensures { Receives to text_cell self.old self.new }
+    {
+        self.receive(
+            to,
+            Cell {
+                shape: Shape::Text,
+                truth: false,
+                number: 0,
+            },
+        );
+    }
+
     // A register gets a number, and the next instruction is the one after.
     pub(crate) fn get_int(&mut self, to: u32, number: i64)
         requires base { self.old.top.base ≤ length self.old.cells.items }
@@ -51,8 +88,14 @@ impl Machine {
         requires place { self.old.top.place + 1 < 2 ^ 64 }
         ensures { Gets (put (registers_of self.old) to (Some (an_int number))) self.old self.new }
     {
-        set_int(&mut self.cells[self.top.base..], to, number);
-        self.top.place += 1;
+        self.receive(
+            to,
+            Cell {
+                shape: Shape::Int,
+                truth: false,
+                number,
+            },
+        );
     }
 
     // The same of a truth.
@@ -62,8 +105,14 @@ impl Machine {
         requires place { self.old.top.place + 1 < 2 ^ 64 }
         ensures { Gets (put (registers_of self.old) to (Some (a_truth truth))) self.old self.new }
     {
-        set_truth(&mut self.cells[self.top.base..], to, truth);
-        self.top.place += 1;
+        self.receive(
+            to,
+            Cell {
+                shape: Shape::Truth,
+                truth,
+                number: 0,
+            },
+        );
     }
 
     // The same of a text.
@@ -72,12 +121,11 @@ impl Machine {
         requires room { to < length (own_cells self.old) }
         requires place { self.old.top.place + 1 < 2 ^ 64 }
         ensures gets { OnOk result (Gets (put (registers_of self.old) to (Some (a_text text))) self.old self.new) }
-        ensures kept { self.new.pieces ≡ self.old.pieces }
+        ensures keeps { KeepsFrames Step.Memory self.old self.new }
     {
-        let register = self.top.base + to as usize;
-        self.texts.put(self.alloc, register, text)?;
-        set_text(&mut self.cells, register);
-        self.top.place += 1;
+        self.texts
+            .put(self.alloc, self.top.base + to as usize, text)?;
+        self.receive_text(to);
         Ok(())
     }
 
@@ -88,12 +136,11 @@ impl Machine {
         requires holds { HoldsText (own_cells self.old) from }
         requires place { self.old.top.place + 1 < 2 ^ 64 }
         ensures gets { OnOk result (Gets (put (registers_of self.old) to (read (registers_of self.old) from)) self.old self.new) }
-        ensures kept { self.new.pieces ≡ self.old.pieces }
+        ensures keeps { KeepsFrames Step.Memory self.old self.new }
     {
-        let register = self.top.base + to as usize;
-        self.texts.share(self.top.base + from as usize, register)?;
-        set_text(&mut self.cells, register);
-        self.top.place += 1;
+        self.texts
+            .share(self.top.base + from as usize, self.top.base + to as usize)?;
+        self.receive_text(to);
         Ok(())
     }
 
@@ -140,10 +187,7 @@ impl Machine {
         ensures keeps { KeepsFrames result self.old self.new }
     {
         match outcome {
-            Ok(text) => match self.get_text(to, text) {
-                Ok(()) => Step::Going,
-                Err(_) => Step::Memory,
-            },
+            Ok(text) => self.take_text(to, text),
             Err(Fail::Memory) => Step::Memory,
             Err(Fail::Is(kind)) => Step::Trap(kind, at),
         }

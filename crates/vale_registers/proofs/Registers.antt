@@ -74,12 +74,12 @@ same_values t u (c ∷ cs) same =
     ap (λ x. value_in c x ∷ values_in (λ i. u (suc i)) cs) first ∙ ap (λ l. value_in c (t 0) ∷ l) rest
 
 -- a register of another cell or text, where the others have the texts that they had
-pub put_cell : (t u : ℕ → List ℕ) (cells : List Cell) (to : ℕ) (c : Cell) → ((i : ℕ) → i ≢ to → u i ≡ t i) → to < length cells → values_in u (slice_set cells to c) ≡ put (values_in t cells) to (value_in c (u to))
+pub put_cell : (t u : ℕ → List ℕ) (cells : List Cell) (to : ℕ) (c : Cell) → ((i : ℕ) → i ≢ to → i < length cells → u i ≡ t i) → to < length cells → values_in u (slice_set cells to c) ≡ put (values_in t cells) to (value_in c (u to))
 put_cell t u [] to c same lt = absurd (omega arith)
-put_cell t u (d ∷ ds) zero c same lt = ap (λ l. value_in c (u 0) ∷ l) (same_values (λ i. t (suc i)) (λ i. u (suc i)) ds (λ i lt. same (suc i) (λ e. absurd (omega arith))))
+put_cell t u (d ∷ ds) zero c same lt = ap (λ l. value_in c (u 0) ∷ l) (same_values (λ i. t (suc i)) (λ i. u (suc i)) ds (λ i less. same (suc i) (λ e. absurd (omega (arith, e))) (omega arith)))
 put_cell t u (d ∷ ds) (suc to) c same lt =
-    let first : u 0 ≡ t 0 = same 0 (λ e. absurd (omega arith)) in
-    let rest = put_cell (λ i. t (suc i)) (λ i. u (suc i)) ds to c (λ i n. same (suc i) (λ e. n (omega arith))) (omega arith) in
+    let first : u 0 ≡ t 0 = same 0 (λ e. absurd (omega (arith, e))) (omega arith) in
+    let rest = put_cell (λ i. t (suc i)) (λ i. u (suc i)) ds to c (λ i n less. same (suc i) (λ e. n (omega (arith, e))) (omega arith)) (omega arith) in
     ap (λ x. value_in d x ∷ values_in (λ i. u (suc i)) (slice_set ds to c)) first ∙ ap (λ l. value_in d (t 0) ∷ l) rest
 
 -- ---- a cell of a shape
@@ -88,3 +88,32 @@ pub shaped : (cells : List Cell) (r : ℕ) (d : Cell) (s : Shape) → r < length
 shaped cells r d s lt e =
     let c : Cell = get_or cells r d in
     record { truth = c.truth; number = c.number; is = λ t. read_within t cells r d lt ∙ ap (λ x. value_of x c.truth c.number (t r)) e }
+
+pub int_shaped : (cells : List Cell) (r : ℕ) (s : Shape) → IsShaped cells r s → s ≡ shape.Int → HoldsInt cells r
+int_shaped cells r s q e = let k : IsShaped cells r shape.Int = subst (λ x. IsShaped cells r x) e q in ((λ i. []), k.number, k.is (λ i. []))
+
+pub truth_shaped : (cells : List Cell) (r : ℕ) (s : Shape) → IsShaped cells r s → s ≡ shape.Truth → HoldsTruth cells r
+truth_shaped cells r s q e = let k : IsShaped cells r shape.Truth = subst (λ x. IsShaped cells r x) e q in ((λ i. []), k.truth, k.is (λ i. []))
+
+pub text_shaped : (cells : List Cell) (r : ℕ) (s : Shape) → IsShaped cells r s → s ≡ shape.Text → HoldsText cells r
+text_shaped cells r s q e = let k : IsShaped cells r shape.Text = subst (λ x. IsShaped cells r x) e q in ((λ i. []), [], k.is (λ i. []))
+
+pub not_empty : (cells : List Cell) (r : ℕ) (s : Shape) → IsShaped cells r s → s ≡ shape.Empty → HoldsValue cells r → ⊥
+not_empty cells r s q e h =
+    let k : IsShaped cells r shape.Empty = subst (λ x. IsShaped cells r x) e q in
+    let same : Some h.1 ≡ None = sym h.2 ∙ k.is h.0 in cc
+
+-- a register that holds something does so whatever the texts are
+some_of : (s : Shape) (b : Bool) (n : ℤ) (x y : List ℕ) (v : Value) → value_of s b n x ≡ Some v → (w : Value) × (value_of s b n y ≡ Some w)
+some_of shape.Empty b n x y v e = absurd (let z : ⊥ = cc in z)
+some_of shape.Int b n x y v e = (Int n, refl)
+some_of shape.Truth b n x y v e = (Truth b, refl)
+some_of shape.Text b n x y v e = (Text y, refl)
+
+pub some_value : (cells : List Cell) (r : ℕ) → HoldsValue cells r → (t : ℕ → List ℕ) → (w : Value) × (read (values_in t cells) r ≡ Some w)
+some_value cells r h t = at cells r (λ i. h.0 i) t h.2
+  where
+    at : (cells : List Cell) (r : ℕ) (u t : ℕ → List ℕ) → read (values_in u cells) r ≡ Some h.1 → (w : Value) × (read (values_in t cells) r ≡ Some w)
+    at [] r u t e = absurd (let z : ⊥ = cc in z)
+    at (c ∷ cs) zero u t e = some_of c.shape c.truth c.number (u 0) (t 0) h.1 e
+    at (c ∷ cs) (suc r) u t e = at cs r (λ i. u (suc i)) (λ i. t (suc i)) e

@@ -89,7 +89,7 @@ pub fn set_truth(cells: &mut [Cell], register: u32, truth: bool)
 #[inline(always)]
 pub fn set_text(cells: &mut [Cell], register: usize)
     requires { register < length cells.old }
-    ensures { (t u : ℕ → List ℕ) → ((i : ℕ) → i ≢ register → u i ≡ t i) → values_in u cells.new ≡ put (values_in t cells.old) register (Some (a_text (u register))) }
+    ensures { (t u : ℕ → List ℕ) → ((i : ℕ) → i ≢ register → i < length cells.old → u i ≡ t i) → values_in u cells.new ≡ put (values_in t cells.old) register (Some (a_text (u register))) }
 {
     let cell = &mut cells[register];
     cell.shape = Shape::Text;

@@ -76,7 +76,7 @@ rem_ints body place cells left instr to a b at e h =
 -- ---- what is copied
 
 module _ (f : Active) (to : ℕ) (regs : Registers) (below : List Frame) (s : State) where
-  value_right : (v : Option Value) → IsRight (with_value v s (λ x. gets f to (copied x) regs below s)) → (x : Value) × (v ≡ Some x)
+  pub value_right : (v : Option Value) → IsRight (with_value v s (λ x. gets f to (copied x) regs below s)) → (x : Value) × (v ≡ Some x)
   value_right None r = absurd r
   value_right (Some v) r = (v, refl)
 
@@ -193,3 +193,8 @@ module _ (code : Parts) (function : ℕ) (s : Scene) (place : ℕ) (cells : List
 -- what is compared with a text
 pub no_value : (k : Option Comparison) (w : Option Value) (t : Bool) → compared k None w ≡ Some t → ⊥
 no_value k w t e = let h = left_value k None w t e in let x : ⊥ = cc in x
+
+pub right_text : (k : Option Comparison) (x : List ℕ) (w : Option Value) (t : Bool) → compared k (Some (Text x)) w ≡ Some t → (y : List ℕ) × (w ≡ Some (Text y))
+right_text None x w t e = absurd (let z : ⊥ = cc in z)
+right_text (Some c) x (Some (Text y)) t e = (y, refl)
+right_text (Some c) x _ t e = absurd (let z : ⊥ = cc in z)

@@ -12,7 +12,7 @@ use Rattle.vale_code.specs.Run.{go_on, last_state, step, steps}
 use Rattle.vale_code.specs.declared.func.Func.{Func}
 use Rattle.vale_code.specs.declared.instr.Instr.{Instr}
 use Rattle.vale_code.proofs.Ends.{step_less}
-use Rattle.vale_turn.specs.View.{EndsBy, HasRule, IfStopped, Leaving, IsRight, IsSafe, Leads, Obeyed, Scene, active, config, next_of, state_at}
+use Rattle.vale_turn.specs.View.{EndsBy, HasRule, IfStopped, Leaving, IsRight, IsSafe, Leads, Obeyed, OnceBy, Scene, active, config, next_of, state_at}
 use Rattle.vale_turn.specs.declared.stop.Stop.{Stop}
 use Rattle.vale_turn.specs.declared.stop.Stop.TheVariants as stop
 use Rattle.vale_registers.specs.declared.cell.Cell.{Cell}
@@ -115,3 +115,12 @@ ends_by code function s (stop.Leaves (Some from)) place cells left p cs l instr 
 ends_by code function s (stop.Leaves None) place cells left p cs l instr n e h k a b d = ap (fetch code function) a ∙ e ∙ ap Some k
 ends_by code function s (stop.Trap kind at) place cells left p cs l instr n e h k a b d = ap (step code) (same_config function s p place cs cells l left a b d) ∙ step_is code function s place cells left instr e ∙ h
 ends_by code function s stop.Cut place cells left p cs l instr n e h k a b d = ap (step code) (same_config function s p place cs cells l left a b d) ∙ step_is code function s place cells left instr e ∙ h
+
+pub once_by : (code : Parts) (function : ℕ) (s : Scene) (t : Stop) (place : ℕ) (cells : List Cell) (left : ℕ) (p : ℕ) (cs : List Cell) (l : ℕ) (instr : Instr)
+    → fetch code function place ≡ Some instr → Obeyed function s t (next_of code function s place cells left instr) p cs l → Leaving t instr → IfStopped t ((p ≡ place) × (cs ≡ cells) × (l ≡ left)) → OnceBy code function s t (config function s place cells left) p cs l
+once_by code function s stop.Going place cells left p cs l instr e h k same = step_is code function s place cells left instr e ∙ h
+once_by code function s stop.Aside place cells left p cs l instr e h k same = ends_by code function s stop.Aside place cells left p cs l instr (λ q. let x : ⊥ = cc in x) e h k same.0 same.1 same.2
+once_by code function s stop.Enters place cells left p cs l instr e h k same = ends_by code function s stop.Enters place cells left p cs l instr (λ q. let x : ⊥ = cc in x) e h k same.0 same.1 same.2
+once_by code function s (stop.Leaves from) place cells left p cs l instr e h k same = ends_by code function s (stop.Leaves from) place cells left p cs l instr (λ q. let x : ⊥ = cc in x) e h k same.0 same.1 same.2
+once_by code function s (stop.Trap kind at) place cells left p cs l instr e h k same = ends_by code function s (stop.Trap kind at) place cells left p cs l instr (λ q. let x : ⊥ = cc in x) e h k same.0 same.1 same.2
+once_by code function s stop.Cut place cells left p cs l instr e h k same = ends_by code function s stop.Cut place cells left p cs l instr (λ q. let x : ⊥ = cc in x) e h k same.0 same.1 same.2

@@ -119,3 +119,8 @@ EndsBy code function s (stop.Leaves (Some from)) place cells left = fetch code f
 EndsBy code function s (stop.Leaves None) place cells left = fetch code function place ≡ Some i.RetVoid
 EndsBy code function s (stop.Trap kind at) place cells left = step code (config function s place cells left) ≡ Over (trap_under kind at (s.call ∷ under s.below)) None (state_at s left)
 EndsBy code function s stop.Cut place cells left = step code (config function s place cells left) ≡ Over Cut None (state_at s left)
+
+-- one instruction: its step leads on, or ends the stretch
+abbrev pub OnceBy : Parts → ℕ → Scene → Stop → Config → ℕ → List Cell → ℕ → Type 0
+OnceBy code function s stop.Going start place cells left = step code start ≡ On (config function s place cells left)
+OnceBy code function s t start place cells left = EndsBy code function s t place cells left

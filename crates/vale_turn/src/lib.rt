@@ -10,4 +10,4 @@ mod stretch;
 pub use compare::{matched, ordered};
 pub use obey::obey;
 pub use stop::Stop;
-pub use stretch::{function_of, go, instr_at};
+pub use stretch::{function_of, go, instr_at, once};

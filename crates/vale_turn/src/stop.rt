@@ -1,3 +1,6 @@
+ghost use Rattle.std.specs.Prelude.{◌≡◌};
+ghost use Rattle.vale_turn.specs.View.{is_going};
+
 use vale_base::{Spot, TrapKind};
 
 /// What an instruction comes to within its function: the function goes on; the instruction at the place is done aside from
@@ -11,4 +14,16 @@ pub enum Stop {
     Leaves(Option<u32>),
     Trap(TrapKind, Spot),
     Cut,
+}
+
+impl Stop {
+    /// Whether the function goes on.
+    pub fn is_going(&self) -> bool
+        ensures { result ≡ is_going self.now }
+    {
+        match self {
+            Stop::Going => true,
+            _ => false,
+        }
+    }
 }

@@ -1,7 +1,7 @@
 // A stretch of steps within one function.
 ghost use Rattle.std.specs.Prelude.{◌≡◌, ◌+◌, ◌<◌, ◌≤◌, ◌^◌, Some, length, slice_get};
 ghost use Rattle.vale_turn.specs.Served.{AreFit};
-ghost use Rattle.vale_turn.specs.View.{EndsBy, IsSafe, Leads, Scene, config};
+ghost use Rattle.vale_turn.specs.View.{EndsBy, IfStopped, IsSafe, Leads, OnceBy, Scene, config};
 
 use crate::obey::obey;
 use crate::stop::Stop;
@@ -47,4 +47,25 @@ pub fn go(code: &Code, function: u32, cells: &mut [Cell], place: &mut usize, lef
             _ => return stop,
         }
     }
+}
+
+/// One instruction of a function.
+pub fn once(
+    code: &Code,
+    function: u32,
+    cells: &mut [Cell],
+    place: &mut usize,
+    left: &mut u64,
+) -> Stop
+    requires known { function < length code.now.funcs }
+    requires fit { AreFit code.now function (length cells.old) }
+    requires safe { (s : Scene) × (left.old ≤ s.given) × IsSafe code.now (config function s place.old cells.old left.old) }
+    ensures step { (s : Scene) → left.old ≤ s.given
+        → OnceBy code.now function s result (config function s place.old cells.old left.old) place.new cells.new left.new }
+    ensures same { IfStopped result ((place.new ≡ place.old) × (cells.new ≡ cells.old) × (left.new ≡ left.old)) }
+    ensures ticks { left.new ≤ left.old }
+{
+    let body = function_of(code, function).body.as_slice();
+    let instr = instr_at(body, *place);
+    obey(body, instr, cells, place, left)
 }

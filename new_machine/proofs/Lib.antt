@@ -1,0 +1,12 @@
+pub mod Beginning
+pub mod Certified
+pub mod Entering
+pub mod Frames
+pub mod Getting
+pub mod Giving
+pub mod Keeping
+pub mod Leaving
+pub mod Plainly
+pub mod Reading
+pub mod Running
+pub mod Told
