@@ -1,13 +1,10 @@
 -- Texts in a row.
 use Rattle.std.proofs.Common.{◌≡◌, ◌≢◌, ℕ, zero, suc, ◌+◌, ◌<◌, ◌≤◌, List, [], ◌∷◌, ◌++◌, length, take, map, get_or, refl, sym, ap, ◌∙◌, arith}
 use Rattle.std.specs.Prelude.{slice_set}
-use Rattle.vale_registers.specs.Shares.{share_text}
+use Rattle.vale_registers.specs.Shares.{share_text, texts_in}
 use Rattle.vale_registers.specs.Texts.{text_at}
 use Rattle.vale_registers.specs.declared.row.Share.{Share}
 use Rattle.vale_registers.specs.declared.row.Share.TheVariants as share
-
-abbrev pub texts_in : List Share → List (List ℕ)
-texts_in shares = map share_text shares
 
 pub past : (shares : List Share) (i : ℕ) → length shares ≤ i → text_at (texts_in shares) i ≡ []
 past [] i le = refl

@@ -1,6 +1,6 @@
 // The texts of registers.
 ghost use Rattle.std.specs.Prelude.{◌≡◌, ◌≢◌, ◌<◌, [], ℕ, IfOk, OnOk, length};
-ghost use Rattle.vale_registers.specs.Shares.{share_text};
+ghost use Rattle.vale_registers.specs.Shares.{IsReached, share_text, texts_in};
 ghost use Rattle.vale_registers.specs.Texts.{IsWritten, text_at};
 
 use std::alloc::Global;
@@ -16,6 +16,60 @@ enum Share {
     Of(Rc<Text>),
 }
 
+// A share of the text of a register.
+fn held(shares: &[Share], register: usize) -> Result<Share, Memory>
+    ensures { IfOk result (λ share. share_text share ≡ text_at (texts_in shares.now) register) }
+{
+    if register >= shares.len() {
+        return Ok(Share::Blank);
+    }
+    match &shares[register] {
+        Share::Blank => Ok(Share::Blank),
+        Share::Of(text) => Ok(Share::Of(text.clone()?)),
+    }
+}
+
+// Empty texts behind all texts, until there is one of this register.
+fn reach(shares: &mut Vec<Share>, register: usize) -> Result<(), Memory>
+    ensures { OnOk result (IsReached register shares.old.items shares.new.items) }
+{
+    'blanks: while shares.len() <= register {
+        shares.push(Share::Blank)?;
+    }
+    Ok(())
+}
+
+fn set(shares: &mut Vec<Share>, register: usize, share: Share) -> Result<(), Memory>
+    ensures { OnOk result (IsWritten register (share_text share) (texts_in shares.old.items) (texts_in shares.new.items)) }
+{
+    reach(shares, register)?;
+    shares[register] = share;
+    Ok(())
+}
+
+fn hand(shares: &mut Vec<Share>, from: usize, to: usize)
+    requires { to < from }
+    ensures to { text_at (texts_in shares.new.items) to ≡ text_at (texts_in shares.old.items) from }
+    ensures others { (i : ℕ) → i ≢ to → i ≢ from → text_at (texts_in shares.new.items) i ≡ text_at (texts_in shares.old.items) i }
+{
+    if from < shares.len() {
+        let share = mem::replace(&mut shares[from], Share::Blank);
+        shares[to] = share;
+        return;
+    }
+    if to < shares.len() {
+        shares[to] = Share::Blank;
+    }
+}
+
+fn cut(shares: &mut Vec<Share>, count: usize)
+    ensures { (i : ℕ) → i < count → text_at (texts_in shares.new.items) i ≡ text_at (texts_in shares.old.items) i }
+{
+    if count < shares.len() {
+        shares.truncate(count);
+    }
+}
+
 /// The texts of registers, each held by as many as have it. Those past the end have the empty text.
 #[derive(Drop)]
 pub struct Row {
@@ -24,12 +78,12 @@ pub struct Row {
 }
 
 impl Model for Row {
-    ghost use Rattle.std.specs.Prelude.{◌≡◌, ℕ, List, [], map};
-    ghost use Rattle.vale_registers.specs.Shares.{share_text};
+    ghost use Rattle.std.specs.Prelude.{◌≡◌, ℕ, List, []};
+    ghost use Rattle.vale_registers.specs.Shares.{texts_in};
 
     ghost Value = { List (List ℕ) };
 
-    ghost view = { λ r. map share_text r.shares.items };
+    ghost view = { λ r. texts_in r.shares.items };
 
     ghost invariant = { λ r. r.blank ≡ [] };
 }
@@ -58,52 +112,20 @@ impl Row {
         }
     }
 
-    // A share of the text of a register.
-    fn held(&self, register: usize) -> Result<Share, Memory>
-        ensures { IfOk result (λ share. share_text share ≡ text_at self.now register) }
-    {
-        if register >= self.shares.len() {
-            return Ok(Share::Blank);
-        }
-        match &self.shares[register] {
-            Share::Blank => Ok(Share::Blank),
-            Share::Of(text) => Ok(Share::Of(text.clone()?)),
-        }
-    }
-
-    // As many texts as there are registers up to this one.
-    fn reach(&mut self, register: usize) -> Result<(), Memory>
-        ensures long { OnOk result (register < length self.new) }
-        ensures same { (i : ℕ) → text_at self.new i ≡ text_at self.old i }
-    {
-        while self.shares.len() <= register {
-            self.shares.push(Share::Blank)?;
-        }
-        Ok(())
-    }
-
-    fn set(&mut self, register: usize, share: Share) -> Result<(), Memory>
-        ensures { OnOk result (IsWritten register (share_text share) self.old self.new) }
-    {
-        self.reach(register)?;
-        self.shares[register] = share;
-        Ok(())
-    }
-
     /// A register gets a text.
     pub fn put(&mut self, alloc: Global, register: usize, text: Text) -> Result<(), Memory>
         ensures { OnOk result (IsWritten register text self.old self.new) }
     {
         let share = Share::Of(Rc::new(alloc, text)?);
-        self.set(register, share)
+        set(&mut self.shares, register, share)
     }
 
     /// A register gets the text of another.
     pub fn share(&mut self, from: usize, to: usize) -> Result<(), Memory>
         ensures { OnOk result (IsWritten to (text_at self.old from) self.old self.new) }
     {
-        let share = self.held(from)?;
-        self.set(to, share)
+        let share = held(&self.shares, from)?;
+        set(&mut self.shares, to, share)
     }
 
     /// A register gets the text of a later one, which has another then. It takes no memory.
@@ -112,21 +134,13 @@ impl Row {
         ensures to { text_at self.new to ≡ text_at self.old from }
         ensures others { (i : ℕ) → i ≢ to → i ≢ from → text_at self.new i ≡ text_at self.old i }
     {
-        if from < self.shares.len() {
-            self.shares[to] = mem::replace(&mut self.shares[from], Share::Blank);
-            return;
-        }
-        if to < self.shares.len() {
-            self.shares[to] = Share::Blank;
-        }
+        hand(&mut self.shares, from, to)
     }
 
     /// The texts of the first registers are left.
     pub fn cut(&mut self, count: usize)
         ensures { (i : ℕ) → i < count → text_at self.new i ≡ text_at self.old i }
     {
-        if count < self.shares.len() {
-            self.shares.truncate(count);
-        }
+        cut(&mut self.shares, count)
     }
 }

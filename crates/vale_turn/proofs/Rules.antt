@@ -1,5 +1,5 @@
 -- What a step that has a rule tells of the registers that it reads.
-use Rattle.std.proofs.Common.{◌≡◌, ℕ, zero, suc, ℤ, pos, List, [], ◌∷◌, Option, Some, None, Bool, false, refl, ap, ◌∙◌, subst}
+use Rattle.std.proofs.Common.{◌≡◌, ℕ, zero, suc, ℤ, pos, List, [], ◌∷◌, Option, Some, None, Bool, true, false, refl, ap, ◌∙◌, subst}
 use Rattle.std.specs.Cmp.Lexicographic.{slice_cmp}
 use Rattle.std.specs.Ordering.{int_cmp, nat_cmp}
 use Rattle.std.specs.Prelude.{not}
@@ -16,7 +16,10 @@ use Rattle.vale_text.specs.Operations as o
 use Rattle.vale_text.specs.Steps.{Comparison, equal, not_equal, less, less_equal, greater, greater_equal, compare, gives_int, holds, on_ints, same_truth}
 use Rattle.vale_registers.specs.Cells.{value_of, values_in, HoldsInt, HoldsValue, IsShaped}
 use Rattle.vale_turn.specs.Comparing.{compared}
-use Rattle.vale_turn.specs.View.{HasRule, IsRight, Scene, active, next_of, state_at}
+use Rattle.vale_turn.specs.Served.{is_aside}
+use Rattle.vale_turn.specs.View.{HasRule, IsAside, IsRight, Leaving, Scene, active, next_of, state_at}
+use Rattle.vale_turn.specs.declared.stop.Stop.{Stop}
+use Rattle.vale_turn.specs.declared.stop.Stop.TheVariants as stop
 use Rattle.vale_registers.specs.declared.cell.Cell.{Cell}
 use Rattle.vale_registers.specs.declared.cell.Shape.{Shape}
 use Rattle.vale_registers.specs.declared.cell.Shape.TheVariants as shape
@@ -198,3 +201,10 @@ pub right_text : (k : Option Comparison) (x : List ℕ) (w : Option Value) (t : 
 right_text None x w t e = absurd (let z : ⊥ = cc in z)
 right_text (Some c) x (Some (Text y)) t e = (y, refl)
 right_text (Some c) x _ t e = absurd (let z : ⊥ = cc in z)
+
+-- ---- what is done aside
+
+pub leaving_aside : (t : Stop) (instr : Instr) → IsAside t → is_aside instr ≡ true → Leaving t instr
+leaving_aside stop.Going instr a e = tt
+leaving_aside stop.Aside instr a e = e
+leaving_aside _ instr a e = absurd a

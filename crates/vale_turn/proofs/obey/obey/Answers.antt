@@ -1,4 +1,6 @@
-use Rattle.vale_turn.proofs.Rules.{add_ints, sub_ints, mul_ints, div_ints, rem_ints, copied_value, cmp_right}
+use Rattle.std.proofs.Common.{ap}
+use Rattle.vale_turn.specs.Served.{is_aside}
+use Rattle.vale_turn.proofs.Rules.{add_ints, sub_ints, mul_ints, div_ints, rem_ints, copied_value, cmp_right, leaving_aside}
 use Rattle.vale_turn.proofs.obey.obey.Goals as goal
 
 pub copy-requires-clause-value : goal.copy-requires-clause-value
@@ -36,3 +38,9 @@ int_at-requires-in-Rem-2 c = (rem_ints c.args.body.now c.args.place.now c.args.c
 
 pub compare-requires-clause-right : goal.compare-requires-clause-right
 compare-requires-clause-right c = cmp_right c.args.body.now c.args.place.now c.args.cells.now c.args.left.now c.args.instr.now c.in-Cmp.to c.in-Cmp.choice c.in-Cmp.left c.in-Cmp.right c.in-Cmp.is c.requires.right
+
+pub returns-in-Copy-clause-leaves : goal.returns-in-Copy-clause-leaves
+returns-in-Copy-clause-leaves c = leaving_aside c.copy.result c.args.instr.now c.copy.ensures.aside (ap is_aside c.in-Copy.is)
+
+pub returns-in-Cmp-clause-leaves : goal.returns-in-Cmp-clause-leaves
+returns-in-Cmp-clause-leaves c = leaving_aside c.compare.result c.args.instr.now c.compare.ensures.aside (ap is_aside c.in-Cmp.is)
