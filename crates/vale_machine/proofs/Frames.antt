@@ -2,6 +2,7 @@
 use Rattle.std.proofs.Common.{◌≡◌, ◌≢◌, ℕ, zero, suc, ◌+◌, ◌-◌, ◌<◌, ◌≤◌, List, [], ◌∷◌, ◌++◌, length, take, drop, get_or, map, reverse, Option, Some, None, refl, sym, ap, ◌∙◌, subst, arith}
 use Rattle.std.specs.Prelude.{slice_get, slice_set}
 use Rattle.std.proofs.lemmas.List.{length-drop, length-take-le, reverse-append, take-set-le, drop-set-add}
+use Rattle.vale_base.specs.declared.piece.Piece.{Piece}
 use Rattle.vale_state_spec.specs.World.{Value}
 use Rattle.vale_code.specs.Frames.{Running, under}
 use Rattle.vale_code.specs.Instructions.{instruction_in}
@@ -13,8 +14,9 @@ use Rattle.vale_registers.specs.declared.cell.Cell.{Cell}
 use Rattle.vale_registers.proofs.Registers.{put_cell, same_values}
 use Rattle.vale_turn.specs.Served.{AreFit}
 use Rattle.vale_machine.specs.Lawful.{IsRunnable}
-use Rattle.vale_machine.specs.View.{active_of, call_of, calls_of, frames_in, from_base}
+use Rattle.vale_machine.specs.View.{active_of, call_of, calls_of, frames_in, from_base, state_of, state_with}
 use Rattle.vale_machine.specs.declared.machine.Frame.{Frame}
+use Rattle.vale_machine.specs.declared.machine.Machine.{Machine}
 
 pub take_front : {A : Type 0} (xs ys : List A) (n : ℕ) → length xs ≡ n → take n (xs ++ ys) ≡ xs
 take_front [] ys n e = ap (λ k. take k ys) (sym e)
@@ -115,3 +117,8 @@ held_drop cells base r h = at cells base h.0 h.2
     at (c ∷ cs) (suc b) t e =
         let k = at cs b t e in
         ((λ i. before k.0 i), k.1, ap (read (values_in (before k.0) (c ∷ cs))) (suc_plus b r) ∙ k.2)
+
+-- ---- states
+
+pub same_state : (taken : List Piece) (old new : Machine) → new.left ≡ old.left → new.given ≡ old.given → new.pieces.items ≡ old.pieces.items → state_of taken new ≡ state_of taken old
+same_state taken old new left given pieces = λ i. state_with (left i) (given i - left i) (taken ++ pieces i)

@@ -20,7 +20,7 @@ use Rattle.vale_machine.specs.declared.machine.Frame.{Frame}
 use Rattle.vale_machine.specs.declared.machine.Machine.{Machine}
 use Rattle.vale_machine.specs.declared.machine.Step.{Step}
 use Rattle.vale_machine.specs.declared.machine.Step.TheVariants as told
-use Rattle.vale_machine.proofs.Frames.{below_written, same_frames, under_frames, written}
+use Rattle.vale_machine.proofs.Frames.{below_written, same_frames, same_state, under_frames, written}
 
 -- a machine whose texts are others, but for those of one register
 pub record IsTexted (register : ℕ) (old mid : Machine) : Type 0 where
@@ -69,7 +69,7 @@ module _ (old mid new : Machine) (to : ℕ) (c : Cell) (v : Value) where
 pub goes_on : (code : Parts) (taken : List Piece) (old new : Machine) (regs : Registers) → Gets regs old new → onward (active code old) regs (below code old) (state_of taken old) ≡ On (config_of code taken new)
 goes_on code taken old new regs g =
     let act : active code new ≡ active_of code (record old.top { place = old.top.place + 1 }) regs = ap (λ (f : Frame). active_of code f (registers_of new)) g.top ∙ ap (active_of code (record old.top { place = old.top.place + 1 })) g.registers in
-    let st : state_of taken new ≡ state_of taken old = cc in
+    let st : state_of taken new ≡ state_of taken old = same_state taken old new g.left g.given (ap (λ l. l.items) g.pieces) in
     sym (λ i. On (record { top = Running (act i); below = g.below code i; state = st i }))
 
 pub trap_told : (code : Parts) (taken : List Piece) (m : Machine) (kind : TrapKind) (at : Spot)

@@ -17,7 +17,7 @@ use Rattle.vale_machine.specs.Calls.{IsHanded, IsUncovered, leave_next}
 use Rattle.vale_machine.specs.View.{active_of, all_texts, config_of, frames_in, from_base, own_cells, registers_of, state_of, HasRoom, IsLaid, Lie}
 use Rattle.vale_machine.specs.declared.machine.Frame.{Frame}
 use Rattle.vale_machine.specs.declared.machine.Machine.{Machine}
-use Rattle.vale_machine.proofs.Frames.{last_first, same_frames, written}
+use Rattle.vale_machine.proofs.Frames.{last_first, same_frames, same_state, written}
 
 pub with_some : (to : ℕ) (o : Option Value) (v : Value) (regs : Registers) → o ≡ Some v → with_result (Some to) o regs ≡ put regs to o
 with_some to (Some w) v regs e = refl
@@ -87,7 +87,7 @@ module _ (code : Parts) (old new : Machine) (f : Frame) (v : Option Value) (q : 
       ap (λ (g : Frame). frames_in code (reverse new.below.items) (all_texts new) (take g.base new.cells.items)) q.top
       ∙ same_frames code (reverse new.below.items) (all_texts old) (all_texts new) (take f.base new.cells.items) (λ i lt. q.texts i (omega (arith, lt, length-take-le f.base new.cells.items q.base)))
       ∙ ap (frames_in code (reverse new.below.items) (all_texts old)) q.under in
-      let st : state_of taken new ≡ s = cc in
+      let st : state_of taken new ≡ s = same_state taken old new q.left q.given (ap (λ l. l.items) q.pieces) in
       ap (λ l. leave (frames_in code l (all_texts old) row) old.top.dest v s) order
       ∙ ap (λ r. on r (frames_in code (reverse new.below.items) (all_texts old) (take f.base row)) s) (resumed old.top.dest v code f (values_in (from_base f.base (all_texts old)) (drop f.base row)))
       ∙ sym (λ i. On (record { top = Running (act i); below = bel i; state = st i }))

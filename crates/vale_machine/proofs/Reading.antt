@@ -16,8 +16,10 @@ use Rattle.vale_text.specs.Steps.{byte, gives_int, gives_text, gives_truth, is_n
 use Rattle.vale_turn.specs.Comparing.{compared}
 use Rattle.vale_turn.specs.View.{IsRight}
 use Rattle.vale_turn.proofs.Rules.{both_right, compared_is, read_cell, value_right}
-use Rattle.vale_registers.specs.Cells.{empty, values_in, HoldsInt, HoldsText, HoldsValue}
-use Rattle.vale_registers.proofs.Registers.{text_is}
+use Rattle.vale_registers.specs.Cells.{empty, values_in, HoldsInt, HoldsText, HoldsValue, IsShaped}
+use Rattle.vale_registers.specs.declared.cell.Shape.{Shape}
+use Rattle.vale_registers.specs.declared.cell.Shape.TheVariants as shape
+use Rattle.vale_registers.proofs.Registers.{not_empty, text_is}
 use Rattle.vale_machine.specs.Aside.{HasRuleIn, next_in}
 use Rattle.vale_machine.specs.Printing.{IsShown, shown_in}
 use Rattle.vale_machine.specs.View.{active, below, own_cells, own_texts, registers_of, scene_of, state_of}
@@ -199,3 +201,29 @@ module _ (code : Parts) (taken : List Piece) (m : Machine) (to a : ℕ) where
 
   pub compared_here : (choice b : ℕ) (t : Bool) → compared (comparison_of choice) (read (registers_of m) a) (read (registers_of m) b) ≡ Some t → next_in code taken m (i.Cmp to choice a b) ≡ goes_with (Some (Truth t))
   compared_here choice b t e = compared_is code m.top.function (scene_of code taken m) m.top.place (own_cells m) m.left to choice a b t e
+
+-- ---- what is printed
+
+pub shown_value : (m : Machine) (from : ℕ) → IsShown m from → HoldsValue (own_cells m) from
+shown_value m from h = some (read (values_in h.0 (own_cells m)) from) refl
+  where
+    some : (o : Option Value) → read (values_in h.0 (own_cells m)) from ≡ o → HoldsValue (own_cells m) from
+    some None q = let e : None ≡ Some h.1 = ap shown_in (sym q) ∙ h.2 in let x : ⊥ = cc in absurd x
+    some (Some v) q = (h.0, v, q)
+
+pub not_shown : (m : Machine) (from : ℕ) (s : Shape) → IsShaped (own_cells m) from s → s ≡ shape.Empty → IsShown m from → ⊥
+not_shown m from s q e h = not_empty (own_cells m) from s q e (shown_value m from h)
+
+pub printed_here : (code : Parts) (taken : List Piece) (m : Machine) (from choice : ℕ) (line : Bool) (bytes : List ℕ) → truth_of choice ≡ Some line → shown_in (read (registers_of m) from) ≡ Some bytes
+    → next_in code taken m (i.Print from choice) ≡ certain (active code m) None (registers_of m) (below code m) (state_of taken m) (print_text line (Some bytes) (state_of taken m))
+printed_here code taken m from choice line bytes e h = ap (λ o. with_choice o s (λ l. with_value (read (registers_of m) from) s (λ v. surely_prints (print l v s)))) e ∙ at (read (registers_of m) from) h
+  where
+    s : State
+    s = state_of taken m
+
+    surely_prints : Answer → Next
+    surely_prints a = certain (active code m) None (registers_of m) (below code m) s a
+
+    at : (o : Option Value) → shown_in o ≡ Some bytes → with_value o s (λ v. surely_prints (print line v s)) ≡ surely_prints (print_text line (Some bytes) s)
+    at None q = let x : ⊥ = cc in absurd x
+    at (Some v) q = ap (λ x. surely_prints (print_text line x s)) q

@@ -17,7 +17,7 @@ use Rattle.vale_machine.specs.Lawful.{IsRunnable}
 use Rattle.vale_machine.specs.View.{IsLaid, KeepsPieces, Stepped, config_of, own_cells, scene_of, state_of}
 use Rattle.vale_machine.specs.declared.machine.Machine.{Machine}
 use Rattle.vale_machine.specs.declared.machine.Step.{Step}
-use Rattle.vale_machine.specs.declared.machine.Step.TheVariants as s
+use Rattle.vale_machine.specs.declared.machine.Step.TheVariants as told
 use Rattle.vale_machine.specs.declared.turn.End.{End}
 use Rattle.vale_machine.specs.declared.turn.End.TheVariants as end
 use Rattle.vale_machine.specs.declared.turn.Turn.{Turn}
@@ -47,12 +47,12 @@ TookOne code taken t old new = EndsBy code new.top.function (scene_of code taken
 abbrev pub IsFetched : Parts → ℕ → ℕ → Type 0
 IsFetched code function place = (instr : Instr) × (fetch code function place ≡ Some instr)
 
--- some steps, and one more, which is told
-pub record Advanced (code : Parts) (taken : List Piece) (told : Step) (start : Config) (new : Machine) : Type 0 where
+-- some steps, and one more, which came to this
+pub record Advanced (code : Parts) (taken : List Piece) (came : Step) (start : Config) (new : Machine) : Type 0 where
   pub mid : Machine
   pub leads : Leads code start (config_of code taken mid)
-  pub stepped : Stepped code taken told (step code (config_of code taken mid)) new
-  pub kept : KeepsPieces told mid new
+  pub stepped : Stepped code taken came (step code (config_of code taken mid)) new
+  pub kept : KeepsPieces came mid new
 
 -- an end of the machine is the one that the step leads to; where memory is wanting, the pieces are the first of those that
 -- it leads to
@@ -64,7 +64,7 @@ Ends end.Memory next s = Begins s.pieces (state_in next).pieces
 
 -- where memory is wanting, the pieces of the state are the first of those that the step leads to
 abbrev pub HasFirst : Step → Next → State → Type 0
-HasFirst s.Memory next t = Begins t.pieces (state_in next).pieces
+HasFirst told.Memory next t = Begins t.pieces (state_in next).pieces
 HasFirst _ next t = Unit {0}
 
 -- A turn is a step of the code's meaning, where these pieces were taken before.

@@ -9,33 +9,17 @@ ghost use Rattle.vale_turn.specs.Served.{HasRegister};
 use vale_base::Memory;
 use vale_registers::{Cell, Row, Shape};
 
-// A copy of a register, by its shape alone.
+// A copy of a register, field by field.
 #[inline(always)]
 fn copy_of(cells: &[Cell], register: usize) -> Cell
     requires { register < length cells.now }
     ensures { (t : ℕ → List ℕ) → value_in result (t register) ≡ read (values_in t cells.now) register }
 {
-    match cells[register].shape {
-        Shape::Int => Cell {
-            shape: Shape::Int,
-            truth: false,
-            number: cells[register].number,
-        },
-        Shape::Truth => Cell {
-            shape: Shape::Truth,
-            truth: cells[register].truth,
-            number: 0,
-        },
-        Shape::Text => Cell {
-            shape: Shape::Text,
-            truth: false,
-            number: 0,
-        },
-        Shape::Empty => Cell {
-            shape: Shape::Empty,
-            truth: false,
-            number: 0,
-        },
+    let cell = &cells[register];
+    Cell {
+        shape: cell.shape,
+        truth: cell.truth,
+        number: cell.number,
     }
 }
 

@@ -46,6 +46,14 @@ fn roomy(alloc: Global, text: &Text) -> Result<Vec<u8>, Memory>
     Ok(bytes)
 }
 
+// Whether a line feed is wanted.
+fn is_line(choice: u8) -> bool
+    requires { (b : Bool) × (truth_of choice ≡ Some b) }
+    ensures { truth_of choice ≡ Some result }
+{
+    choice == 1
+}
+
 impl Machine {
     // The bytes that are printed of a register.
     fn shown(&self, from: u32) -> Result<Vec<u8>, Memory>
@@ -106,8 +114,9 @@ impl Machine {
         ensures step { (code : Parts) (taken : List Piece) → Stepped code taken result (next_in code taken self.old (Instr.Print from choice)) self.new }
         ensures keeps { KeepsFrames result self.old self.new }
     {
+        let line = is_line(choice);
         match self.shown(from) {
-            Ok(bytes) => self.put_out(bytes, choice == 1),
+            Ok(bytes) => self.put_out(bytes, line),
             Err(_) => Step::Memory,
         }
     }

@@ -187,15 +187,11 @@ module _ (code : Parts) (function : ℕ) (s : Scene) (place : ℕ) (cells : List
   compared_so to (Some c) (Some (Text x)) (Some (Text y)) t e = let h : holds c (slice_cmp nat_cmp x y) ≡ t = cc in ap (gets_truth to) h
   compared_so to (Some equal) (Some (Truth a)) (Some (Truth b)) t e = let h : same_truth a b ≡ t = cc in ap (gets_truth to) h
   compared_so to (Some not_equal) (Some (Truth a)) (Some (Truth b)) t e = let h : not (same_truth a b) ≡ t = cc in ap (gets_truth to) h
-  compared_so to (Some c) v w t e = absurd (let x : ⊥ = cc in x)
+  compared_so to (Some _) _ _ t e = absurd (let x : ⊥ = cc in x)
 
   pub compared_is : (to choice a b : ℕ) (t : Bool) → compared (comparison_of choice) (read (values_in s.text cells) a) (read (values_in s.text cells) b) ≡ Some t
       → next_of code function s place cells left (i.Cmp to choice a b) ≡ gets_truth to t
   compared_is to choice a b t e = compared_so to (comparison_of choice) (read (values_in s.text cells) a) (read (values_in s.text cells) b) t e
-
--- what is compared with a text
-pub no_value : (k : Option Comparison) (w : Option Value) (t : Bool) → compared k None w ≡ Some t → ⊥
-no_value k w t e = let h = left_value k None w t e in let x : ⊥ = cc in x
 
 pub right_text : (k : Option Comparison) (x : List ℕ) (w : Option Value) (t : Bool) → compared k (Some (Text x)) w ≡ Some t → (y : List ℕ) × (w ≡ Some (Text y))
 right_text None x w t e = absurd (let z : ⊥ = cc in z)

@@ -1,7 +1,7 @@
-use Rattle.std.proofs.Common.{◌≡◌, ◌<◌, ◌≤◌, length, sym, ap, ◌∙◌, arith}
+use Rattle.std.proofs.Common.{ap, ◌∙◌}
 use Rattle.vale_registers.specs.Shares.{texts_in}
 use Rattle.vale_registers.specs.Texts.{text_at}
-use Rattle.vale_registers.proofs.Rows.{first_texts, found, past, written_else, written_here}
+use Rattle.vale_registers.proofs.Rows.{first_texts}
 use Rattle.vale_registers.proofs.row.cut.Goals as goal
 
 pub returns-then-count-len : goal.returns-then-count-len

@@ -1,4 +1,4 @@
-use Rattle.std.proofs.Common.{◌≡◌, ap, ◌∙◌, arith}
+use Rattle.std.proofs.Common.{ap, ◌∙◌}
 use Rattle.vale_registers.specs.Shares.{texts_in}
 use Rattle.vale_registers.specs.Texts.{text_at}
 use Rattle.vale_registers.proofs.Rows.{blank_behind}

@@ -10,6 +10,7 @@ use Rattle.vale_registers.specs.Cells.{empty, values_in}
 use Rattle.vale_registers.specs.Texts.{text_at}
 use Rattle.vale_turn.specs.Served.{HasRegister}
 use Rattle.vale_machine.specs.View.{active, below, from_base, own_cells, own_texts, registers_of, state_of}
+use Rattle.vale_machine.specs.declared.machine.Frame.{Frame}
 use Rattle.vale_machine.specs.declared.machine.Machine.{Machine}
 use Rattle.vale_machine.proofs.Entering.{call_is, deep_enough, entered, lies, no_tick, one_tick, same_func, too_deep, IsEntered}
 use Rattle.vale_machine.proofs.Giving.{are_given, args_within, full, full_below, full_registers, full_length, length_values}
@@ -102,9 +103,10 @@ returns-clause-step c = λ taken.
     ∙ ap (λ n. (cells ++ p.more) ++ replicate (n + c.function_of-callee.result.now.registers - length (cells ++ p.more)) empty) base
     ∙ ap (λ (f : Func). (cells ++ p.more) ++ replicate (length cells + f.registers - length (cells ++ p.more)) empty) callee in
     let dest : c.dest_of-dest.result ≡ result_to func.result c.args.to = c.dest_of-dest.ensures ∙ ap (λ (f : Func). result_to f.result c.args.to) callee in
-    let top : record { function = c.args.function; at = c.args.at; dest = c.dest_of-dest.result; place = 0; base = c.len-base.result } ≡ record { function = c.args.function; at = c.args.at; dest = result_to func.result c.args.to; place = 0; base = length cells } =
-    (λ i. record { function = c.args.function; at = c.args.at; dest = dest i; place = 0; base = base i }) in
-    let new : Machine = record { alloc = m.alloc; cells = c.fill.new.cells; texts = c.pass.new.texts; top = record { function = c.args.function; at = c.args.at; dest = c.dest_of-dest.result; place = 0; base = c.len-base.result }; below = c.push.new.self; left = m.left - 1; given = m.given; pieces = m.pieces } in
+    let made : Frame = record { function = c.args.function; at = c.args.at; dest = c.dest_of-dest.result; place = 0; base = c.len-base.result } in
+    let meant : Frame = record { function = c.args.function; at = c.args.at; dest = result_to func.result c.args.to; place = 0; base = length cells } in
+    let top : made ≡ meant = ap (λ o. record made { dest = o }) dest ∙ ap (λ n. record meant { base = n }) base in
+    let new : Machine = record { alloc = m.alloc; cells = c.fill.new.cells; texts = c.pass.new.texts; top = made; below = c.push.new.self; left = m.left - 1; given = m.given; pieces = m.pieces } in
     let q : IsEntered code func m new c.args.to c.args.function c.args.at g.read.values = record {
       found = g.found;
       top = top;
@@ -144,9 +146,10 @@ returns-clause-laid c =
     ∙ ap (λ n. (cells ++ p.more) ++ replicate (n + c.function_of-callee.result.now.registers - length (cells ++ p.more)) empty) base
     ∙ ap (λ (f : Func). (cells ++ p.more) ++ replicate (length cells + f.registers - length (cells ++ p.more)) empty) callee in
     let dest : c.dest_of-dest.result ≡ result_to func.result c.args.to = c.dest_of-dest.ensures ∙ ap (λ (f : Func). result_to f.result c.args.to) callee in
-    let top : record { function = c.args.function; at = c.args.at; dest = c.dest_of-dest.result; place = 0; base = c.len-base.result } ≡ record { function = c.args.function; at = c.args.at; dest = result_to func.result c.args.to; place = 0; base = length cells } =
-    (λ i. record { function = c.args.function; at = c.args.at; dest = dest i; place = 0; base = base i }) in
-    let new : Machine = record { alloc = m.alloc; cells = c.fill.new.cells; texts = c.pass.new.texts; top = record { function = c.args.function; at = c.args.at; dest = c.dest_of-dest.result; place = 0; base = c.len-base.result }; below = c.push.new.self; left = m.left - 1; given = m.given; pieces = m.pieces } in
+    let made : Frame = record { function = c.args.function; at = c.args.at; dest = c.dest_of-dest.result; place = 0; base = c.len-base.result } in
+    let meant : Frame = record { function = c.args.function; at = c.args.at; dest = result_to func.result c.args.to; place = 0; base = length cells } in
+    let top : made ≡ meant = ap (λ o. record made { dest = o }) dest ∙ ap (λ n. record meant { base = n }) base in
+    let new : Machine = record { alloc = m.alloc; cells = c.fill.new.cells; texts = c.pass.new.texts; top = made; below = c.push.new.self; left = m.left - 1; given = m.given; pieces = m.pieces } in
     let q : IsEntered code func m new c.args.to c.args.function c.args.at g.read.values = record {
       found = g.found;
       top = top;
