@@ -8,6 +8,5 @@ mod stop;
 mod stretch;
 
 pub use compare::{matched, ordered};
-pub use obey::obey;
 pub use stop::Stop;
 pub use stretch::{function_of, go, instr_at, once};

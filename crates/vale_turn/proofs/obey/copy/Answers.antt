@@ -1,5 +1,10 @@
-use Rattle.std.proofs.Common.{ap, sym, ◌∙◌}
+use Rattle.std.proofs.Common.{Some, ap, sym, ◌∙◌, rules}
+use Rattle.std.proofs.lemmas.Int.{to_z-of_z}
+use mir.Syntax.{w64}
+use Rattle.vale_state_spec.specs.World.{Int}
 use Rattle.vale_code.specs.Instructions.{onward}
+use Rattle.vale_code.specs.Registers.{put}
+use Rattle.vale_registers.specs.Cells.{values_in}
 use Rattle.vale_registers.proofs.Registers.{int_shaped, not_empty, truth_shaped, value_within}
 use Rattle.vale_turn.specs.View.{active, state_at}
 use Rattle.vale_turn.proofs.Rules.{copied_int, copied_truth}
@@ -20,6 +25,7 @@ unreachable-requires c = not_empty c.args.cells.now c.args.from c.shape_at.resul
 pub returns-in-Int-clause-step : goal.returns-in-Int-clause-step
 returns-in-Int-clause-step c = λ code function ticks s.
     copied_int code function s c.args.place.now c.args.cells.now ticks c.args.to c.args.from c.int_at-number.result (c.int_at-number.ensures s.text)
+    ∙ ap (λ z. onward (active function s c.args.place.now c.args.cells.now) (put (values_in s.text c.args.cells.now) c.args.to (Some (Int z))) s.below (state_at s ticks)) (sym (to_z-of_z w64 c.int_at-number.result (search rules)))
     ∙ ap (λ regs. onward (active function s c.args.place.now c.args.cells.now) regs s.below (state_at s ticks)) (sym (c.set_int.ensures s.text))
 
 pub returns-in-Truth-clause-step : goal.returns-in-Truth-clause-step
