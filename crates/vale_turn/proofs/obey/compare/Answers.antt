@@ -1,4 +1,6 @@
-use Rattle.std.proofs.Common.{Some, ap, sym, ◌∙◌}
+use Rattle.std.proofs.Common.{Some, ap, sym, ◌∙◌, rules, to_z, of_z}
+use Rattle.std.proofs.lemmas.Int.{to_z-of_z}
+use mir.Syntax.{w64}
 use Rattle.vale_state_spec.specs.World.{Int, Truth}
 use Rattle.vale_code.specs.Instructions.{comparison_of, onward}
 use Rattle.vale_code.specs.Registers.{read}
@@ -49,7 +51,10 @@ pub ordered-truth-requires : goal.ordered-truth-requires
 ordered-truth-requires c =
     let h = c.requires.right in
     let k = comparison_of c.args.choice in
-    (h.1, ap (λ u. compared k u (Some (Int c.int_at-second.result))) (sym (c.int_at-first.ensures h.0)) ∙ ap (λ u. compared k (read (values_in h.0 c.args.cells.now) c.args.left) u) (sym (c.int_at-second.ensures h.0)) ∙ h.2)
+    let first = to_z-of_z w64 c.int_at-first.result (search rules) in
+    let second = to_z-of_z w64 c.int_at-second.result (search rules) in
+    (h.1, ap (λ z. compared k (Some (Int z)) (Some (Int (to_z w64 (of_z w64 c.int_at-second.result))))) first ∙ ap (λ z. compared k (Some (Int c.int_at-first.result)) (Some (Int z))) second
+        ∙ ap (λ u. compared k u (Some (Int c.int_at-second.result))) (sym (c.int_at-first.ensures h.0)) ∙ ap (λ u. compared k (read (values_in h.0 c.args.cells.now) c.args.left) u) (sym (c.int_at-second.ensures h.0)) ∙ h.2)
 
 pub matched-truth-requires : goal.matched-truth-requires
 matched-truth-requires c =
@@ -60,7 +65,10 @@ matched-truth-requires c =
 pub returns-in-Int-clause-step : goal.returns-in-Int-clause-step
 returns-in-Int-clause-step c = λ code function ticks s.
     let k = comparison_of c.args.choice in
-    let e = ap (λ u. compared k u (read (values_in s.text c.args.cells.now) c.args.right)) (c.int_at-first.ensures s.text) ∙ ap (λ u. compared k (Some (Int c.int_at-first.result)) u) (c.int_at-second.ensures s.text) ∙ c.ordered-truth.ensures in
+    let first = to_z-of_z w64 c.int_at-first.result (search rules) in
+    let second = to_z-of_z w64 c.int_at-second.result (search rules) in
+    let e = ap (λ u. compared k u (read (values_in s.text c.args.cells.now) c.args.right)) (c.int_at-first.ensures s.text) ∙ ap (λ u. compared k (Some (Int c.int_at-first.result)) u) (c.int_at-second.ensures s.text)
+        ∙ ap (λ z. compared k (Some (Int z)) (Some (Int c.int_at-second.result))) (sym first) ∙ ap (λ z. compared k (Some (Int (to_z w64 (of_z w64 c.int_at-first.result)))) (Some (Int z))) (sym second) ∙ c.ordered-truth.ensures in
     compared_is code function s c.args.place.now c.args.cells.now ticks c.args.to c.args.choice c.args.left c.args.right c.ordered-truth.result e
     ∙ ap (λ regs. onward (active function s c.args.place.now c.args.cells.now) regs s.below (state_at s ticks)) (sym (c.set_truth.ensures s.text))
 

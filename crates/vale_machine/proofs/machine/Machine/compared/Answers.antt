@@ -1,4 +1,6 @@
-use Rattle.std.proofs.Common.{◌<◌, length, Some, sym, ap, ◌∙◌, subst}
+use Rattle.std.proofs.Common.{◌<◌, length, Some, sym, ap, ◌∙◌, subst, rules, to_z, of_z}
+use Rattle.std.proofs.lemmas.Int.{to_z-of_z}
+use mir.Syntax.{w64}
 use Rattle.vale_state_spec.specs.World.{Int, Truth, Text}
 use Rattle.vale_code.specs.Instructions.{comparison_of}
 use Rattle.vale_code.specs.Registers.{read}
@@ -39,13 +41,19 @@ ordered-requires c =
     let m = c.args.self.now in
     let h = c.requires.right in
     let k = comparison_of c.args.choice in
-    (h.0, ap (λ u. compared k u (Some (Int c.int-second.result))) (sym c.int-first.ensures) ∙ ap (λ u. compared k (read (registers_of m) c.args.left) u) (sym c.int-second.ensures) ∙ h.1)
+    let first = to_z-of_z w64 c.int-first.result (search rules) in
+    let second = to_z-of_z w64 c.int-second.result (search rules) in
+    (h.0, ap (λ z. compared k (Some (Int z)) (Some (Int (to_z w64 (of_z w64 c.int-second.result))))) first ∙ ap (λ z. compared k (Some (Int c.int-first.result)) (Some (Int z))) second
+        ∙ ap (λ u. compared k u (Some (Int c.int-second.result))) (sym c.int-first.ensures) ∙ ap (λ u. compared k (read (registers_of m) c.args.left) u) (sym c.int-second.ensures) ∙ h.1)
 
 pub returns-in-Int : goal.returns-in-Int
 returns-in-Int c =
     let m = c.args.self.now in
     let k = comparison_of c.args.choice in
-    ap (λ u. compared k u (read (registers_of m) c.args.right)) c.int-first.ensures ∙ ap (λ u. compared k (Some (Int c.int-first.result)) u) c.int-second.ensures ∙ c.ordered.ensures
+    let first = to_z-of_z w64 c.int-first.result (search rules) in
+    let second = to_z-of_z w64 c.int-second.result (search rules) in
+    ap (λ u. compared k u (read (registers_of m) c.args.right)) c.int-first.ensures ∙ ap (λ u. compared k (Some (Int c.int-first.result)) u) c.int-second.ensures
+    ∙ ap (λ z. compared k (Some (Int z)) (Some (Int c.int-second.result))) (sym first) ∙ ap (λ z. compared k (Some (Int (to_z w64 (of_z w64 c.int-first.result)))) (Some (Int z))) (sym second) ∙ c.ordered.ensures
 
 pub truth-former-requires-clause-holds : goal.truth-former-requires-clause-holds
 truth-former-requires-clause-holds c = truth_shaped (own_cells c.args.self.now) c.args.left c.shape_at.result (subst (λ l. IsShaped l c.args.left c.shape_at.result) c.registers.ensures c.shape_at.ensures) c.in-Truth.is

@@ -1,6 +1,7 @@
 use Rattle.std.proofs.Common.{Some, sym, ap, ◌∙◌, subst}
 use Rattle.vale_state_spec.specs.World.{Int, Truth, Text}
-use Rattle.vale_code.specs.Instructions.{copied, gets, with_value}
+use Rattle.vale_code.specs.Instructions.{onward}
+use Rattle.vale_code.specs.Registers.{put}
 use Rattle.vale_registers.specs.Cells.{IsShaped}
 use Rattle.vale_registers.proofs.Registers.{int_shaped, not_empty, text_shaped, truth_shaped, value_within}
 use Rattle.vale_machine.specs.View.{active, below, own_cells, registers_of, state_of}
@@ -25,7 +26,9 @@ unreachable-requires c = not_empty (own_cells c.args.self.now) c.args.from c.sha
 
 pub returns-in-Int-clause-step : goal.returns-in-Int-clause-step
 returns-in-Int-clause-step c = λ code taken.
-    copied_int code taken c.args.self.now c.args.to c.args.from _ c.int-number.ensures ∙ goes_on code taken c.args.self.now c.get_int.new.self _ c.get_int.ensures
+    copied_int code taken c.args.self.now c.args.to c.args.from _ c.int-number.ensures
+    ∙ ap (λ z. onward (active code c.args.self.now) (put (registers_of c.args.self.now) c.args.to (Some (Int z))) (below code c.args.self.now) (state_of taken c.args.self.now)) (sym (to_z-of_z w64 c.int-number.result (search rules)))
+    ∙ goes_on code taken c.args.self.now c.get_int.new.self _ c.get_int.ensures
 
 pub returns-in-Int-clause-keeps : goal.returns-in-Int-clause-keeps
 returns-in-Int-clause-keeps c = frames_kept _ c.args.self.now c.get_int.new.self _ c.get_int.ensures
