@@ -1,5 +1,7 @@
-use Rattle.std.proofs.Common.{ap}
+use Rattle.std.proofs.Common.{ap, sym, subst}
+use Rattle.vale_code.specs.declared.instr.Instr.{Instr}
 use Rattle.vale_turn.specs.Served.{is_aside}
+use Rattle.vale_turn.specs.View.{next_of, Obeyed}
 use Rattle.vale_turn.proofs.Rules.{add_ints, sub_ints, mul_ints, div_ints, rem_ints, copied_value, cmp_right, leaving_aside}
 use Rattle.vale_turn.proofs.obey.obey.Goals as goal
 
@@ -44,3 +46,13 @@ returns-in-Copy-clause-leaves c = leaving_aside c.copy.result c.args.instr.now c
 
 pub returns-in-Cmp-clause-leaves : goal.returns-in-Cmp-clause-leaves
 returns-in-Cmp-clause-leaves c = leaving_aside c.compare.result c.args.instr.now c.compare.ensures.aside (ap is_aside c.in-Cmp.is)
+
+pub returns-in-Copy-clause-step : goal.returns-in-Copy-clause-step
+returns-in-Copy-clause-step c = λ code function s body few.
+    subst (λ (x : Instr). Obeyed function s c.copy.result (next_of code function s c.args.place.now c.args.cells.now c.args.left.now x) c.copy.new.place c.copy.new.cells c.args.left.now)
+    (sym c.in-Copy.is) (c.copy.ensures.step code function c.args.left.now s)
+
+pub returns-in-Cmp-clause-step : goal.returns-in-Cmp-clause-step
+returns-in-Cmp-clause-step c = λ code function s body few.
+    subst (λ (x : Instr). Obeyed function s c.compare.result (next_of code function s c.args.place.now c.args.cells.now c.args.left.now x) c.compare.new.place c.compare.new.cells c.args.left.now)
+    (sym c.in-Cmp.is) (c.compare.ensures.step code function c.args.left.now s)
