@@ -1,15 +1,21 @@
 mod BuiltIns
-pub mod Calls
-pub mod Destruction
-pub mod Drops
-pub mod Examples
-pub mod Main
+mod Callees
+mod Calls
+mod Codes
+mod Destruction
+mod Drops
+pub mod Kept
+mod Main
+mod ObjectTexts
 mod Operations
 mod Operators
-pub mod Owes
+mod Origins
+mod Owes
+mod Posts
 mod Premises
-pub mod Program
-pub mod Reaches
-pub mod Registers
-pub mod Steps
-pub mod Tree
+mod Program
+mod Reaches
+mod Registers
+mod Steps
+mod Stores
+mod Tree

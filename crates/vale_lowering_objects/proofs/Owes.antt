@@ -25,6 +25,7 @@ use Rattle.vale_lowering.proofs.Reaches.{Where, conf, calls_in, HasAt, Comes, St
 use Rattle.vale_lowering_objects.specs.Program.{IsLowered}
 use Rattle.vale_lowering_objects.specs.Scopes.{Gives, void, gives_of, is_value, Scope, Gone, closes, Around}
 use Rattle.vale_lowering_objects.specs.Lowered.{param_gives, result_gives, expr_after, block_after, expr_code, block_code}
+use Rattle.vale_lowering_objects.proofs.Kept.{KeepsAll}
 use Rattle.vale_lowering_objects.proofs.Destruction.{FieldsRun, DestructorsRun}
 use Rattle.vale_lowering_objects.proofs.Registers.{Fits, Falls, Agrees}
 use Rattle.vale_lowering_objects.proofs.Reaches.{FitAll, Keeps, Reaches}
@@ -83,6 +84,7 @@ pub record Follows (code : Code) (functions : List Function) (p : Parts) (again 
   pub destructors : DestructorsRun code functions again n
   pub calls : CallsRun code p functions again n
   pub turns : TurnsRun code p functions again n
+  pub keeps : (local : ℕ) → KeepsAll local again
 
 -- ---- the end of a function
 

@@ -28,13 +28,15 @@ use Rattle.vale_lowering.proofs.Reaches.{Where, conf, calls_in, Post, HasAt}
 use Rattle.vale_lowering_objects.specs.Program.{IsLowered, IsCode, names_in, body_code, given_all}
 use Rattle.vale_lowering_objects.specs.Scopes.{Gives, void, copy, owner, gives_of, is_owner, agree, Scope, entry, Gone, never, parameters}
 use Rattle.vale_lowering_objects.specs.Lowered.{param_gives, param_gives_of, result_gives, drop_scope, expr_code, expr_after, block_code, block_after}
+use Rattle.vale_lowering_objects.proofs.Kept.{level_keeps}
 use Rattle.vale_lowering_objects.proofs.Destruction.{DestructorsRun, Back, entered, fields_more}
 use Rattle.vale_lowering_objects.proofs.Registers.{Fits, Holds, Falls, falls_up, fresh_above, agrees_more, Ties, look, stands, owner_is}
 use Rattle.vale_lowering_objects.proofs.Reaches.{Then, Put, Keeps, FitAll, Reaches, Runs, returned_by, no_more, only_if_runs, then_reaches, closed, loop_tests}
 use Rattle.vale_lowering_objects.proofs.Owes.{ComesBack, begins, IsPlain, CallsRun, TurnsRun, Follows, IsHere, around}
 use Rattle.vale_lowering_objects.proofs.Drops.{leave_void_runs}
 use Rattle.vale_lowering_objects.proofs.Calls.{agree_same}
-use Rattle.vale_lowering_objects.proofs.Tree.{block_runs, value_runs, then_weaker, in_keeps, put_in}
+use Rattle.vale_lowering_objects.proofs.Posts.{in_keeps, put_in}
+use Rattle.vale_lowering_objects.proofs.Tree.{block_runs, value_runs, then_weaker}
 use Rattle.vale_lowering.proofs.Shapes.{loop_body, loop_test}
 
 -- ---- where a function begins
@@ -90,7 +92,7 @@ falls_from (m ∷ ns) (q ∷ qs) r s f =
 falls_parameters : (ns : List ℕ) (qs : List Gives) → Falls (length ns) (parameters 0 ns qs [])
 falls_parameters ns qs = let e : 0 + length ns ≡ length ns = omega arith in subst (λ z. Falls z (parameters 0 ns qs [])) e (falls_from ns qs 0 [] tt)
 
-never_none : (ps : List Param) (vs : List Value) (l : Locals) → FitAll (param_gives_of ps) vs → (bound ps vs l ≡ None) → ⊥
+pub never_none : (ps : List Param) (vs : List Value) (l : Locals) → FitAll (param_gives_of ps) vs → (bound ps vs l ≡ None) → ⊥
 never_none [] [] l f b = cc
 never_none [] (v ∷ vs) l f b = f
 never_none (p ∷ ps) [] l f b = f
@@ -108,7 +110,7 @@ given_owner (y.array x) v e = refl
 given_owner (y.ref x) v e = refl
 given_owner (y.iso x) v e = refl
 
-one_given : (ps : List Param) (v : Value) → param_gives_of ps ≡ owner ∷ [] → given_all ps (v ∷ []) ≡ v ∷ []
+pub one_given : (ps : List Param) (v : Value) → param_gives_of ps ≡ owner ∷ [] → given_all ps (v ∷ []) ≡ v ∷ []
 one_given [] v e = absurd (cc)
 one_given (q ∷ []) v e = let f : gives_of (type_of (param_type q)) ≡ owner = cc in ap (λ u. u ∷ []) (given_owner (type_of (param_type q)) v f)
 one_given (q ∷ r ∷ ps) v e = absurd (cc)
@@ -233,6 +235,7 @@ module _ (code : Code) (functions : List Function) (p : Parts) (is_code : IsCode
     destructors = λ j f d m frame after below l w less. absurd (omega (arith, less));
     calls = λ j f low vs frame to after below l w less plain fit. absurd (omega (arith, less));
     turns = λ k out c b q h s g base l regs w is less fa ag some test body has. absurd (omega (arith, less));
+    keeps = λ local. level_keeps local p zero;
   }
   all_follow (suc n) =
       let before = all_follow n in
@@ -242,4 +245,5 @@ module _ (code : Code) (functions : List Function) (p : Parts) (is_code : IsCode
         destructors = destructors_by (level p (suc n)) (suc n) calls;
         calls = calls;
         turns = turns_more n before;
+        keeps = λ local. level_keeps local p (suc n);
       }

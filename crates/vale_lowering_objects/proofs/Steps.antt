@@ -21,7 +21,7 @@ use Rattle.vale_lowering.proofs.Registers.{Held, Base, with_at, with_all, one_ab
 use Rattle.vale_model.specs.Loops.{emptied, taken_apart}
 use Rattle.vale_lowering.proofs.Reaches.{Where, active, conf, calls_in, Post, Comes, comes_on, does, moves, stops}
 use Rattle.vale_lowering_objects.specs.Scopes.{Gives, void, copy, owner, is_owner, same_truth, Entry, Scope, Gone, is_gone}
-use Rattle.vale_lowering_objects.specs.Lowered.{move_out, moved_out, exchange_by, exchange, read_local, load_field}
+use Rattle.vale_lowering_objects.specs.Lowered.{move_out, moved_out, exchange_by, exchange, read_local}
 use Rattle.vale_lowering_objects.proofs.Destruction.{IsOwned}
 use Rattle.vale_lowering_objects.proofs.Registers.{Fits, Holds, Falls, Agrees, agrees_put, agrees_down, Meets, Empties, agrees_emptied, Takes, agrees_taken, agrees_all, top_read, same_truths}
 use Rattle.vale_lowering_objects.proofs.Reaches.{In, Reaches, Runs, wrongs, is_stuck, comes_reaches}
@@ -57,7 +57,7 @@ reads_all h (v ∷ vs) regs st =
     reads_one h v vs regs st.0
     (reads_all (h + 1) vs (kept h v regs) (stand_kept (h + 1) vs regs (kept h v regs) (λ r le. let ne : r ≢ h = omega arith in keeping h r v regs ne) st.1))
 
--- ---- loads
+-- ---- answers
 
 -- an answer is a value in the same state, or a trap
 abbrev pub Answers : State → Answer → Type 0
@@ -65,21 +65,6 @@ Answers w (gives None u) = ⊥
 Answers w (gives (Some v) u) = u ≡ w
 Answers w (traps kind) = Unit {0}
 Answers w fails = Unit {0}
-
-field_fits : (o : Option Value) (w : State) → Answers w (field_in o w)
-field_fits None w = tt
-field_fits (Some v) w = refl
-
-object_fits : (f m : ℕ) (o : Option Object) (w : State) → Answers w (on_object (found_or_dead m o) (λ n o. field_in (slice_get o.values f) w))
-object_fits f m None w = tt
-object_fits f m (Some o) w = field_fits (slice_get o.values f) w
-
-name_fits : (f : ℕ) (m : Option ℕ) (w : State) → Answers w (on_object (look_up m w) (λ n o. field_in (slice_get o.values f) w))
-name_fits f None w = tt
-name_fits f (Some m) w = object_fits f m (object_of m w) w
-
-pub load_answers : (f : ℕ) (v : Value) (w : State) → Answers w (load f v w)
-load_answers f v w = name_fits f (name_of v) w
 
 -- neither an owner nor an isolate
 abbrev pub IsCopied : Value → Type 0
@@ -131,20 +116,11 @@ moved_or_not (Truth b) = inr refl
 moved_or_not (Text t) = inr refl
 moved_or_not (Ref n) = inr refl
 
--- a load from what is lent is one from what lends
-load_lent : (f : ℕ) (v : Value) (w : State) → load f (lent v) w ≡ load f v w
-load_lent f (Int z) w = refl
-load_lent f (Truth b) w = refl
-load_lent f (Text t) w = refl
-load_lent f (Ref n) w = refl
-load_lent f (Own n) w = refl
-load_lent f (Iso n) w = refl
-
 left_if : (b : Bool) (s t : State) → t.left ≡ s.left → (if b then s else t).left ≡ s.left
 left_if true s t e = refl
 left_if false s t e = e
 
-born_left : (kind : Kind) (vs : List Value) (s : State) → (born kind vs s).left ≡ s.left
+pub born_left : (kind : Kind) (vs : List Value) (s : State) → (born kind vs s).left ≡ s.left
 born_left kind vs s = left_if s.quiet _ _ refl
 
 module _ (code : Code) (k : Where) (out : Gives) (n : ℕ) where
@@ -207,20 +183,20 @@ module _ (code : Code) (k : Where) (out : Gives) (n : ℕ) where
 
   -- ---- the set of a local
 
-  copies : (p to from : ℕ) (regs : Registers) (w : State) (v : Value) → IsCopied v → read regs from ≡ Some v → fetch code k.function p ≡ Some (i.Copy to from) → Comes code (conf k p regs w) (conf k (p + 1) (put regs to (Some v)) w)
+  pub copies : (p to from : ℕ) (regs : Registers) (w : State) (v : Value) → IsCopied v → read regs from ≡ Some v → fetch code k.function p ≡ Some (i.Copy to from) → Comes code (conf k p regs w) (conf k (p + 1) (put regs to (Some v)) w)
   copies p to from regs w v c e has =
       moves code k n p regs w (i.Copy to from) _ has
       (ap (λ o. with_value o w (λ v. gets (active k p regs) to (copied v) regs k.below w)) e ∙ ap (λ o. gets (active k p regs) to o regs k.below w) (copied_same v c))
 
-  shifts : (p to from : ℕ) (regs : Registers) (w : State) (v : Value) → IsOwned v → read regs from ≡ Some v → fetch code k.function p ≡ Some (i.Move to from) → Comes code (conf k p regs w) (conf k (p + 1) (put (put regs from None) to (Some v)) w)
+  pub shifts : (p to from : ℕ) (regs : Registers) (w : State) (v : Value) → IsOwned v → read regs from ≡ Some v → fetch code k.function p ≡ Some (i.Move to from) → Comes code (conf k p regs w) (conf k (p + 1) (put (put regs from None) to (Some v)) w)
   shifts p to from regs w v c e has =
       moves code k n p regs w (i.Move to from) _ has
       (ap (λ o. with_value o w (λ v. gets (active k p regs) to (moved v) (put regs from None) k.below w)) e ∙ ap (λ o. gets (active k p regs) to o (put regs from None) k.below w) (moved_same v c))
 
-  put_other : (regs : Registers) (d r : ℕ) (v : Held) → r ≢ d → read (put regs d v) r ≡ read regs r
+  pub put_other : (regs : Registers) (d r : ℕ) (v : Held) → r ≢ d → read (put regs d v) r ≡ read regs r
   put_other regs d r v ne = read_put regs d r v ∙ pick_other r d v (read regs r) ne
 
-  put_here : (regs : Registers) (d : ℕ) (v : Held) → read (put regs d v) d ≡ v
+  pub put_here : (regs : Registers) (d : ℕ) (v : Held) → read (put regs d v) d ≡ v
   put_here regs d v = read_put regs d d v ∙ pick_same d v (read regs d)
 
   module _ (p h : ℕ) (s : Scope) (g : Gone) (base : Base) (l l' : Locals) (regs : Registers) (w : State) (new : Value) (fa : Falls h s) (ag : Agrees (h + 1) s g l (with_at h (Some new) base) regs) (few : w.left ≤ n) where
@@ -376,42 +352,6 @@ module _ (code : Code) (k : Where) (out : Gives) (n : ℕ) where
     pub read_runs : (o : Option Entry) (u : Held) → Meets h s g l o u → Runs code k out n (read_local o h) (In copy h s base g) p regs w (seen u)
     read_runs None u m has = is_stuck code k out n p (p + 1) h (In copy h s base g) regs w (seen u) has
     read_runs (Some x) u m has = reads_by x.owned (is_gone x.register g) x u m.1 (ag.each x.register m.0 ∙ m.2 base) has
-
-    -- ---- a field of what a local leads to
-
-    abbrev field_of : ℕ → Spot → Held → Result (Option Value)
-    field_of f at u = then_do (then_do (seen u) (λ v. the_value v (calls_in k))) (λ v. step at (load f v) (calls_in k))
-
-    loads_by : (owned gone : Bool) (f : ℕ) (at : Spot) (x : Entry) (u : Held) → Holds owned gone u → read regs x.register ≡ u → Runs code k out n (if owned then (if gone then i.Truth h 2 ∷ [] else i.LoadOwn h x.register f ∷ []) else i.Load h x.register f at ∷ []) (In copy h s base g) p regs w (field_of f at u)
-    loads_by true true f at x u hold e has = is_stuck code k out n p (p + 1) h (In copy h s base g) regs w (field_of f at u) has
-    loads_by true false f at x None hold e has = absurd hold
-    loads_by true false f at x (Some (Own m)) hold e has =
-        surely p h s g base l regs w (i.LoadOwn h x.register f) at (load f (Ref m) w) fa ag few (load_answers f (Ref m) w) has.0
-        (ap (λ o. with_owner o w (λ m. certain (active k p regs) (Some h) regs k.below w (load f (Own m) w))) e)
-    loads_by true false f at x (Some (Iso m)) hold e has =
-        wrongs code k out n p (p + 1) (In copy h s base g) regs w (i.LoadOwn h x.register f) (field_of f at (Some (Iso m))) w None has.0
-        (ap (λ o. with_owner o w (λ m. certain (active k p regs) (Some h) regs k.below w (load f (Own m) w))) e)
-    loads_by true false f at x (Some (Int z)) hold e has =
-        wrongs code k out n p (p + 1) (In copy h s base g) regs w (i.LoadOwn h x.register f) (field_of f at (Some (Int z))) w None has.0
-        (ap (λ o. with_owner o w (λ m. certain (active k p regs) (Some h) regs k.below w (load f (Own m) w))) e)
-    loads_by true false f at x (Some (Truth b)) hold e has =
-        wrongs code k out n p (p + 1) (In copy h s base g) regs w (i.LoadOwn h x.register f) (field_of f at (Some (Truth b))) w None has.0
-        (ap (λ o. with_owner o w (λ m. certain (active k p regs) (Some h) regs k.below w (load f (Own m) w))) e)
-    loads_by true false f at x (Some (Text t)) hold e has =
-        wrongs code k out n p (p + 1) (In copy h s base g) regs w (i.LoadOwn h x.register f) (field_of f at (Some (Text t))) w None has.0
-        (ap (λ o. with_owner o w (λ m. certain (active k p regs) (Some h) regs k.below w (load f (Own m) w))) e)
-    loads_by true false f at x (Some (Ref m)) hold e has =
-        wrongs code k out n p (p + 1) (In copy h s base g) regs w (i.LoadOwn h x.register f) (field_of f at (Some (Ref m))) w None has.0
-        (ap (λ o. with_owner o w (λ m. certain (active k p regs) (Some h) regs k.below w (load f (Own m) w))) e)
-    loads_by false gone f at x None hold e has = absurd hold
-    loads_by false gone f at x (Some v) hold e has =
-        subst (λ z. Reaches code k out n (p + 1) (In copy h s base g) (conf k p regs w) (model.answered at z (calls_in k) l w)) (sym (load_lent f v w))
-        (answers p h s g base l regs w (i.Load h x.register f at) at (load f v w) fa ag few (load_answers f v w) has.0
-        (ap (λ o. with_value o w (λ v. answered (active k p regs) (Some h) regs at k.below w (load f v w))) e))
-
-    pub load_runs : (f : ℕ) (at : Spot) (o : Option Entry) (u : Held) → Meets h s g l o u → Runs code k out n (load_field o g (Some f) at h) (In copy h s base g) p regs w (field_of f at u)
-    load_runs f at None u m has = is_stuck code k out n p (p + 1) h (In copy h s base g) regs w (field_of f at u) has
-    load_runs f at (Some x) u m has = loads_by x.owned (is_gone x.register g) f at x u m.1 (ag.each x.register m.0 ∙ m.2 base) has
 
   -- ---- an object is made
 

@@ -1,20 +1,22 @@
 -- The code of each part of a program does what the part means: by induction on the tree.
 use Rattle.std.proofs.Common.{◌≡◌, ◌≢◌, ℕ, suc, ◌+◌, ◌<◌, ◌≤◌, List, [], ◌∷◌, ◌++◌, length, Option, Some, None, Bool, true, false, not, ◌&&◌, refl, sym, ap, ◌∙◌, subst, ◌⊎◌, inl, inr, arith}
-use Rattle.vale_state_spec.specs.State.{State, load, make}
+use Rattle.vale_state_spec.specs.State.{State, load, element, swap, swap_element as swapped_element, make, len, push, pop}
 use Rattle.std.specs.Prelude.{slice_get}
 use Rattle.vale_state_spec.specs.World.{Value, Int, Truth, Text}
 use Rattle.vale_base.specs.declared.spot.Spot.{Spot}
 use Rattle.vale_syntax.specs.declared.built_in.BuiltIn.{BuiltIn}
 use Rattle.vale_syntax.specs.declared.built_in.BuiltIn.TheVariants as b
 use Rattle.vale_syntax.specs.declared.tree.NameAt.{NameAt}
+use Rattle.vale_syntax.specs.declared.tree.UnaryOp.TheVariants as unary_op
+use Rattle.vale_text.specs.Operations.{is_int}
 use Rattle.vale_rules_spec.specs.Types as y
-use Rattle.vale_rules_spec.specs.Types.{Ty, is_owned}
-use Rattle.vale_rules_spec.specs.Typed.{Callee, built_in, constructor, function, Function, Expr, expr, Node, set, chain, unary, steps, number, quote, truth, name, call, paren, array, iso, form, Exprs, no_exprs, more_exprs, link, Links, no_links, more_links, field, method, index, Steps, no_steps, more_steps, Form, branch, pure, parallel_range, parallel_each, else_if, Elses, no_else, otherwise, more_elses, Block, block, Stmt, declare, destructure, return_nothing, return_value, while, foreach, form_stmt, express, Stmts, no_stmts, last, more_stmts, type}
+use Rattle.vale_rules_spec.specs.Types.{Ty, Seen, View, is_owned}
+use Rattle.vale_rules_spec.specs.Typed.{Callee, built_in, constructor, function, Function, Expr, expr, Node, set, chain, unary, steps, number, quote, truth, name, call, paren, array, iso, form, Exprs, no_exprs, more_exprs, link, Links, no_links, more_links, Step, field, method, index, Steps, no_steps, more_steps, Form, branch, pure, parallel_range, parallel_each, else_if, Elses, no_else, otherwise, more_elses, Block, block, Stmt, declare, destructure, return_nothing, return_value, while, foreach, form_stmt, express, Stmts, no_stmts, last, more_stmts, type}
 use Rattle.vale_model.specs.Parts.{Parts, kind_of, field_place}
 use Rattle.vale_model.specs.Runs.{Run, Locals, Result, goes, returned, ended, then_do, the_value, valued, give, choose, held_by, with_held, outer, innermost, while_waits, tick, step, ◌>>=◌}
 use Rattle.vale_model.specs.Destruction.{Again, drop, drop_owned, leave, with_local, with_locals}
 use Rattle.vale_model.specs.Loops.{taken_apart}
-use Rattle.vale_model.specs.Expressions.{expr_run, node_run, exprs_run, links_run, link_run, unary_run, form_run, elses_run, block_run, stmts_run, stmt_run, set_run, callee_run, built_in_run, numbers_of, expr_spot, on_place}
+use Rattle.vale_model.specs.Expressions.{expr_run, node_run, exprs_run, links_run, link_run, unary_run, form_run, elses_run, block_run, stmts_run, stmt_run, set_run, set_steps, set_step, step_run, steps_run, made, callee_run, built_in_run, numbers_of, expr_spot, on_place}
 use Rattle.vale_code.specs.Instructions.{with_value, with_choice, onward, gets, copied, moved}
 use Rattle.vale_code.specs.Parts.{Parts as Code}
 use Rattle.vale_code.specs.Registers.{Registers, read, put}
@@ -25,76 +27,28 @@ use Rattle.vale_lowering.specs.Instructions.{only_if, unary_code, registers_from
 use Rattle.vale_lowering.specs.Scopes.{number_of_text}
 use Rattle.vale_lowering.specs.Texts.{is_lawful_text}
 use Rattle.vale_lowering.proofs.Lookups.{text_or_none}
-use Rattle.vale_lowering.proofs.Registers.{Held, Base, with_at, with_all, with_all_below, one_above, pick_other, read_put}
+use Rattle.vale_lowering.proofs.Registers.{Held, Base, with_at, with_all, with_all_below, one_above, pick_other, read_put, Stand, pick_same}
 use Rattle.vale_lowering.proofs.Reaches.{Where, active, conf, calls_in, Post, moves, jumps, free_on}
 use Rattle.vale_lowering.proofs.Shapes.{loop_test}
 use Rattle.vale_lowering_objects.specs.Destruction.{SameKinds}
 use Rattle.vale_lowering_objects.specs.Scopes.{Gives, void, copy, owner, gives_of, is_value, is_owner, agree, Entry, Scope, entry, waiting, find, Gone, without, same_gone, After, comes, never, no_run, then_after, met, may_meet, closes, Around}
-use Rattle.vale_lowering_objects.specs.Lowered.{then_code, if_comes, turns_code, loop_after, locals_after, locals_code, all_gives, gives_list, set_code, hand, drop_value, drop_entry, drop_scope, load_field, move_out, read_local, built_in_code, copies_code, is_copied, are_copied, link_after, link_code, links_after, links_code, expr_after, node_after, args_after, form_after, elses_after, block_after, stmts_after, stmt_after, callee_code, expr_code, node_code, args_code, form_code, elses_code, block_code, stmts_code, stmt_code}
+use Rattle.vale_lowering_objects.specs.Changes.{expr_changes, step_changes}
+use Rattle.vale_lowering_objects.specs.Lowered.{Origin, at_hand, reference, then_code, if_comes, turns_code, loop_after, locals_after, locals_code, all_gives, gives_list, first_type, hand, exchange, store, lend_local, from_local, stays_of, step_view, load_field, load_element, swap_field, swap_element, drop_value, drop_entry, drop_scope, move_out, read_local, len_code, built_in_code, make_code, copies_code, is_copied, are_copied, link_after, link_code, links_after, links_code, expr_after, node_after, args_after, start_after, step_after, steps_after, place_after, targets_after, form_after, elses_after, block_after, stmts_after, stmt_after, callee_code, expr_code, node_code, borrow_code, start_code, step_code, steps_code, place_code, targets_code, swap_code, args_code, form_code, elses_code, block_code, stmts_code, stmt_code}
+use Rattle.vale_lowering_objects.proofs.Kept.{valued_keeps, expr_keeps, still_holds}
+use Rattle.vale_lowering_objects.proofs.Origins.{some_fits, Starts, Still, still_reference, Out, RestRuns, loads, elements, swaps, swaps_element, lends, pops, pushes, lengths, with_fact, start_value, start_local, then_assoc}
+use Rattle.vale_lowering_objects.proofs.Stores.{stores, replaced}
 use Rattle.vale_lowering_objects.proofs.Destruction.{IsOwned}
 use Rattle.vale_lowering_objects.proofs.Owes.{IsHere, Follows}
 use Rattle.vale_lowering_objects.proofs.Operators.{link_runs, unary_runs}
 use Rattle.vale_lowering_objects.proofs.BuiltIns.{given_by, built_ins as plain_built_ins}
 use Rattle.vale_lowering_objects.proofs.Calls.{call_runs}
 use Rattle.vale_lowering_objects.specs.Program.{IsCode}
-use Rattle.vale_lowering_objects.proofs.Registers.{Fits, Falls, falls_up, Fresh, fresh_above, Agrees, agrees_down, agrees_dest, agrees_once, agrees_more, agrees_met, agrees_push, agrees_pop, agrees_wait, agrees_done, agrees_top, agrees_push_first, owner_is, top_read, takes, meets, empties, stands, all_stand, and_first, and_second}
+use Rattle.vale_lowering_objects.proofs.Registers.{Fits, Falls, falls_up, Fresh, fresh_above, Agrees, agrees_down, agrees_dest, agrees_once, agrees_more, agrees_met, agrees_push, agrees_pop, agrees_wait, agrees_done, agrees_top, agrees_push_first, owner_is, top_read, takes, meets, empties, stands, all_stand, and_first, and_second, look_above}
 use Rattle.vale_lowering_objects.proofs.Reaches.{Then, In, Val, Put, Keeps, All, as_many, Reaches, Runs, then_reaches, weaker, stays, stays_at, is_stuck, only_if_runs, then_more, joined, joined_last, values, one_after, sides_run, loop_tests, comes_reaches, stops_there, ended_by, returned_by, wrongs}
 use Rattle.vale_lowering_objects.proofs.Drops.{Without, destroys, entry_runs, leave_runs, leave_void_runs}
-use Rattle.vale_lowering_objects.proofs.Steps.{IsCopied, moved_same, copied_same, copied_or_not, moved_or_not, copy_wrongs, move_wrongs, sets, move_runs, read_runs, load_runs, make_runs, Came, open_runs, set_runs, changed as set_changed}
-
-agree_same : (q r : Gives) → agree q r ≡ true → q ≡ r
-agree_same void void e = refl
-agree_same copy copy e = refl
-agree_same owner owner e = refl
-agree_same void copy e = absurd (cc)
-agree_same void owner e = absurd (cc)
-agree_same copy void e = absurd (cc)
-agree_same copy owner e = absurd (cc)
-agree_same owner void e = absurd (cc)
-agree_same owner copy e = absurd (cc)
-
-value_some : (q : Gives) → is_value q ≡ true → Fits q None → ⊥
-value_some void e f = absurd (cc)
-value_some copy e f = f
-value_some owner e f = f
-
-given_same : (q : Gives) → not (is_owner q) ≡ true → given_by (is_copied q) ≡ q
-given_same void e = refl
-given_same copy e = refl
-given_same owner e = absurd (cc)
-
-some_fits : (q : Gives) (v : Value) → is_value q ≡ true → Fits q (Some v)
-some_fits void v e = absurd (cc)
-some_fits copy v e = tt
-some_fits owner v e = tt
-
-in_met : (q : Gives) (h : ℕ) (s : Scope) (base : Base) (g g' : Gone) (v : Option Value) (l : Locals) (regs : Registers) → same_gone s g g' ≡ true → In q h s base g' v l regs → In q h s base g v l regs
-in_met q h s base g g' None l regs e a = (a.0, agrees_met h g g' s l base regs e a.1)
-in_met q h s base g g' (Some v) l regs e a = (a.0, agrees_met (h + 1) g g' s l (with_at h (Some v) base) regs e a.1)
-
-pub in_keeps : (q : Gives) (h : ℕ) (s : Scope) (base : Base) (g : Gone) (v : Option Value) (l : Locals) (regs : Registers) → Falls h s → In q h s base g v l regs → Agrees h s g l base regs
-in_keeps q h s base g None l regs fa a = a.1
-in_keeps q h s base g (Some v) l regs fa a = agrees_down s g l base (with_at h (Some v) base) h (h + 1) regs regs fa (omega arith) (one_above base h (Some v)) (λ r lt. refl) a.1
-
--- a block's value is that of the part that it ends
-pub put_in : (q : Gives) (h : ℕ) (s : Scope) (base : Base) (u : Held) (g : Gone) (v : Option Value) (l : Locals) (regs : Registers) → Falls h s → Put q h (h + 1) s (with_at h u base) g v l regs → In q h s base g v l regs
-put_in q h s base u g None l regs fa a = (a.0, agrees_down s g l base (with_at h u base) h (h + 1) regs regs fa (omega arith) (one_above base h u) (λ r lt. refl) a.1)
-put_in q h s base u g (Some v) l regs fa a = (a.0, agrees_once s g l base h (h + 1) (Some v) u regs a.1)
-
--- a scope ends
-put_pop : (q qe : Gives) (d h m : ℕ) (s : Scope) (base : Base) (g : Gone) (v : Option Value) (l : Locals) (regs regs' : Registers) → ((r : ℕ) → r < h → read regs' r ≡ read regs r) → Put q d (h + 1) (entry m h qe ∷ s) base g v l regs → Put q d h s base g v (outer l) regs'
-put_pop q qe d h m s base g None l regs regs' kept a = (a.0, agrees_pop s g l base h m qe regs regs' kept a.1)
-put_pop q qe d h m s base g (Some v) l regs regs' kept a = (a.0, agrees_pop s g l (with_at d (Some v) base) h m qe regs regs' kept a.1)
-
-put_top : (q qe : Gives) (d h m : ℕ) (s : Scope) (base : Base) (g : Gone) (v : Option Value) (l : Locals) (regs : Registers) → Put q d (h + 1) (entry m h qe ∷ s) base g v l regs → (base' : Base) × Agrees (h + 1) (entry m h qe ∷ s) g l base' regs
-put_top q qe d h m s base g None l regs a = (base, a.1)
-put_top q qe d h m s base g (Some v) l regs a = (with_at d (Some v) base, a.1)
-
--- what stood in h has been dropped
-dropped : (s : Scope) (g : Gone) (base base' : Base) (h k : ℕ) (l : Locals) (regs : Registers) → Falls h s → h ≤ k → ((r : ℕ) → r < h → base' r ≡ base r) → Agrees k s g l base' regs → (v : Option Value) (l' : Locals) (regs' : Registers) → Without h l regs v l' regs' → In void h s base g v l' regs'
-dropped s g base base' h k l regs fa le same ag (Some v) l' regs' a = absurd (let e : Some v ≡ None = a.0 in cc)
-dropped s g base base' h k l regs fa le same ag None l' regs' a =
-    (tt, subst (λ x. Agrees h s g x base regs') (sym a.1) (agrees_down s g l base base' h k regs regs' fa le same (λ r lt. let ne : r ≢ h = omega arith in a.2 r ne) ag))
+use Rattle.vale_lowering_objects.proofs.Steps.{IsCopied, moved_same, copied_same, copied_or_not, moved_or_not, copy_wrongs, move_wrongs, sets, move_runs, read_runs, make_runs, Came, open_runs, set_runs, changed as set_changed}
+use Rattle.vale_lowering_objects.proofs.Posts.{agree_same, value_some, given_same, in_met, in_keeps, put_in, put_pop, put_top, dropped, given, as_it_is}
+use Rattle.vale_lowering_objects.proofs.Callees.{callee_runs, makes}
 
 module _ (code : Code) (functions : List Function) (p0 : Parts) (is_code : IsCode code p0 functions) (k : Where) (out : Gives) (is : IsHere code k) (n : ℕ) (again : Again) (follows : Follows code functions p0 again n) where
   abbrev kinds : SameKinds code functions p0
@@ -105,17 +59,6 @@ module _ (code : Code) (functions : List Function) (p0 : Parts) (is_code : IsCod
 
   abbrev Ran : {A : Type 0} → List Instr → Post A → ℕ → Registers → State → Result A → Type 0
   Ran cs post p regs w r = Runs code k out n cs post p regs w r
-
-  -- a part that gives as much as is wanted
-  given : (q r : Gives) (o : After) (cs : List Instr) (p h : ℕ) (s : Scope) (base : Base) (regs : Registers) (w : State) (x : Result (Option Value)) → Ran cs (Then o (In r h s base)) p regs w x → Ran (only_if (agree q r) h cs) (Then o (In q h s base)) p regs w x
-  given q r o cs p h s base regs w x run =
-      only_if_runs code k out n (agree q r) h p cs (Then o (In q h s base)) regs w x
-      (λ e. subst (λ z. Ran cs (Then o (In z h s base)) p regs w x) (sym (agree_same q r e)) run)
-
-  as_it_is : {A : Type 0} (p : ℕ) (post : Post A) (c : _) (r : Result A) → Reaches code k out n p post c (then_do r (λ v l w. goes v l w)) → Reaches code k out n p post c r
-  as_it_is p post c (goes v l w) x = x
-  as_it_is p post c (returned v w) x = x
-  as_it_is p post c (ended e w) x = x
 
   pub then_weaker : {A : Type 0} (o : After) (p : ℕ) (post post' : Gone → Post A) (c : _) (r : Result A) → ((g : Gone) (v : A) (l : Locals) (regs : Registers) → post g v l regs → post' g v l regs) → Reaches code k out n p (Then o post) c r → Reaches code k out n p (Then o post') c r
   then_weaker (never g) p post post' c r f x = x
@@ -198,75 +141,10 @@ module _ (code : Code) (functions : List Function) (p0 : Parts) (is_code : IsCod
       by (inl e) = sets code k out n copy p h s g base l regs regs w (i.Text h j) (Text text) fa tt ag few has.0 (ap (λ o. with_choice o w (λ t. onward (active k p regs) (put regs h (Some (Text t))) k.below w)) e)
       by (inr e) = wrongs code k out n p (p + 1) (In copy h s base g) regs w (i.Text h j) (goes (Some (Text text)) l w) w None has.0 (ap (λ o. with_choice o w (λ t. onward (active k p regs) (put regs h (Some (Text t))) k.below w)) e)
 
-  -- ---- calls
-
-  -- of copied values
-  copies_run : (f : BuiltIn) (qs : List Gives) (q : Gives) (vs : List Value) (p h : ℕ) (s : Scope) (g : Gone) (base : Base) (l : Locals) (regs : Registers) (w : State) (at : Spot) → Falls h s → All qs h s base g vs l regs → w.left ≤ n → Ran (copies_code f qs q at h) (In q h s base g) p regs w (built_in_run again at f vs (calls_in k) l w)
-  copies_run f qs q vs p h s g base l regs w at fa ag few has =
-      only_if_runs code k out n (are_copied qs && not (is_owner q)) h p _ (In q h s base g) regs w (built_in_run again at f vs (calls_in k) l w)
-      (λ both.
-      subst (λ m. Ran (plain.built_in_code f m (is_copied q) at h) (In q h s base g) p regs w (built_in_run again at f vs (calls_in k) l w)) many
-      (subst (λ z. Ran (plain.built_in_code f (length vs) (is_copied q) at h) (In z h s base g) p regs w (built_in_run again at f vs (calls_in k) l w)) (given_same q (and_second (are_copied qs) (not (is_owner q)) both))
-      (plain_built_ins code k out n again p h s g base l regs w at fa
-      (agrees_down s g l base (with_all h vs base) h (h + length vs) regs regs fa (omega arith) (λ r lt. with_all_below h vs base r lt) (λ r lt. refl) here) few f vs (is_copied q)
-      (all_stand s g l vs h h (h + length vs) base regs fa (omega arith) (omega arith) here)))) has
-    where
-      many : length vs ≡ length qs
-      many = as_many qs vs ag.0
-
-      here : Agrees (h + length vs) s g l (with_all h vs base) regs
-      here = subst (λ z. Agrees (h + z) s g l (with_all h vs base) regs) (sym many) ag.1
-
-  built_ins : (f : BuiltIn) (qs : List Gives) (q : Gives) (vs : List Value) (p h : ℕ) (s : Scope) (g : Gone) (base : Base) (l : Locals) (regs : Registers) (w : State) (at : Spot) → Falls h s → All qs h s base g vs l regs → w.left ≤ n → Ran (built_in_code f qs q at h) (In q h s base g) p regs w (built_in_run again at f vs (calls_in k) l w)
-  built_ins b.Print qs q vs p h s g base l regs w at fa ag few has = copies_run b.Print qs q vs p h s g base l regs w at fa ag few has
-  built_ins b.Println qs q vs p h s g base l regs w at fa ag few has = copies_run b.Println qs q vs p h s g base l regs w at fa ag few has
-  built_ins b.Len qs q vs p h s g base l regs w at fa ag few has = copies_run b.Len qs q vs p h s g base l regs w at fa ag few has
-  built_ins b.Push qs q vs p h s g base l regs w at fa ag few has = copies_run b.Push qs q vs p h s g base l regs w at fa ag few has
-  built_ins b.Pop qs q vs p h s g base l regs w at fa ag few has = copies_run b.Pop qs q vs p h s g base l regs w at fa ag few has
-  built_ins b.Text qs q vs p h s g base l regs w at fa ag few has = copies_run b.Text qs q vs p h s g base l regs w at fa ag few has
-  built_ins b.Slice qs q vs p h s g base l regs w at fa ag few has = copies_run b.Slice qs q vs p h s g base l regs w at fa ag few has
-  built_ins b.Byte qs q vs p h s g base l regs w at fa ag few has = copies_run b.Byte qs q vs p h s g base l regs w at fa ag few has
-  built_ins b.IsNumber qs q vs p h s g base l regs w at fa ag few has = copies_run b.IsNumber qs q vs p h s g base l regs w at fa ag few has
-  built_ins b.Number qs q vs p h s g base l regs w at fa ag few has = copies_run b.Number qs q vs p h s g base l regs w at fa ag few has
-  built_ins b.Drop [] q vs p h s g base l regs w at fa ag few has = is_stuck code k out n p (p + 1) h (In q h s base g) regs w (built_in_run again at b.Drop vs (calls_in k) l w) has
-  built_ins b.Drop (void ∷ r ∷ qs) q vs p h s g base l regs w at fa ag few has = is_stuck code k out n p (p + 1) h (In q h s base g) regs w (built_in_run again at b.Drop vs (calls_in k) l w) has
-  built_ins b.Drop (void ∷ []) q vs p h s g base l regs w at fa ag few has = is_stuck code k out n p (p + 1) h (In q h s base g) regs w (built_in_run again at b.Drop vs (calls_in k) l w) has
-  built_ins b.Drop (copy ∷ r ∷ qs) q vs p h s g base l regs w at fa ag few has = is_stuck code k out n p (p + 1) h (In q h s base g) regs w (built_in_run again at b.Drop vs (calls_in k) l w) has
-  built_ins b.Drop (copy ∷ []) q vs p h s g base l regs w at fa ag few has = is_stuck code k out n p (p + 1) h (In q h s base g) regs w (built_in_run again at b.Drop vs (calls_in k) l w) has
-  built_ins b.Drop (owner ∷ r ∷ qs) q vs p h s g base l regs w at fa ag few has = is_stuck code k out n p (p + 1) h (In q h s base g) regs w (built_in_run again at b.Drop vs (calls_in k) l w) has
-  built_ins b.Drop (owner ∷ []) copy vs p h s g base l regs w at fa ag few has = is_stuck code k out n p (p + 1) h (In copy h s base g) regs w (built_in_run again at b.Drop vs (calls_in k) l w) has
-  built_ins b.Drop (owner ∷ []) owner vs p h s g base l regs w at fa ag few has = is_stuck code k out n p (p + 1) h (In owner h s base g) regs w (built_in_run again at b.Drop vs (calls_in k) l w) has
-  built_ins b.Drop (owner ∷ []) void [] p h s g base l regs w at fa ag few has = absurd ag.0
-  built_ins b.Drop (owner ∷ []) void (v ∷ u ∷ vs) p h s g base l regs w at fa ag few has = absurd ag.0.1
-  built_ins b.Drop (owner ∷ []) void (v ∷ []) p h s g base l regs w at fa ag few has =
-      weaker code k out n (p + 1) (Without h l regs) (In void h s base g) (conf k p regs w) (drop again at (Some v) (calls_in k) l w)
-      (dropped s g base (with_at h (Some v) base) h (h + 1) l regs fa (omega arith) (one_above base h (Some v)) ag.1)
-      (destroys code functions p0 kinds k out n again follows p h at v l regs w (top_read s g l base h (h + 1) (Some v) regs fa (omega arith) ag.1) few has)
-
-  callee_runs : (q : Gives) (m : NameAt) (f : Callee) (vs : List Value) (qs : List Gives) (p h : ℕ) (s : Scope) (g : Gone) (base : Base) (l : Locals) (regs : Registers) (w : State) → Falls h s → All qs h s base g vs l regs → w.left ≤ n → Ran (callee_code a q m f qs h) (In q h s base g) p regs w (callee_run again m f vs (calls_in k) l w)
-  callee_runs q m (built_in f) vs qs p h s g base l regs w fa ag few has = built_ins f qs q vs p h s g base l regs w m.at fa ag few has
-  callee_runs q m (function is_pure) vs qs p h s g base l regs w fa ag few has =
-      call_runs code functions p0 k out n again follows is_code p h s g base l regs w fa few m q qs vs ag has
-  callee_runs q m constructor vs qs p h s g base l regs w fa ag few has =
-      given q owner (comes g) (i.Make h (kind_of p0 (y.kind m.name.0)) (registers_from h (length qs)) ∷ []) p h s base regs w (callee_run again m constructor vs (calls_in k) l w) made has
-    where
-      many : length vs ≡ length qs
-      many = as_many qs vs ag.0
-
-      here : Agrees (h + length vs) s g l (with_all h vs base) regs
-      here = subst (λ z. Agrees (h + z) s g l (with_all h vs base) regs) (sym many) ag.1
-
-      made : Ran (i.Make h (kind_of p0 (y.kind m.name.0)) (registers_from h (length qs)) ∷ []) (In owner h s base g) p regs w (callee_run again m constructor vs (calls_in k) l w)
-      made =
-          subst (λ z. Ran (i.Make h (kind_of p0 (y.kind m.name.0)) (registers_from h z) ∷ []) (In owner h s base g) p regs w (callee_run again m constructor vs (calls_in k) l w)) many
-          (subst (λ z. Ran (i.Make h (kind_of p0 (y.kind m.name.0)) (registers_from h (length vs)) ∷ []) (In owner h s base g) p regs w ((tick >>= (λ u. step m.at (make (kind_of z (y.kind m.name.0)) vs))) (calls_in k) l w)) (sym follows.same)
-          (make_runs code k out n (kind_of p0 (y.kind m.name.0)) m.at vs p h s g base l regs w fa (all_stand s g l vs h h (h + length vs) base regs fa (omega arith) (omega arith) here)
-          (agrees_down s g l base (with_all h vs base) h (h + length vs) regs regs fa (omega arith) (λ r lt. with_all_below h vs base r lt) (λ r lt. refl) here) few))
-
   -- ---- the set of a local
 
-  places_runs : (pl : Expr) (q : Gives) (v : Value) (p h : ℕ) (s : Scope) (g : Gone) (base : Base) (l : Locals) (regs : Registers) (w : State) → Falls h s → Val q h s base g v l regs → w.left ≤ n → Ran (set_code pl q h s g) (In q h s base g) p regs w (while_waits (is_owner q) v (set_run again v pl) (calls_in k) l w)
-  places_runs (expr x (name m is_outer moved)) q v p h s g base l regs w fa ag few has =
+  local_set : (x : Seen) (m : NameAt) (is_outer moved : Bool) (q : Gives) (v : Value) (p h : ℕ) (s : Scope) (g : Gone) (base : Base) (l : Locals) (regs : Registers) (w : State) → Falls h s → Val q h s base g v l regs → w.left ≤ n → Ran (exchange (find m.name.0 s) g q h) (In q h s base g) p regs w (while_waits (is_owner q) v (set_run again v (expr x (name m is_outer moved))) (calls_in k) l w)
+  local_set x m is_outer moved q v p h s g base l regs w fa ag few has =
       let o = find m.name.0 s in
       of_held (held_by m.name.0 l)
       (set_runs code k out n p h s g base l (with_held m.name.0 (Some v) l) regs w v fa ag.1 few q o (held_by m.name.0 l) ag.0 (meets m.name.0 h s g l (with_at h (Some v) base) fa ag.1.ties)
@@ -275,60 +153,62 @@ module _ (code : Code) (functions : List Function) (p0 : Parts) (is_code : IsCod
       changed : Held → Result (Option Value)
       changed u = then_do (then_do (then_do (the_value u (calls_in k) (record { name = None; value = Some v; owned = is_owner q } ∷ l) w) (λ u l w. goes u (with_held m.name.0 (Some v) l) w)) (λ u. give (Some u) (calls_in k))) (λ r l w. goes r (outer l) w)
 
-      of_held : (u : Held) → Reaches code k out n (p + length (set_code (expr x (name m is_outer moved)) q h s g)) (In q h s base g) (conf k p regs w) (set_changed code k out n p h s g base l (with_held m.name.0 (Some v) l) regs w v fa ag.1 few u) → Reaches code k out n (p + length (set_code (expr x (name m is_outer moved)) q h s g)) (In q h s base g) (conf k p regs w) (changed u)
+      of_held : (u : Held) → Reaches code k out n (p + length (exchange (find m.name.0 s) g q h)) (In q h s base g) (conf k p regs w) (set_changed code k out n p h s g base l (with_held m.name.0 (Some v) l) regs w v fa ag.1 few u) → Reaches code k out n (p + length (exchange (find m.name.0 s) g q h)) (In q h s base g) (conf k p regs w) (changed u)
       of_held None x = x
       of_held (Some old) x = x
-  places_runs (expr x (set at pl1 e1)) q v p h s g base l regs w fa ag few has = is_stuck code k out n p (p + 1) h (In q h s base g) regs w (while_waits (is_owner q) v (set_run again v (expr x (set at pl1 e1))) (calls_in k) l w) has
-  places_runs (expr x (chain e1 ls)) q v p h s g base l regs w fa ag few has = is_stuck code k out n p (p + 1) h (In q h s base g) regs w (while_waits (is_owner q) v (set_run again v (expr x (chain e1 ls))) (calls_in k) l w) has
-  places_runs (expr x (unary at op e1)) q v p h s g base l regs w fa ag few has = is_stuck code k out n p (p + 1) h (In q h s base g) regs w (while_waits (is_owner q) v (set_run again v (expr x (unary at op e1))) (calls_in k) l w) has
-  places_runs (expr x (steps e1 ss)) q v p h s g base l regs w fa ag few has = is_stuck code k out n p (p + 1) h (In q h s base g) regs w (while_waits (is_owner q) v (set_run again v (expr x (steps e1 ss))) (calls_in k) l w) has
-  places_runs (expr x (number at z)) q v p h s g base l regs w fa ag few has = is_stuck code k out n p (p + 1) h (In q h s base g) regs w (while_waits (is_owner q) v (set_run again v (expr x (number at z))) (calls_in k) l w) has
-  places_runs (expr x (quote at text)) q v p h s g base l regs w fa ag few has = is_stuck code k out n p (p + 1) h (In q h s base g) regs w (while_waits (is_owner q) v (set_run again v (expr x (quote at text))) (calls_in k) l w) has
-  places_runs (expr x (truth at b1)) q v p h s g base l regs w fa ag few has = is_stuck code k out n p (p + 1) h (In q h s base g) regs w (while_waits (is_owner q) v (set_run again v (expr x (truth at b1))) (calls_in k) l w) has
-  places_runs (expr x (call m f es)) q v p h s g base l regs w fa ag few has = is_stuck code k out n p (p + 1) h (In q h s base g) regs w (while_waits (is_owner q) v (set_run again v (expr x (call m f es))) (calls_in k) l w) has
-  places_runs (expr x (paren at e1)) q v p h s g base l regs w fa ag few has = is_stuck code k out n p (p + 1) h (In q h s base g) regs w (while_waits (is_owner q) v (set_run again v (expr x (paren at e1))) (calls_in k) l w) has
-  places_runs (expr x (array at t es)) q v p h s g base l regs w fa ag few has = is_stuck code k out n p (p + 1) h (In q h s base g) regs w (while_waits (is_owner q) v (set_run again v (expr x (array at t es))) (calls_in k) l w) has
-  places_runs (expr x (iso at b1)) q v p h s g base l regs w fa ag few has = is_stuck code k out n p (p + 1) h (In q h s base g) regs w (while_waits (is_owner q) v (set_run again v (expr x (iso at b1))) (calls_in k) l w) has
-  places_runs (expr x (form f)) q v p h s g base l regs w fa ag few has = is_stuck code k out n p (p + 1) h (In q h s base g) regs w (while_waits (is_owner q) v (set_run again v (expr x (form f))) (calls_in k) l w) has
 
-  -- ---- a field of a local
+  -- ---- where steps start
 
-  field_runs : (m0 : NameAt) (is_outer : Bool) (o : Option ℕ) (at : Spot) (p h : ℕ) (s : Scope) (g : Gone) (base : Base) (l : Locals) (regs : Registers) (w : State) → Falls h s → Agrees h s g l base regs → w.left ≤ n → Ran (load_field (find m0.name.0 s) g o at h) (In copy h s base g) p regs w (then_do (valued (node_run again y.void (name m0 is_outer false)) (calls_in k) l w) (λ v. on_place o (λ f. step at (load f v)) (calls_in k)))
-  field_runs m0 is_outer None at p h s g base l regs w fa ag few has = no_field (find m0.name.0 s) has
-    where
-      result : Result (Option Value)
-      result = then_do (valued (node_run again y.void (name m0 is_outer false)) (calls_in k) l w) (λ v. on_place None (λ f. step at (load f v)) (calls_in k))
+  starts : {A : Type 0} (y : Seen) (node : Node) (view : View) (changes : ℕ → Bool) (p h : ℕ) (s : Scope) (g : Gone) (base : Base) (l : Locals) (regs : Registers) (w : State) (rest : Origin → ℕ → ℕ → Gone → List Instr) (after : ℕ → Gone → After) (post : Gone → Post A) (go : Value → Run A) → Falls h s → Agrees h s g l base regs → w.left ≤ n → RestRuns code k out n rest after post go changes h s base → Ran (node_code a y.value copy node p h s g) (Then (node_after node h s g) (In copy h s base)) p regs w (node_run again y.value node (calls_in k) l w) → Ran (start_code a (expr y node) view changes p h s g rest) (Then (start_after (expr y node) view changes h s g after) post) p regs w (then_do (valued (expr_run again (expr y node)) (calls_in k) l w) (λ v. go v (calls_in k)))
+  starts y (name m io false) view changes p h s g base l regs w rest after post go fa ag few runs value = start_local code k out n m.name.0 view changes p h s g base l regs w rest after post go fa ag few runs
+  starts y (set at p1 e1) view changes p h s g base l regs w rest after post go fa ag few runs value = start_value code k out n (agree copy (gives_of y.value)) (node_code a y.value copy (set at p1 e1) p h s g) (node_after (set at p1 e1) h s g) (node_run again y.value (set at p1 e1) (calls_in k) l w) changes p h s base regs w rest after post go fa runs value
+  starts y (chain e1 ls1) view changes p h s g base l regs w rest after post go fa ag few runs value = start_value code k out n (agree copy (gives_of y.value)) (node_code a y.value copy (chain e1 ls1) p h s g) (node_after (chain e1 ls1) h s g) (node_run again y.value (chain e1 ls1) (calls_in k) l w) changes p h s base regs w rest after post go fa runs value
+  starts y (unary at op e1) view changes p h s g base l regs w rest after post go fa ag few runs value = start_value code k out n (agree copy (gives_of y.value)) (node_code a y.value copy (unary at op e1) p h s g) (node_after (unary at op e1) h s g) (node_run again y.value (unary at op e1) (calls_in k) l w) changes p h s base regs w rest after post go fa runs value
+  starts y (steps e1 ss1) view changes p h s g base l regs w rest after post go fa ag few runs value = start_value code k out n (agree copy (gives_of y.value)) (node_code a y.value copy (steps e1 ss1) p h s g) (node_after (steps e1 ss1) h s g) (node_run again y.value (steps e1 ss1) (calls_in k) l w) changes p h s base regs w rest after post go fa runs value
+  starts y (number at z) view changes p h s g base l regs w rest after post go fa ag few runs value = start_value code k out n (agree copy (gives_of y.value)) (node_code a y.value copy (number at z) p h s g) (node_after (number at z) h s g) (node_run again y.value (number at z) (calls_in k) l w) changes p h s base regs w rest after post go fa runs value
+  starts y (quote at text) view changes p h s g base l regs w rest after post go fa ag few runs value = start_value code k out n (agree copy (gives_of y.value)) (node_code a y.value copy (quote at text) p h s g) (node_after (quote at text) h s g) (node_run again y.value (quote at text) (calls_in k) l w) changes p h s base regs w rest after post go fa runs value
+  starts y (truth at b1) view changes p h s g base l regs w rest after post go fa ag few runs value = start_value code k out n (agree copy (gives_of y.value)) (node_code a y.value copy (truth at b1) p h s g) (node_after (truth at b1) h s g) (node_run again y.value (truth at b1) (calls_in k) l w) changes p h s base regs w rest after post go fa runs value
+  starts y (name m io true) view changes p h s g base l regs w rest after post go fa ag few runs value = start_value code k out n (agree copy (gives_of y.value)) (node_code a y.value copy (name m io true) p h s g) (node_after (name m io true) h s g) (node_run again y.value (name m io true) (calls_in k) l w) changes p h s base regs w rest after post go fa runs value
+  starts y (call m f es1) view changes p h s g base l regs w rest after post go fa ag few runs value = start_value code k out n (agree copy (gives_of y.value)) (node_code a y.value copy (call m f es1) p h s g) (node_after (call m f es1) h s g) (node_run again y.value (call m f es1) (calls_in k) l w) changes p h s base regs w rest after post go fa runs value
+  starts y (paren at e1) view changes p h s g base l regs w rest after post go fa ag few runs value = start_value code k out n (agree copy (gives_of y.value)) (node_code a y.value copy (paren at e1) p h s g) (node_after (paren at e1) h s g) (node_run again y.value (paren at e1) (calls_in k) l w) changes p h s base regs w rest after post go fa runs value
+  starts y (array at t es1) view changes p h s g base l regs w rest after post go fa ag few runs value = start_value code k out n (agree copy (gives_of y.value)) (node_code a y.value copy (array at t es1) p h s g) (node_after (array at t es1) h s g) (node_run again y.value (array at t es1) (calls_in k) l w) changes p h s base regs w rest after post go fa runs value
+  starts y (iso at b1) view changes p h s g base l regs w rest after post go fa ag few runs value = start_value code k out n (agree copy (gives_of y.value)) (node_code a y.value copy (iso at b1) p h s g) (node_after (iso at b1) h s g) (node_run again y.value (iso at b1) (calls_in k) l w) changes p h s base regs w rest after post go fa runs value
+  starts y (form f1) view changes p h s g base l regs w rest after post go fa ag few runs value = start_value code k out n (agree copy (gives_of y.value)) (node_code a y.value copy (form f1) p h s g) (node_after (form f1) h s g) (node_run again y.value (form f1) (calls_in k) l w) changes p h s base regs w rest after post go fa runs value
 
-      no_field : (x : Option Entry) → Ran (load_field x g None at h) (In copy h s base g) p regs w result
-      no_field None has = is_stuck code k out n p (p + 1) h (In copy h s base g) regs w result has
-      no_field (Some x) has = is_stuck code k out n p (p + 1) h (In copy h s base g) regs w result has
-  field_runs m0 is_outer (Some f) at p h s g base l regs w fa ag few has =
-      load_runs code k out n p h s g base l regs w fa ag few f at (find m0.name.0 s) (held_by m0.name.0 l) (meets m0.name.0 h s g l base fa ag.ties) has
+  -- ---- references
 
-  steps_runs : (e : Expr) (ss : Steps) (x : Ty) (q : Gives) (p h : ℕ) (s : Scope) (g : Gone) (base : Base) (l : Locals) (regs : Registers) (w : State) → Falls h s → Agrees h s g l base regs → w.left ≤ n → Ran (node_code a q (steps e ss) p h s g) (Then (comes g) (In q h s base)) p regs w (node_run again x (steps e ss) (calls_in k) l w)
-  steps_runs (expr y (name m0 is_outer false)) (more_steps (field y1 view mbs at m) no_steps) x q p h s g base l regs w fa ag few has =
-      given q copy (comes g) (load_field (find m0.name.0 s) g (field_place p0 view m.0) at h) p h s base regs w (node_run again x (steps (expr y (name m0 is_outer false)) (more_steps (field y1 view mbs at m) no_steps)) (calls_in k) l w)
-      (subst (λ z. Ran (load_field (find m0.name.0 s) g (field_place p0 view m.0) at h) (In copy h s base g) p regs w (then_do (valued (node_run again y.value (name m0 is_outer false)) (calls_in k) l w) (λ v. on_place (field_place z view m.0) (λ f. step at (load f v)) (calls_in k)))) (sym follows.same)
-      (field_runs m0 is_outer (field_place p0 view m.0) at p h s g base l regs w fa ag few)) has
-  steps_runs (expr y (set at pl1 e1)) ss x q p h s g base l regs w fa ag few has = is_stuck code k out n p (p + 1) h (Then (comes g) (In q h s base)) regs w (node_run again x (steps (expr y (set at pl1 e1)) ss) (calls_in k) l w) has
-  steps_runs (expr y (chain e1 ls1)) ss x q p h s g base l regs w fa ag few has = is_stuck code k out n p (p + 1) h (Then (comes g) (In q h s base)) regs w (node_run again x (steps (expr y (chain e1 ls1)) ss) (calls_in k) l w) has
-  steps_runs (expr y (unary at op e1)) ss x q p h s g base l regs w fa ag few has = is_stuck code k out n p (p + 1) h (Then (comes g) (In q h s base)) regs w (node_run again x (steps (expr y (unary at op e1)) ss) (calls_in k) l w) has
-  steps_runs (expr y (steps e1 ss1)) ss x q p h s g base l regs w fa ag few has = is_stuck code k out n p (p + 1) h (Then (comes g) (In q h s base)) regs w (node_run again x (steps (expr y (steps e1 ss1)) ss) (calls_in k) l w) has
-  steps_runs (expr y (number at z)) ss x q p h s g base l regs w fa ag few has = is_stuck code k out n p (p + 1) h (Then (comes g) (In q h s base)) regs w (node_run again x (steps (expr y (number at z)) ss) (calls_in k) l w) has
-  steps_runs (expr y (quote at text)) ss x q p h s g base l regs w fa ag few has = is_stuck code k out n p (p + 1) h (Then (comes g) (In q h s base)) regs w (node_run again x (steps (expr y (quote at text)) ss) (calls_in k) l w) has
-  steps_runs (expr y (truth at b)) ss x q p h s g base l regs w fa ag few has = is_stuck code k out n p (p + 1) h (Then (comes g) (In q h s base)) regs w (node_run again x (steps (expr y (truth at b)) ss) (calls_in k) l w) has
-  steps_runs (expr y (name m is_outer true)) ss x q p h s g base l regs w fa ag few has = is_stuck code k out n p (p + 1) h (Then (comes g) (In q h s base)) regs w (node_run again x (steps (expr y (name m is_outer true)) ss) (calls_in k) l w) has
-  steps_runs (expr y (call m f e1s)) ss x q p h s g base l regs w fa ag few has = is_stuck code k out n p (p + 1) h (Then (comes g) (In q h s base)) regs w (node_run again x (steps (expr y (call m f e1s)) ss) (calls_in k) l w) has
-  steps_runs (expr y (paren at e1)) ss x q p h s g base l regs w fa ag few has = is_stuck code k out n p (p + 1) h (Then (comes g) (In q h s base)) regs w (node_run again x (steps (expr y (paren at e1)) ss) (calls_in k) l w) has
-  steps_runs (expr y (array at t e1s)) ss x q p h s g base l regs w fa ag few has = is_stuck code k out n p (p + 1) h (Then (comes g) (In q h s base)) regs w (node_run again x (steps (expr y (array at t e1s)) ss) (calls_in k) l w) has
-  steps_runs (expr y (iso at b)) ss x q p h s g base l regs w fa ag few has = is_stuck code k out n p (p + 1) h (Then (comes g) (In q h s base)) regs w (node_run again x (steps (expr y (iso at b)) ss) (calls_in k) l w) has
-  steps_runs (expr y (form f)) ss x q p h s g base l regs w fa ag few has = is_stuck code k out n p (p + 1) h (Then (comes g) (In q h s base)) regs w (node_run again x (steps (expr y (form f)) ss) (calls_in k) l w) has
-  steps_runs (expr y (name m0 is_outer false)) no_steps x q p h s g base l regs w fa ag few has = is_stuck code k out n p (p + 1) h (Then (comes g) (In q h s base)) regs w (node_run again x (steps (expr y (name m0 is_outer false)) no_steps) (calls_in k) l w) has
-  steps_runs (expr y (name m0 is_outer false)) (more_steps (field y1 view mbs at m) (more_steps st1 sts)) x q p h s g base l regs w fa ag few has = is_stuck code k out n p (p + 1) h (Then (comes g) (In q h s base)) regs w (node_run again x (steps (expr y (name m0 is_outer false)) (more_steps (field y1 view mbs at m) (more_steps st1 sts))) (calls_in k) l w) has
-  steps_runs (expr y (name m0 is_outer false)) (more_steps (method y1 view at m es) no_steps) x q p h s g base l regs w fa ag few has = is_stuck code k out n p (p + 1) h (Then (comes g) (In q h s base)) regs w (node_run again x (steps (expr y (name m0 is_outer false)) (more_steps (method y1 view at m es) no_steps)) (calls_in k) l w) has
-  steps_runs (expr y (name m0 is_outer false)) (more_steps (method y1 view at m es) (more_steps st1 sts)) x q p h s g base l regs w fa ag few has = is_stuck code k out n p (p + 1) h (Then (comes g) (In q h s base)) regs w (node_run again x (steps (expr y (name m0 is_outer false)) (more_steps (method y1 view at m es) (more_steps st1 sts))) (calls_in k) l w) has
-  steps_runs (expr y (name m0 is_outer false)) (more_steps (index y1 view at e) no_steps) x q p h s g base l regs w fa ag few has = is_stuck code k out n p (p + 1) h (Then (comes g) (In q h s base)) regs w (node_run again x (steps (expr y (name m0 is_outer false)) (more_steps (index y1 view at e) no_steps)) (calls_in k) l w) has
-  steps_runs (expr y (name m0 is_outer false)) (more_steps (index y1 view at e) (more_steps st1 sts)) x q p h s g base l regs w fa ag few has = is_stuck code k out n p (p + 1) h (Then (comes g) (In q h s base)) regs w (node_run again x (steps (expr y (name m0 is_outer false)) (more_steps (index y1 view at e) (more_steps st1 sts))) (calls_in k) l w) has
+  revalued : (o : After) (p h : ℕ) (s : Scope) (base : Base) (c : _) (r : Result (Option Value)) → Reaches code k out n p (Then o (In copy h s base)) c r → Reaches code k out n p (Then o (In copy h s base)) c (then_do (then_do r (λ v. the_value v (calls_in k))) (λ v l w. goes (Some v) l w))
+  revalued o p h s base c r x =
+      then_more code k out n o p (Val copy h s base) (In copy h s base) c (then_do r (λ v. the_value v (calls_in k))) (λ v l w. goes (Some v) l w)
+      (values code k out n o copy p h s base c r x (λ z. z)) (λ g v l w regs ag few. stays code k out n p (In copy h s base g) (Some v) l regs w ag few)
+
+  borrows : (y : Seen) (node : Node) (p h : ℕ) (s : Scope) (g : Gone) (base : Base) (l : Locals) (regs : Registers) (w : State) → Falls h s → Agrees h s g l base regs → w.left ≤ n → Ran (node_code a y.value copy node p h s g) (Then (node_after node h s g) (In copy h s base)) p regs w (node_run again y.value node (calls_in k) l w) → Ran (borrow_code a (expr y node) p h s g) (Then (node_after node h s g) (In copy h s base)) p regs w (then_do (valued (expr_run again (expr y node)) (calls_in k) l w) (λ v l w. goes (Some v) l w))
+  borrows y (name m io false) p h s g base l regs w fa ag few value has =
+      revalued (comes g) (p + length (lend_local (find m.name.0 s) g y.view h)) h s base (conf k p regs w) (node_run again y.value (name m io false) (calls_in k) l w)
+      (lends code k out n p h s g base l regs w fa ag few y.view (find m.name.0 s) (held_by m.name.0 l) (meets m.name.0 h s g l base fa ag.ties) has)
+  borrows y (set at p1 e1) p h s g base l regs w fa ag few value has = revalued (node_after (set at p1 e1) h s g) (p + length (node_code a y.value copy (set at p1 e1) p h s g)) h s base (conf k p regs w) (node_run again y.value (set at p1 e1) (calls_in k) l w) (value has)
+  borrows y (chain e1 ls1) p h s g base l regs w fa ag few value has = revalued (node_after (chain e1 ls1) h s g) (p + length (node_code a y.value copy (chain e1 ls1) p h s g)) h s base (conf k p regs w) (node_run again y.value (chain e1 ls1) (calls_in k) l w) (value has)
+  borrows y (unary at op e1) p h s g base l regs w fa ag few value has = revalued (node_after (unary at op e1) h s g) (p + length (node_code a y.value copy (unary at op e1) p h s g)) h s base (conf k p regs w) (node_run again y.value (unary at op e1) (calls_in k) l w) (value has)
+  borrows y (steps e1 ss1) p h s g base l regs w fa ag few value has = revalued (node_after (steps e1 ss1) h s g) (p + length (node_code a y.value copy (steps e1 ss1) p h s g)) h s base (conf k p regs w) (node_run again y.value (steps e1 ss1) (calls_in k) l w) (value has)
+  borrows y (number at z) p h s g base l regs w fa ag few value has = revalued (node_after (number at z) h s g) (p + length (node_code a y.value copy (number at z) p h s g)) h s base (conf k p regs w) (node_run again y.value (number at z) (calls_in k) l w) (value has)
+  borrows y (quote at text) p h s g base l regs w fa ag few value has = revalued (node_after (quote at text) h s g) (p + length (node_code a y.value copy (quote at text) p h s g)) h s base (conf k p regs w) (node_run again y.value (quote at text) (calls_in k) l w) (value has)
+  borrows y (truth at b1) p h s g base l regs w fa ag few value has = revalued (node_after (truth at b1) h s g) (p + length (node_code a y.value copy (truth at b1) p h s g)) h s base (conf k p regs w) (node_run again y.value (truth at b1) (calls_in k) l w) (value has)
+  borrows y (name m io true) p h s g base l regs w fa ag few value has = revalued (node_after (name m io true) h s g) (p + length (node_code a y.value copy (name m io true) p h s g)) h s base (conf k p regs w) (node_run again y.value (name m io true) (calls_in k) l w) (value has)
+  borrows y (call m f es1) p h s g base l regs w fa ag few value has = revalued (node_after (call m f es1) h s g) (p + length (node_code a y.value copy (call m f es1) p h s g)) h s base (conf k p regs w) (node_run again y.value (call m f es1) (calls_in k) l w) (value has)
+  borrows y (paren at e1) p h s g base l regs w fa ag few value has = revalued (node_after (paren at e1) h s g) (p + length (node_code a y.value copy (paren at e1) p h s g)) h s base (conf k p regs w) (node_run again y.value (paren at e1) (calls_in k) l w) (value has)
+  borrows y (array at t es1) p h s g base l regs w fa ag few value has = revalued (node_after (array at t es1) h s g) (p + length (node_code a y.value copy (array at t es1) p h s g)) h s base (conf k p regs w) (node_run again y.value (array at t es1) (calls_in k) l w) (value has)
+  borrows y (iso at b1) p h s g base l regs w fa ag few value has = revalued (node_after (iso at b1) h s g) (p + length (node_code a y.value copy (iso at b1) p h s g)) h s base (conf k p regs w) (node_run again y.value (iso at b1) (calls_in k) l w) (value has)
+  borrows y (form f1) p h s g base l regs w fa ag few value has = revalued (node_after (form f1) h s g) (p + length (node_code a y.value copy (form f1) p h s g)) h s base (conf k p regs w) (node_run again y.value (form f1) (calls_in k) l w) (value has)
+
+  -- ---- what waits while a place is looked up
+
+  waiting_read : (q : Gives) (h m : ℕ) (s : Scope) (g : Gone) (l : Locals) (base : Base) (regs : Registers) (v : Value) → Falls h s → h < m → base h ≡ Some v → Agrees m (waiting h q ∷ s) g l base regs → read regs h ≡ Some v
+  waiting_read q h m s g [] base regs v fa lt here ag = absurd ag.ties
+  waiting_read q h m s g (z ∷ l) base regs v fa lt here ag = ag.each h lt ∙ look_above s l base h h fa (omega arith) ∙ here
+
+  -- the registers below it, once it has been put away
+  put_away : (q : Gives) (h m : ℕ) (s : Scope) (g : Gone) (l : Locals) (base base' : Base) (regs : Registers) → Falls h s → h ≤ m → ((r : ℕ) → r < h → base' r ≡ base r) → Agrees m (waiting h q ∷ s) g l base' regs → Agrees h s g (outer l) base regs
+  put_away q h m s g l base base' regs fa le below ag = agrees_down s g (outer l) base base' h m regs regs fa le below (λ r lt. refl) (agrees_done s g l base' h m q regs ag)
 
   -- a value waits while the others are evaluated
   waits_run : (es : Exprs) (qe : Gives) (v : Value) (p h : ℕ) (s : Scope) (g : Gone) (base : Base) (l : Locals) (regs : Registers) (w : State) → Val qe h s base g v l regs → w.left ≤ n → Ran (args_code a es p (h + 1) (waiting h qe ∷ s) (without h g)) (Then (args_after es (h + 1) (waiting h qe ∷ s) (without h g)) (All (gives_list es) (h + 1) (waiting h qe ∷ s) (with_at h (Some v) base))) p regs w (exprs_run again es (calls_in k) (record { name = None; value = Some v; owned = is_owner qe } ∷ l) w) → Ran (args_code a es p (h + 1) (waiting h qe ∷ s) (without h g)) (Then (args_after es (h + 1) (waiting h qe ∷ s) (without h g)) (All (qe ∷ gives_list es) h s base)) p regs w (then_do (while_waits (is_owner qe) v (exprs_run again es) (calls_in k) l w) (λ vs l w. goes (v ∷ vs) l w))
@@ -395,6 +275,33 @@ module _ (code : Code) (functions : List Function) (p0 : Parts) (is_code : IsCod
       stops_there code k out n now (never now) (expr_code a c p h s g) _ (Val (gives_of (type c)) h s base) (Keeps {A = Option Value} h s base) p _ regs w (valued (expr_run again c) (calls_in k) l w) _
       (subst (λ o. Ran (expr_code a c p h s g) (Then o (Val (gives_of (type c)) h s base)) p regs w (valued (expr_run again c) (calls_in k) l w)) e (tested p)) has
 
+  -- a value that isn't used, after its code
+  unused_runs : (e : Expr) (p h : ℕ) (s : Scope) (g : Gone) (base : Base) (l : Locals) (regs : Registers) (w : State) → Falls h s → Agrees h s g l base regs → w.left ≤ n → Ran (expr_code a e p h s g) (Then (expr_after e h s g) (In (gives_of (type e)) h s base)) p regs w (expr_run again e (calls_in k) l w) → Ran (if_comes p (expr_code a e p h s g) (expr_after e h s g) (λ place g. drop_value (gives_of (type e)) h (expr_spot e))) (Then (expr_after e h s g) (Keeps {A = Option Value} h s base)) p regs w (then_do (expr_run again e (calls_in k) l w) (λ v. drop_owned again (expr_spot e) (is_owned (type e)) v (calls_in k)))
+  unused_runs e p h s g base l regs w fa ag few value has =
+      let qe = gives_of (type e) in
+      let p1 = p + length (expr_code a e p h s g) in
+      ended_by code k out n (expr_after e h s g) (expr_code a e p h s g) (λ place g. drop_value qe h (expr_spot e)) (In qe h s base) (Keeps {A = Option Value} h s base) p regs w (expr_run again e (calls_in k) l w) (λ v. drop_owned again (expr_spot e) (is_owned (type e)) v (calls_in k))
+      value
+      (λ g1 v l w regs ag few. subst (λ owned. Ran (drop_value qe h (expr_spot e)) (Keeps {A = Option Value} h s base g1) p1 regs w (drop_owned again (expr_spot e) owned v (calls_in k) l w)) (owner_is (type e)) (unused qe (expr_spot e) p1 h s base g1 v l regs w fa ag few)) has
+
+  then_comes : (o : After) → then_after o (λ g. comes g) ≡ o
+  then_comes (comes g) = refl
+  then_comes (never g) = refl
+
+  -- the set of a local whose old value isn't used
+  local_store : (x : Seen) (m : NameAt) (is_outer moved : Bool) (q : Gives) (v : Value) (at : Spot) (p h : ℕ) (s : Scope) (g : Gone) (base : Base) (l : Locals) (regs : Registers) (w : State) → Falls h s → Val q h s base g v l regs → w.left ≤ n → Ran (store (find m.name.0 s) g q h at) (Keeps {A = Option Value} h s base g) p regs w (then_do (while_waits (is_owner q) v (set_run again v (expr x (name m is_outer moved))) (calls_in k) l w) (λ u. drop_owned again at (is_owner q) u (calls_in k)))
+  local_store x m is_outer moved q v at p h s g base l regs w fa ag few has =
+      of_held (held_by m.name.0 l)
+      (stores code functions p0 kinds k out n again follows at p h s g base l (with_held m.name.0 (Some v) l) regs w v fa ag.1 few q (find m.name.0 s) (held_by m.name.0 l) ag.0 (meets m.name.0 h s g l (with_at h (Some v) base) fa ag.1.ties)
+      (takes m.name.0 h s g l base (Some v) fa (agrees_down s g l base (with_at h (Some v) base) h (h + 1) regs regs fa (omega arith) (one_above base h (Some v)) (λ r lt. refl) ag.1).ties) has)
+    where
+      changed : Held → Result (Option Value)
+      changed u = then_do (then_do (then_do (then_do (the_value u (calls_in k) (record { name = None; value = Some v; owned = is_owner q } ∷ l) w) (λ u l w. goes u (with_held m.name.0 (Some v) l) w)) (λ u. give (Some u) (calls_in k))) (λ r l w. goes r (outer l) w)) (λ u. drop_owned again at (is_owner q) u (calls_in k))
+
+      of_held : (u : Held) → Reaches code k out n (p + length (store (find m.name.0 s) g q h at)) (Keeps {A = Option Value} h s base g) (conf k p regs w) (replaced code functions p0 kinds k out n again follows at p h s g base l (with_held m.name.0 (Some v) l) regs w v fa ag.1 few q u) → Reaches code k out n (p + length (store (find m.name.0 s) g q h at)) (Keeps {A = Option Value} h s base g) (conf k p regs w) (changed u)
+      of_held None x = x
+      of_held (Some old) x = x
+
   -- ---- by induction on the tree
 
   mutual
@@ -405,35 +312,70 @@ module _ (code : Code) (functions : List Function) (p0 : Parts) (is_code : IsCod
     value_runs (expr x node) some p h s g base l regs w fa ag few has =
         values code k out n (node_after node h s g) (gives_of x.value) _ h s base (conf k p regs w) (node_run again x.value node (calls_in k) l w) (node_runs node x.value (gives_of x.value) p h s g base l regs w fa ag few has) (value_some (gives_of x.value) some)
 
-    node_runs : (node : Node) (x : Ty) (q : Gives) (p h : ℕ) (s : Scope) (g : Gone) (base : Base) (l : Locals) (regs : Registers) (w : State) → Falls h s → Agrees h s g l base regs → w.left ≤ n → Ran (node_code a q node p h s g) (Then (node_after node h s g) (In q h s base)) p regs w (node_run again x node (calls_in k) l w)
+    node_runs : (node : Node) (x : Ty) (q : Gives) (p h : ℕ) (s : Scope) (g : Gone) (base : Base) (l : Locals) (regs : Registers) (w : State) → Falls h s → Agrees h s g l base regs → w.left ≤ n → Ran (node_code a x q node p h s g) (Then (node_after node h s g) (In q h s base)) p regs w (node_run again x node (calls_in k) l w)
     node_runs (number at z) x q p h s g base l regs w fa ag few has =
-        given q copy (comes g) (i.Int h z ∷ []) p h s base regs w (goes (Some (Int z)) l w) (λ has. sets code k out n copy p h s g base l regs regs w (i.Int h z) (Int z) fa tt ag few has.0 refl) has
+        only_if_runs code k out n (agree q copy && is_int z) h p (i.Int h z ∷ []) (In q h s base g) regs w (goes (Some (Int z)) l w)
+        (λ both. subst (λ r. Ran (i.Int h z ∷ []) (In r h s base g) p regs w (goes (Some (Int z)) l w)) (sym (agree_same q copy (and_first (agree q copy) (is_int z) both)))
+        (λ has. sets code k out n copy p h s g base l regs regs w (i.Int h z) (Int z) fa tt ag few has.0 refl)) has
     node_runs (truth at true) x q p h s g base l regs w fa ag few has =
-        given q copy (comes g) (i.Truth h 1 ∷ []) p h s base regs w (goes (Some (Truth true)) l w) (λ has. sets code k out n copy p h s g base l regs regs w (i.Truth h 1) (Truth true) fa tt ag few has.0 refl) has
+        given code k out n q copy (comes g) (i.Truth h 1 ∷ []) p h s base regs w (goes (Some (Truth true)) l w) (λ has. sets code k out n copy p h s g base l regs regs w (i.Truth h 1) (Truth true) fa tt ag few has.0 refl) has
     node_runs (truth at false) x q p h s g base l regs w fa ag few has =
-        given q copy (comes g) (i.Truth h 0 ∷ []) p h s base regs w (goes (Some (Truth false)) l w) (λ has. sets code k out n copy p h s g base l regs regs w (i.Truth h 0) (Truth false) fa tt ag few has.0 refl) has
+        given code k out n q copy (comes g) (i.Truth h 0 ∷ []) p h s base regs w (goes (Some (Truth false)) l w) (λ has. sets code k out n copy p h s g base l regs regs w (i.Truth h 0) (Truth false) fa tt ag few has.0 refl) has
     node_runs (name m is_outer true) x q p h s g base l regs w fa ag few has =
-        given q owner (node_after (name m is_outer true) h s g) (move_out (find m.name.0 s) g h) p h s base regs w (node_run again x (name m is_outer true) (calls_in k) l w)
+        given code k out n q owner (node_after (name m is_outer true) h s g) (move_out (find m.name.0 s) g h) p h s base regs w (node_run again x (name m is_outer true) (calls_in k) l w)
         (move_runs code k out n p h s g base l (with_held m.name.0 None) regs w fa ag few (find m.name.0 s) (held_by m.name.0 l) (meets m.name.0 h s g l base fa ag.ties) (empties m.name.0 h s g l base fa ag.ties)) has
     node_runs (name m is_outer false) x q p h s g base l regs w fa ag few has =
-        given q copy (comes g) (read_local (find m.name.0 s) h) p h s base regs w (node_run again x (name m is_outer false) (calls_in k) l w)
+        given code k out n q copy (comes g) (read_local (find m.name.0 s) h) p h s base regs w (node_run again x (name m is_outer false) (calls_in k) l w)
         (read_runs code k out n p h s g base l regs w fa ag few (find m.name.0 s) (held_by m.name.0 l) (meets m.name.0 h s g l base fa ag.ties)) has
     node_runs (paren at e) x q p h s g base l regs w fa ag few has =
-        given q (gives_of (type e)) (expr_after e h s g) (expr_code a e p h s g) p h s base regs w (expr_run again e (calls_in k) l w) (expr_runs e p h s g base l regs w fa ag few) has
+        given code k out n q (gives_of (type e)) (expr_after e h s g) (expr_code a e p h s g) p h s base regs w (expr_run again e (calls_in k) l w) (expr_runs e p h s g base l regs w fa ag few) has
     node_runs (call m f es) x q p h s g base l regs w fa ag few has =
-        joined_last code k out n (args_after es h s g) (h + length (gives_list es)) (args_code a es p h s g) (λ place g. callee_code a q m f (gives_list es) h) (All (gives_list es) h s base) (In q h s base) p regs w (exprs_run again es (calls_in k) l w) (λ vs. callee_run again m f vs (calls_in k))
+        joined_last code k out n (args_after es h s g) (h + length (gives_list es)) (args_code a es p h s g) (λ place g. callee_code a q m f (first_type es) (gives_list es) h) (All (gives_list es) h s base) (In q h s base) p regs w (exprs_run again es (calls_in k) l w) (λ vs. callee_run again m f vs (calls_in k))
         (args_runs es p h s g base l regs w fa ag few)
-        (λ g vs l w regs ag few. callee_runs q m f vs (gives_list es) _ h s g base l regs w fa ag few) has
+        (λ g vs l w regs ag few. callee_runs code functions p0 is_code k out is n again follows q m f (first_type es) vs (gives_list es) _ h s g base l regs w fa ag few) has
+    node_runs (array at t es) x q p h s g base l regs w fa ag few has =
+        joined_last code k out n (args_after es h s g) (h + length (gives_list es)) (args_code a es p h s g) (λ place g. make_code p0 q x (gives_list es) h) (All (gives_list es) h s base) (In q h s base) p regs w (exprs_run again es (calls_in k) l w) (λ vs. made again at x vs (calls_in k))
+        (args_runs es p h s g base l regs w fa ag few)
+        (λ g vs l w regs ag few. makes code functions p0 is_code k out is n again follows x at q vs (gives_list es) _ h s g base l regs w fa ag few) has
     node_runs (form f) x q p h s g base l regs w fa ag few has = form_runs f x q p h s g base l regs w fa ag few has
-    node_runs (steps e ss) x q p h s g base l regs w fa ag few has = steps_runs e ss x q p h s g base l regs w fa ag few has
+    node_runs (steps e no_steps) x q p h s g base l regs w fa ag few has = is_stuck code k out n p (p + 1) h (Then (comes g) (In q h s base)) regs w (node_run again x (steps e no_steps) (calls_in k) l w) has
+    node_runs (steps (expr y node) (more_steps z no_steps)) x q p h s g base l regs w fa ag few has =
+        let e = expr y node in
+        let start = start_code a e (step_view z) (λ m. step_changes m z) p h s g (λ o place free g. step_code a o z place h free s g) in
+        let started = start_after e (step_view z) (λ m. step_changes m z) h s g (λ free g. step_after z free s g) in
+        let result = then_do (valued (expr_run again e) (calls_in k) l w) (λ v. step_run again v z (calls_in k)) in
+        given code k out n q copy (then_after started (λ g. comes g)) (then_code p (h + 1) start started (λ place g. [])) p h s base regs w result
+        (λ has.
+        as_it_is code k out n _ (Then (then_after started (λ g. comes g)) (In copy h s base)) (conf k p regs w) result
+        (joined code k out n started (λ g. comes g) (h + 1) start (λ place g. []) (In copy h s base) (In copy h s base) p regs w result (λ v l w. goes v l w)
+        (starts y node (step_view z) (λ m. step_changes m z) p h s g base l regs w (λ o place free g. step_code a o z place h free s g) (λ free g. step_after z free s g) (In copy h s base) (λ v. step_run again v z) fa ag few
+        (λ o v p free g base' l regs w le below ag still few. step_runs z o v p h free s g base base' l regs w fa le below ag still few)
+        (node_runs node y.value copy p h s g base l regs w fa ag few))
+        (λ g v l w regs ag few has. stays_at code k out n (p + length start) (In copy h s base g) v l regs w ag few) has)) has
+    node_runs (steps (expr y node) (more_steps z (more_steps z2 zs))) x q p h s g base l regs w fa ag few has =
+        let e = expr y node in
+        let start = start_code a e (step_view z) (λ m. step_changes m z) p h s g (λ o place free g. step_code a o z place h free s g) in
+        let started = start_after e (step_view z) (λ m. step_changes m z) h s g (λ free g. step_after z free s g) in
+        let first = λ (v : Value). valued (step_run again v z) in
+        let rest = λ (v : Value). steps_run again v (more_steps z2 zs) in
+        given code k out n q copy (then_after started (λ g. steps_after (more_steps z2 zs) h s g)) (then_code p (h + 1) start started (λ place g. steps_code a (more_steps z2 zs) place h s g)) p h s base regs w (node_run again x (steps (expr y node) (more_steps z (more_steps z2 zs))) (calls_in k) l w)
+        (subst (λ r. Ran (then_code p (h + 1) start started (λ place g. steps_code a (more_steps z2 zs) place h s g)) (Then (then_after started (λ g. steps_after (more_steps z2 zs) h s g)) (In copy h s base)) p regs w r)
+        (then_assoc code k out n (valued (expr_run again e) (calls_in k) l w) (λ v. first v (calls_in k)) (λ v. rest v (calls_in k)))
+        (joined code k out n started (λ g. steps_after (more_steps z2 zs) h s g) (h + 1) start (λ place g. steps_code a (more_steps z2 zs) place h s g) (Val copy h s base) (In copy h s base) p regs w (then_do (valued (expr_run again e) (calls_in k) l w) (λ v. first v (calls_in k))) (λ v. rest v (calls_in k))
+        (starts y node (step_view z) (λ m. step_changes m z) p h s g base l regs w (λ o place free g. step_code a o z place h free s g) (λ free g. step_after z free s g) (Val copy h s base) first fa ag few
+        (λ o v p free g base' l regs w le below ag still few has. values code k out n (step_after z free s g) copy _ h s base (conf k p regs w) (step_run again v z (calls_in k) l w) (step_runs z o v p h free s g base base' l regs w fa le below ag still few has) (λ u. u))
+        (node_runs node y.value copy p h s g base l regs w fa ag few))
+        (λ g v l w regs ag few. steps_runs (more_steps z2 zs) v _ h s g base l regs w fa ag few))) has
     node_runs (set at pl e) x q p h s g base l regs w fa ag few has =
         let qe = gives_of (type e) in
-        only_if_runs code k out n (is_value qe && agree q qe) h p _ (Then (expr_after e h s g) (In q h s base)) regs w (node_run again x (set at pl e) (calls_in k) l w)
+        let p1 = p + length (expr_code a e p h s g) in
+        only_if_runs code k out n (is_value qe && agree q qe) h p _ (Then (then_after (expr_after e h s g) (λ g. place_after pl qe h s g)) (In q h s base)) regs w (node_run again x (set at pl e) (calls_in k) l w)
         (λ both.
-        subst (λ z. Ran (then_code p (h + 1) (expr_code a e p h s g) (expr_after e h s g) (λ place g. set_code pl qe h s g)) (Then (expr_after e h s g) (In z h s base)) p regs w (node_run again x (set at pl e) (calls_in k) l w)) (sym (agree_same q qe (and_second (is_value qe) (agree q qe) both)))
-        (joined_last code k out n (expr_after e h s g) (h + 1) (expr_code a e p h s g) (λ place g. set_code pl qe h s g) (Val qe h s base) (In qe h s base) p regs w (valued (expr_run again e) (calls_in k) l w) (λ v. while_waits (is_owned (type e)) v (set_run again v pl) (calls_in k))
-        (value_runs e (and_first (is_value qe) (agree q qe) both) p h s g base l regs w fa ag few)
-        (λ g1 v l w regs ag few. subst (λ owned. Ran (set_code pl qe h s g1) (In qe h s base g1) (p + length (expr_code a e p h s g)) regs w (while_waits owned v (set_run again v pl) (calls_in k) l w)) (owner_is (type e)) (places_runs pl qe v (p + length (expr_code a e p h s g)) h s g1 base l regs w fa ag few)))) has
+        let some = and_first (is_value qe) (agree q qe) both in
+        subst (λ z. Ran (then_code p (h + 1) (expr_code a e p h s g) (expr_after e h s g) (λ place g. place_code a pl qe place h s g)) (Then (then_after (expr_after e h s g) (λ g. place_after pl qe h s g)) (In z h s base)) p regs w (node_run again x (set at pl e) (calls_in k) l w)) (sym (agree_same q qe (and_second (is_value qe) (agree q qe) both)))
+        (joined code k out n (expr_after e h s g) (λ g. place_after pl qe h s g) (h + 1) (expr_code a e p h s g) (λ place g. place_code a pl qe place h s g) (Val qe h s base) (In qe h s base) p regs w (valued (expr_run again e) (calls_in k) l w) (λ v. while_waits (is_owned (type e)) v (set_run again v pl) (calls_in k))
+        (value_runs e some p h s g base l regs w fa ag few)
+        (λ g1 v l w regs ag few. subst (λ owned. Ran (place_code a pl qe p1 h s g1) (Then (place_after pl qe h s g1) (In qe h s base)) p1 regs w (while_waits owned v (set_run again v pl) (calls_in k) l w)) (owner_is (type e)) (place_runs pl qe v some p1 h s g1 base l regs w fa ag few)))) has
     node_runs (chain e ls) x q p h s g base l regs w fa ag few has =
         let qe = gives_of (type e) in
         only_if_runs code k out n (is_value qe && agree q copy) h p _ (Then (then_after (expr_after e h s g) (λ g. links_after ls h s g)) (In q h s base)) regs w (node_run again x (chain e ls) (calls_in k) l w)
@@ -442,20 +384,180 @@ module _ (code : Code) (functions : List Function) (p0 : Parts) (is_code : IsCod
         (joined code k out n (expr_after e h s g) (λ g. links_after ls h s g) (h + 1) (expr_code a e p h s g) (λ place g. links_code a ls place h s g) (Val qe h s base) (In copy h s base) p regs w (valued (expr_run again e) (calls_in k) l w) (λ v. links_run again v ls (calls_in k))
         (value_runs e (and_first (is_value qe) (agree q copy) both) p h s g base l regs w fa ag few)
         (λ g v l w regs ag few. links_runs ls v _ h s g base l regs w fa (tt, ag.1) few))) has
-    node_runs (unary at op e) x q p h s g base l regs w fa ag few has =
+    node_runs (unary at unary_op.Minus e) x q p h s g base l regs w fa ag few has =
         let qe = gives_of (type e) in
-        only_if_runs code k out n (is_value qe && agree q copy) h p _ (Then (expr_after e h s g) (In q h s base)) regs w (node_run again x (unary at op e) (calls_in k) l w)
+        only_if_runs code k out n (is_value qe && agree q copy) h p _ (Then (expr_after e h s g) (In q h s base)) regs w (node_run again x (unary at unary_op.Minus e) (calls_in k) l w)
         (λ both.
-        subst (λ z. Ran (then_code p (h + 1) (expr_code a e p h s g) (expr_after e h s g) (λ place g. unary_code op at h)) (Then (expr_after e h s g) (In z h s base)) p regs w (node_run again x (unary at op e) (calls_in k) l w)) (sym (agree_same q copy (and_second (is_value qe) (agree q copy) both)))
-        (joined_last code k out n (expr_after e h s g) (h + 1) (expr_code a e p h s g) (λ place g. unary_code op at h) (Val qe h s base) (In copy h s base) p regs w (valued (expr_run again e) (calls_in k) l w) (λ v. unary_run at op v (calls_in k))
+        subst (λ z. Ran (then_code p (h + 1) (expr_code a e p h s g) (expr_after e h s g) (λ place g. unary_code unary_op.Minus at h)) (Then (expr_after e h s g) (In z h s base)) p regs w (node_run again x (unary at unary_op.Minus e) (calls_in k) l w)) (sym (agree_same q copy (and_second (is_value qe) (agree q copy) both)))
+        (joined_last code k out n (expr_after e h s g) (h + 1) (expr_code a e p h s g) (λ place g. unary_code unary_op.Minus at h) (Val qe h s base) (In copy h s base) p regs w (valued (expr_run again e) (calls_in k) l w) (λ v. unary_run at unary_op.Minus v (calls_in k))
         (value_runs e (and_first (is_value qe) (agree q copy) both) p h s g base l regs w fa ag few)
-        (λ g v l w regs ag few. unary_runs code k out n _ h s g base at v l regs w fa (tt, ag.1) few op))) has
+        (λ g v l w regs ag few. unary_runs code k out n _ h s g base at v l regs w fa (tt, ag.1) few unary_op.Minus))) has
+    node_runs (unary at unary_op.Not e) x q p h s g base l regs w fa ag few has =
+        let qe = gives_of (type e) in
+        only_if_runs code k out n (is_value qe && agree q copy) h p _ (Then (expr_after e h s g) (In q h s base)) regs w (node_run again x (unary at unary_op.Not e) (calls_in k) l w)
+        (λ both.
+        subst (λ z. Ran (then_code p (h + 1) (expr_code a e p h s g) (expr_after e h s g) (λ place g. unary_code unary_op.Not at h)) (Then (expr_after e h s g) (In z h s base)) p regs w (node_run again x (unary at unary_op.Not e) (calls_in k) l w)) (sym (agree_same q copy (and_second (is_value qe) (agree q copy) both)))
+        (joined_last code k out n (expr_after e h s g) (h + 1) (expr_code a e p h s g) (λ place g. unary_code unary_op.Not at h) (Val qe h s base) (In copy h s base) p regs w (valued (expr_run again e) (calls_in k) l w) (λ v. unary_run at unary_op.Not v (calls_in k))
+        (value_runs e (and_first (is_value qe) (agree q copy) both) p h s g base l regs w fa ag few)
+        (λ g v l w regs ag few. unary_runs code k out n _ h s g base at v l regs w fa (tt, ag.1) few unary_op.Not))) has
+    node_runs (unary at unary_op.Merge e) x q p h s g base l regs w fa ag few has =
+        let qe = gives_of (type e) in
+        only_if_runs code k out n (is_value qe && agree q copy) h p _ (Then (expr_after e h s g) (In q h s base)) regs w (node_run again x (unary at unary_op.Merge e) (calls_in k) l w)
+        (λ both.
+        subst (λ z. Ran (then_code p (h + 1) (expr_code a e p h s g) (expr_after e h s g) (λ place g. unary_code unary_op.Merge at h)) (Then (expr_after e h s g) (In z h s base)) p regs w (node_run again x (unary at unary_op.Merge e) (calls_in k) l w)) (sym (agree_same q copy (and_second (is_value qe) (agree q copy) both)))
+        (joined_last code k out n (expr_after e h s g) (h + 1) (expr_code a e p h s g) (λ place g. unary_code unary_op.Merge at h) (Val qe h s base) (In copy h s base) p regs w (valued (expr_run again e) (calls_in k) l w) (λ v. unary_run at unary_op.Merge v (calls_in k))
+        (value_runs e (and_first (is_value qe) (agree q copy) both) p h s g base l regs w fa ag few)
+        (λ g v l w regs ag few. unary_runs code k out n _ h s g base at v l regs w fa (tt, ag.1) few unary_op.Merge))) has
+    node_runs (unary at unary_op.Borrow (expr y node)) x q p h s g base l regs w fa ag few has =
+        given code k out n q copy (node_after node h s g) (borrow_code a (expr y node) p h s g) p h s base regs w (node_run again x (unary at unary_op.Borrow (expr y node)) (calls_in k) l w)
+        (borrows y node p h s g base l regs w fa ag few (node_runs node y.value copy p h s g base l regs w fa ag few)) has
     node_runs (quote at text) x q p h s g base l regs w fa ag few has =
         only_if_runs code k out n (agree q copy && is_lawful_text text) h p _ (In q h s base g) regs w (goes (Some (Text text)) l w)
         (λ both. subst (λ z. Ran (i.Text h (number_of_text text code.texts) ∷ []) (In z h s base g) p regs w (goes (Some (Text text)) l w)) (sym (agree_same q copy (and_first (agree q copy) (is_lawful_text text) both)))
         (text_runs text p h s g base l regs w fa ag few)) has
-    node_runs (array at t es) x q p h s g base l regs w fa ag few has = is_stuck code k out n p (p + 1) h (Then (comes g) (In q h s base)) regs w (node_run again x (array at t es) (calls_in k) l w) has
     node_runs (iso at b) x q p h s g base l regs w fa ag few has = is_stuck code k out n p (p + 1) h (Then (comes g) (In q h s base)) regs w (node_run again x (iso at b) (calls_in k) l w) has
+
+    -- a step from where it starts; its value goes to h
+    step_runs : (z : Step) (o : Origin) (v : Value) (p h free : ℕ) (s : Scope) (g : Gone) (base base' : Base) (l : Locals) (regs : Registers) (w : State) → Falls h s → h ≤ free → ((r : ℕ) → r < h → base' r ≡ base r) → Agrees free s g l base' regs → Still o v (λ m. step_changes m z) free s base' l → w.left ≤ n → Ran (step_code a o z p h free s g) (Then (step_after z free s g) (In copy h s base)) p regs w (step_run again v z (calls_in k) l w)
+    step_runs (method y view at m es) o v p h free s g base base' l regs w fa le below ag still few has = is_stuck code k out n p (p + 1) h (Then (comes g) (In copy h s base)) regs w (step_run again v (method y view at m es) (calls_in k) l w) has
+    step_runs (field y view mbs at m) o v p h free s g base base' l regs w fa le below ag still few has =
+        subst (λ z. Ran (load_field o (field_place p0 view m.0) at h) (In copy h s base g) p regs w (on_place (field_place z view m.0) (λ f. step at (load f v)) (calls_in k) l w)) (sym follows.same)
+        (loads code k out n p h s g base l regs w at v fa (agrees_down s g l base base' h free regs regs fa le below (λ r lt. refl) ag) few o (field_place p0 view m.0)
+        (still.after g l regs base' free (omega arith) (λ r lt. refl) ag (λ m e. refl))) has
+    step_runs (index y view at e) o v p h free s g base base' l regs w fa le below ag still few has =
+        let up = falls_up s h free le fa in
+        let p1 = p + length (expr_code a e p free s g) in
+        let index_value = valued (expr_run again e) (calls_in k) l w in
+        let all_kept = λ (x : Value) (l1 : Locals). (m : ℕ) → expr_changes m e ≡ false → held_by m l1 ≡ held_by m l in
+        only_if_runs code k out n (agree copy (gives_of (type e))) h p _ (Then (expr_after e free s g) (In copy h s base)) regs w (step_run again v (index y view at e) (calls_in k) l w)
+        (λ same.
+        let is_copy = agree_same copy (gives_of (type e)) same in
+        joined_last code k out n (expr_after e free s g) (free + 1) (expr_code a e p free s g) (λ place g. load_element o free at h) (λ g x l1 regs. Val copy free s base' g x l1 regs × all_kept x l1) (In copy h s base) p regs w index_value (λ x. step at (element v x) (calls_in k))
+        (λ has. with_fact code k out n all_kept (expr_after e free s g) p1 (Val copy free s base') (conf k p regs w) index_value
+        (λ x l1 w1 is m ne. still_holds m l l1 x w1 index_value ((valued_keeps m (expr_run again e) (expr_keeps m again (follows.keeps m) e ne)).from (calls_in k) l w) is)
+        (subst (λ r. Ran (expr_code a e p free s g) (Then (expr_after e free s g) (Val r free s base')) p regs w index_value) (sym is_copy) (value_runs e (ap is_value (sym is_copy)) p free s g base' l regs w up ag few) has))
+        (λ g1 x l1 w1 regs1 b few1.
+        elements code k out n p1 h s g1 base l1 regs1 w1 at v fa
+        (agrees_down s g1 l1 base (with_at free (Some x) base') h (free + 1) regs1 regs1 fa (omega arith) (λ r lt. one_above base' free (Some x) r (omega arith) ∙ below r lt) (λ r lt. refl) b.0.1) few1 o free x
+        (still.after g1 l1 regs1 (with_at free (Some x) base') (free + 1) (omega arith) (λ r lt. one_above base' free (Some x) r lt) b.0.1 b.1)
+        (top_read s g1 l1 base' free (free + 1) (Some x) regs1 up (omega arith) b.0.1))) has
+
+    -- steps from what stands in h
+    steps_runs : (ss : Steps) (v : Value) (p h : ℕ) (s : Scope) (g : Gone) (base : Base) (l : Locals) (regs : Registers) (w : State) → Falls h s → Val copy h s base g v l regs → w.left ≤ n → Ran (steps_code a ss p h s g) (Then (steps_after ss h s g) (In copy h s base)) p regs w (steps_run again v ss (calls_in k) l w)
+    steps_runs no_steps v p h s g base l regs w fa ag few has = stays_at code k out n p (In copy h s base g) (Some v) l regs w ag few
+    steps_runs (more_steps z no_steps) v p h s g base l regs w fa ag few has =
+        let cs = step_code a (reference h) z p h (h + 1) s g in
+        let o = step_after z (h + 1) s g in
+        as_it_is code k out n _ (Then (then_after o (λ g. comes g)) (In copy h s base)) (conf k p regs w) (step_run again v z (calls_in k) l w)
+        (joined code k out n o (λ g. comes g) (h + 1) cs (λ place g. []) (In copy h s base) (In copy h s base) p regs w (step_run again v z (calls_in k) l w) (λ v l w. goes v l w)
+        (step_runs z (reference h) v p h (h + 1) s g base (with_at h (Some v) base) l regs w fa (omega arith) (one_above base h (Some v)) ag.1 (still_reference v (λ m. step_changes m z) h s base l fa) few)
+        (λ g v l w regs ag few has. stays_at code k out n (p + length cs) (In copy h s base g) v l regs w ag few) has)
+    steps_runs (more_steps z (more_steps z2 zs)) v p h s g base l regs w fa ag few has =
+        let cs = step_code a (reference h) z p h (h + 1) s g in
+        let o = step_after z (h + 1) s g in
+        joined code k out n o (λ g. steps_after (more_steps z2 zs) h s g) (h + 1) cs (λ place g. steps_code a (more_steps z2 zs) place h s g) (Val copy h s base) (In copy h s base) p regs w (valued (step_run again v z) (calls_in k) l w) (λ u. steps_run again u (more_steps z2 zs) (calls_in k))
+        (λ has. values code k out n o copy _ h s base (conf k p regs w) (step_run again v z (calls_in k) l w)
+        (step_runs z (reference h) v p h (h + 1) s g base (with_at h (Some v) base) l regs w fa (omega arith) (one_above base h (Some v)) ag.1 (still_reference v (λ m. step_changes m z) h s base l fa) few has) (λ u. u))
+        (λ g u l w regs ag few. steps_runs (more_steps z2 zs) u _ h s g base l regs w fa ag few) has
+
+    -- the last step of a place that is set: it gets what waits in h
+    swap_runs : (z : Step) (o : Origin) (v new : Value) (q : Gives) (p h free : ℕ) (s : Scope) (g : Gone) (base base' : Base) (l : Locals) (regs : Registers) (w : State) → is_value q ≡ true → Falls h s → h + 1 ≤ free → ((r : ℕ) → r < h + 1 → base' r ≡ with_at h (Some new) base r) → Agrees free (waiting h q ∷ s) g l base' regs → Still o v (λ m. step_changes m z) free (waiting h q ∷ s) base' l → w.left ≤ n → Ran (swap_code a o z p h free (waiting h q ∷ s) g) (Then (step_after z free (waiting h q ∷ s) g) (Out q h s base)) p regs w (set_step again new v z (calls_in k) l w)
+    swap_runs (method y view at m es) o v new q p h free s g base base' l regs w some fa le below ag still few has = is_stuck code k out n p (p + 1) h (Then (comes g) (Out q h s base)) regs w (set_step again new v (method y view at m es) (calls_in k) l w) has
+    swap_runs (field y view mbs at m) o v new q p h free s g base base' l regs w some fa le below ag still few has =
+        subst (λ z. Ran (swap_field o (field_place p0 view m.0) at h) (Out q h s base g) p regs w (on_place (field_place z view m.0) (λ f. step at (swap f v new)) (calls_in k) l w)) (sym follows.same)
+        (swaps code k out n q some p h s g base l regs w at v new fa
+        (put_away q h free s g l base base' regs fa (omega arith) (λ r lt. below r (omega arith) ∙ one_above base h (Some new) r lt) ag) few
+        (waiting_read q h free s g l base' regs new fa (omega arith) (below h (omega arith) ∙ pick_same h (Some new) (base h)) ag) o (field_place p0 view m.0)
+        (still.after g l regs base' free (omega arith) (λ r lt. refl) ag (λ m e. refl))) has
+    swap_runs (index y view at e) o v new q p h free s g base base' l regs w some fa le below ag still few has =
+        let inner = waiting h q ∷ s in
+        let in_falls : Falls free inner = (omega arith, fa) in
+        let p1 = p + length (expr_code a e p free inner g) in
+        let index_value = valued (expr_run again e) (calls_in k) l w in
+        let all_kept = λ (x : Value) (l1 : Locals). (m : ℕ) → expr_changes m e ≡ false → held_by m l1 ≡ held_by m l in
+        only_if_runs code k out n (agree copy (gives_of (type e))) h p _ (Then (expr_after e free inner g) (Out q h s base)) regs w (set_step again new v (index y view at e) (calls_in k) l w)
+        (λ same.
+        let is_copy = agree_same copy (gives_of (type e)) same in
+        joined_last code k out n (expr_after e free inner g) (free + 1) (expr_code a e p free inner g) (λ place g. swap_element o free at h) (λ g x l1 regs. Val copy free inner base' g x l1 regs × all_kept x l1) (Out q h s base) p regs w index_value (λ x. step at (swapped_element v x new) (calls_in k))
+        (λ has. with_fact code k out n all_kept (expr_after e free inner g) p1 (Val copy free inner base') (conf k p regs w) index_value
+        (λ x l1 w1 is m ne. still_holds m l l1 x w1 index_value ((valued_keeps m (expr_run again e) (expr_keeps m again (follows.keeps m) e ne)).from (calls_in k) l w) is)
+        (subst (λ r. Ran (expr_code a e p free inner g) (Then (expr_after e free inner g) (Val r free inner base')) p regs w index_value) (sym is_copy) (value_runs e (ap is_value (sym is_copy)) p free inner g base' l regs w in_falls ag few) has))
+        (λ g1 x l1 w1 regs1 b few1.
+        let base2 = with_at free (Some x) base' in
+        swaps_element code k out n q some p1 h s g1 base l1 regs1 w1 at v new fa
+        (put_away q h (free + 1) s g1 l1 base base2 regs1 fa (omega arith) (λ r lt. one_above base' free (Some x) r (omega arith) ∙ below r (omega arith) ∙ one_above base h (Some new) r lt) b.0.1) few1
+        (waiting_read q h (free + 1) s g1 l1 base2 regs1 new fa (omega arith) (one_above base' free (Some x) h (omega arith) ∙ below h (omega arith) ∙ pick_same h (Some new) (base h)) b.0.1) o free x
+        (still.after g1 l1 regs1 base2 (free + 1) (omega arith) (λ r lt. one_above base' free (Some x) r lt) b.0.1 b.1)
+        (top_read inner g1 l1 base' free (free + 1) (Some x) regs1 in_falls (omega arith) b.0.1))) has
+
+    -- the place of a `set`
+    place_runs : (pl : Expr) (q : Gives) (v : Value) → is_value q ≡ true → (p h : ℕ) (s : Scope) (g : Gone) (base : Base) (l : Locals) (regs : Registers) (w : State) → Falls h s → Val q h s base g v l regs → w.left ≤ n → Ran (place_code a pl q p h s g) (Then (place_after pl q h s g) (In q h s base)) p regs w (while_waits (is_owner q) v (set_run again v pl) (calls_in k) l w)
+    place_runs (expr x (name m is_outer moved)) q v some p h s g base l regs w fa ag few has = local_set x m is_outer moved q v p h s g base l regs w fa ag few has
+    place_runs (expr x (steps (expr y node) (more_steps z no_steps))) q v some p h s g base l regs w fa ag few has =
+        let inner = waiting h q ∷ s in
+        let g1 = without h g in
+        let l1 : Locals = record { name = None; value = Some v; owned = is_owner q } ∷ l in
+        let base1 = with_at h (Some v) base in
+        let up : h < h + 1 = omega arith in
+        let here = agrees_wait s g l base h q v regs ag.0 fa ag.1 in
+        let o = start_after (expr y node) (step_view z) (λ m. step_changes m z) (h + 1) inner g1 (λ free g. step_after z free inner g) in
+        then_more code k out n o _ (Out q h s base) (In q h s base) (conf k p regs w) (then_do (valued (expr_run again (expr y node)) (calls_in k) l1 w) (λ b. set_step again v b z (calls_in k))) (λ r l w. goes r (outer l) w)
+        (starts y node (step_view z) (λ m. step_changes m z) p (h + 1) inner g1 base1 l1 regs w (λ o place free g. swap_code a o z place h free inner g) (λ free g. step_after z free inner g) (Out q h s base) (λ b. set_step again v b z) (up, fa) here few
+        (λ o b p free g base' l regs w le below ag still few. swap_runs z o b v q p h free s g base base' l regs w some fa le below ag still few)
+        (node_runs node y.value copy p (h + 1) inner g1 base1 l1 regs w (up, fa) here few) has)
+        (λ g u l w regs ag few. stays code k out n _ (In q h s base g) u (outer l) regs w ag few)
+    place_runs (expr x (steps (expr y node) (more_steps z (more_steps z2 zs)))) q v some p h s g base l regs w fa ag few has =
+        let inner = waiting h q ∷ s in
+        let g1 = without h g in
+        let l1 : Locals = record { name = None; value = Some v; owned = is_owner q } ∷ l in
+        let base1 = with_at h (Some v) base in
+        let up : h < h + 1 = omega arith in
+        let here = agrees_wait s g l base h q v regs ag.0 fa ag.1 in
+        let start = start_code a (expr y node) (step_view z) (λ m. step_changes m z) p (h + 1) inner g1 (λ o place free g. step_code a o z place (h + 1) free inner g) in
+        let started = start_after (expr y node) (step_view z) (λ m. step_changes m z) (h + 1) inner g1 (λ free g. step_after z free inner g) in
+        let o = then_after started (λ g. targets_after (more_steps z2 zs) (h + 1) inner g) in
+        let first = λ (b : Value). valued (step_run again b z) in
+        let rest = λ (b : Value). set_steps again v b (more_steps z2 zs) in
+        let base_value = valued (expr_run again (expr y node)) (calls_in k) l1 w in
+        then_more code k out n o _ (Out q h s base) (In q h s base) (conf k p regs w) (then_do base_value (λ b. set_steps again v b (more_steps z (more_steps z2 zs)) (calls_in k))) (λ r l w. goes r (outer l) w)
+        (subst (λ r. Ran (then_code p (h + 2) start started (λ place g. targets_code a (more_steps z2 zs) place h (h + 1) inner g)) (Then o (Out q h s base)) p regs w r)
+        (then_assoc code k out n base_value (λ b. first b (calls_in k)) (λ b. rest b (calls_in k)))
+        (joined code k out n started (λ g. targets_after (more_steps z2 zs) (h + 1) inner g) (h + 2) start (λ place g. targets_code a (more_steps z2 zs) place h (h + 1) inner g) (Val copy (h + 1) inner base1) (Out q h s base) p regs w (then_do base_value (λ b. first b (calls_in k))) (λ b. rest b (calls_in k))
+        (starts y node (step_view z) (λ m. step_changes m z) p (h + 1) inner g1 base1 l1 regs w (λ o place free g. step_code a o z place (h + 1) free inner g) (λ free g. step_after z free inner g) (Val copy (h + 1) inner base1) first (up, fa) here few
+        (λ o b p free g base' l regs w le below ag still few has. values code k out n (step_after z free inner g) copy _ (h + 1) inner base1 (conf k p regs w) (step_run again b z (calls_in k) l w) (step_runs z o b p (h + 1) free inner g base1 base' l regs w (up, fa) le below ag still few has) (λ u. u))
+        (node_runs node y.value copy p (h + 1) inner g1 base1 l1 regs w (up, fa) here few))
+        (λ g u l w regs ag few. targets_runs (more_steps z2 zs) u v q some _ h s g base l regs w fa ag few)) has)
+        (λ g u l w regs ag few. stays code k out n _ (In q h s base g) u (outer l) regs w ag few)
+    place_runs (expr x (steps e1 no_steps)) q v some p h s g base l regs w fa ag few has = is_stuck code k out n p (p + 1) h (Then (comes g) (In q h s base)) regs w (while_waits (is_owner q) v (set_run again v (expr x (steps e1 no_steps))) (calls_in k) l w) has
+    place_runs (expr x (set at pl1 e1)) q v some p h s g base l regs w fa ag few has = is_stuck code k out n p (p + 1) h (Then (comes g) (In q h s base)) regs w (while_waits (is_owner q) v (set_run again v (expr x (set at pl1 e1))) (calls_in k) l w) has
+    place_runs (expr x (chain e1 ls)) q v some p h s g base l regs w fa ag few has = is_stuck code k out n p (p + 1) h (Then (comes g) (In q h s base)) regs w (while_waits (is_owner q) v (set_run again v (expr x (chain e1 ls))) (calls_in k) l w) has
+    place_runs (expr x (unary at op e1)) q v some p h s g base l regs w fa ag few has = is_stuck code k out n p (p + 1) h (Then (comes g) (In q h s base)) regs w (while_waits (is_owner q) v (set_run again v (expr x (unary at op e1))) (calls_in k) l w) has
+    place_runs (expr x (number at z)) q v some p h s g base l regs w fa ag few has = is_stuck code k out n p (p + 1) h (Then (comes g) (In q h s base)) regs w (while_waits (is_owner q) v (set_run again v (expr x (number at z))) (calls_in k) l w) has
+    place_runs (expr x (quote at text)) q v some p h s g base l regs w fa ag few has = is_stuck code k out n p (p + 1) h (Then (comes g) (In q h s base)) regs w (while_waits (is_owner q) v (set_run again v (expr x (quote at text))) (calls_in k) l w) has
+    place_runs (expr x (truth at b1)) q v some p h s g base l regs w fa ag few has = is_stuck code k out n p (p + 1) h (Then (comes g) (In q h s base)) regs w (while_waits (is_owner q) v (set_run again v (expr x (truth at b1))) (calls_in k) l w) has
+    place_runs (expr x (call m f es)) q v some p h s g base l regs w fa ag few has = is_stuck code k out n p (p + 1) h (Then (comes g) (In q h s base)) regs w (while_waits (is_owner q) v (set_run again v (expr x (call m f es))) (calls_in k) l w) has
+    place_runs (expr x (paren at e1)) q v some p h s g base l regs w fa ag few has = is_stuck code k out n p (p + 1) h (Then (comes g) (In q h s base)) regs w (while_waits (is_owner q) v (set_run again v (expr x (paren at e1))) (calls_in k) l w) has
+    place_runs (expr x (array at t es)) q v some p h s g base l regs w fa ag few has = is_stuck code k out n p (p + 1) h (Then (comes g) (In q h s base)) regs w (while_waits (is_owner q) v (set_run again v (expr x (array at t es))) (calls_in k) l w) has
+    place_runs (expr x (iso at b1)) q v some p h s g base l regs w fa ag few has = is_stuck code k out n p (p + 1) h (Then (comes g) (In q h s base)) regs w (while_waits (is_owner q) v (set_run again v (expr x (iso at b1))) (calls_in k) l w) has
+    place_runs (expr x (form f)) q v some p h s g base l regs w fa ag few has = is_stuck code k out n p (p + 1) h (Then (comes g) (In q h s base)) regs w (while_waits (is_owner q) v (set_run again v (expr x (form f))) (calls_in k) l w) has
+
+    -- its steps from an object whose reference stands after what waits
+    targets_runs : (ss : Steps) (b new : Value) (q : Gives) → is_value q ≡ true → (p h : ℕ) (s : Scope) (g : Gone) (base : Base) (l : Locals) (regs : Registers) (w : State) → Falls h s → Val copy (h + 1) (waiting h q ∷ s) (with_at h (Some new) base) g b l regs → w.left ≤ n → Ran (targets_code a ss p h (h + 1) (waiting h q ∷ s) g) (Then (targets_after ss (h + 1) (waiting h q ∷ s) g) (Out q h s base)) p regs w (set_steps again new b ss (calls_in k) l w)
+    targets_runs no_steps b new q some p h s g base l regs w fa ag few has = is_stuck code k out n p (p + 1) h (Then (comes g) (Out q h s base)) regs w (set_steps again new b no_steps (calls_in k) l w) has
+    targets_runs (more_steps z no_steps) b new q some p h s g base l regs w fa ag few has =
+        let up : h < h + 1 = omega arith in
+        let base1 = with_at h (Some new) base in
+        swap_runs z (reference (h + 1)) b new q p h (h + 1 + 1) s g base (with_at (h + 1) (Some b) base1) l regs w some fa (omega arith) (one_above base1 (h + 1) (Some b)) ag.1 (still_reference b (λ m. step_changes m z) (h + 1) (waiting h q ∷ s) base1 l (up, fa)) few has
+    targets_runs (more_steps z (more_steps z2 zs)) b new q some p h s g base l regs w fa ag few has =
+        let up : h < h + 1 = omega arith in
+        let inner = waiting h q ∷ s in
+        let base1 = with_at h (Some new) base in
+        let cs = step_code a (reference (h + 1)) z p (h + 1) (h + 1 + 1) inner g in
+        let o = step_after z (h + 1 + 1) inner g in
+        joined code k out n o (λ g. targets_after (more_steps z2 zs) (h + 1) inner g) (h + 1 + 1) cs (λ place g. targets_code a (more_steps z2 zs) place h (h + 1) inner g) (Val copy (h + 1) inner base1) (Out q h s base) p regs w (valued (step_run again b z) (calls_in k) l w) (λ u. set_steps again new u (more_steps z2 zs) (calls_in k))
+        (λ has. values code k out n o copy _ (h + 1) inner base1 (conf k p regs w) (step_run again b z (calls_in k) l w)
+        (step_runs z (reference (h + 1)) b p (h + 1) (h + 1 + 1) inner g base1 (with_at (h + 1) (Some b) base1) l regs w (up, fa) (omega arith) (one_above base1 (h + 1) (Some b)) ag.1 (still_reference b (λ m. step_changes m z) (h + 1) inner base1 l (up, fa)) few has) (λ u. u))
+        (λ g u l w regs ag few. targets_runs (more_steps z2 zs) u new q some _ h s g base l regs w fa ag few) has
 
     args_runs : (es : Exprs) (p h : ℕ) (s : Scope) (g : Gone) (base : Base) (l : Locals) (regs : Registers) (w : State) → Falls h s → Agrees h s g l base regs → w.left ≤ n → Ran (args_code a es p h s g) (Then (args_after es h s g) (All (gives_list es) h s base)) p regs w (exprs_run again es (calls_in k) l w)
     args_runs no_exprs p h s g base l regs w fa ag few has =
@@ -509,7 +611,7 @@ module _ (code : Code) (functions : List Function) (p0 : Parts) (is_code : IsCod
 
     elses_runs : (es : Elses) (before : Gone) (q : Gives) (p h : ℕ) (s : Scope) (g : Gone) (base : Base) (l : Locals) (regs : Registers) (w : State) → Falls h s → Agrees h s g l base regs → w.left ≤ n → Ran (elses_code a q es before p h s g) (Then (elses_after es before h s g) (In q h s base)) p regs w (elses_run again es (calls_in k) l w)
     elses_runs no_else before q p h s g base l regs w fa ag few has =
-        given q void (comes g) [] p h s base regs w (goes None l w) (λ has. stays_at code k out n p (In void h s base g) None l regs w (tt, ag) few) has
+        given code k out n q void (comes g) [] p h s base regs w (goes None l w) (λ has. stays_at code k out n p (In void h s base g) None l regs w (tt, ag) few) has
     elses_runs (otherwise b) before q p h s g base l regs w fa ag few has =
         in_block b q p h s g base l regs w fa (block_runs b q p h (h + 1) s g (with_at h (read regs h) base) l regs w (falls_up s h (h + 1) (omega arith) fa) (omega arith) (fresh_above s h h fa (omega arith)) (agrees_more s g l base h regs fa ag) few has)
     elses_runs (more_elses (else_if at c b) es) before q p h s g base l regs w fa ag few has =
@@ -537,7 +639,7 @@ module _ (code : Code) (functions : List Function) (p0 : Parts) (is_code : IsCod
     stmts_runs (last e) end q p d h s g base l regs w fa lt fr ag few has =
         only_if_runs code k out n (agree q (gives_of (type e))) h p _ (Then (expr_after e h s g) (Put q d h s base)) regs w (expr_run again e (calls_in k) l w)
         (λ same has.
-        as_it_is _ (Then (expr_after e h s g) (Put q d h s base)) (conf k p regs w) (expr_run again e (calls_in k) l w)
+        as_it_is code k out n _ (Then (expr_after e h s g) (Put q d h s base)) (conf k p regs w) (expr_run again e (calls_in k) l w)
         (ended_by code k out n (expr_after e h s g) (expr_code a e p h s g) (λ place g. hand q d h) (In q h s base) (Put q d h s base) p regs w (expr_run again e (calls_in k) l w) (λ v l w. goes v l w)
         (subst (λ z. Ran (expr_code a e p h s g) (Then (expr_after e h s g) (In z h s base)) p regs w (expr_run again e (calls_in k) l w)) (sym (agree_same q (gives_of (type e)) same)) (expr_runs e p h s g base l regs w fa ag few))
         (λ g v l w regs ag few. hands q _ d h s base g v l regs w fa fr lt ag few) has)) has
@@ -621,8 +723,45 @@ module _ (code : Code) (functions : List Function) (p0 : Parts) (is_code : IsCod
     stmt_runs (form_stmt f) p h s g base l regs w fa ag few has =
         then_weaker (form_after f h s g) _ (In void h s base) (Keeps {A = Option Value} h s base) (conf k p regs w) (form_run again y.void f (calls_in k) l w) (λ g v l regs x. in_keeps void h s base g v l regs fa x)
         (form_runs f y.void void p h s g base l regs w fa ag few has)
-    stmt_runs (express e) p h s g base l regs w fa ag few has =
+    stmt_runs (express (expr x (set at (expr y (name m io moved)) e))) p h s g base l regs w fa ag few has =
         let qe = gives_of (type e) in
-        ended_by code k out n (expr_after e h s g) (expr_code a e p h s g) (λ place g. drop_value qe h (expr_spot e)) (In qe h s base) (Keeps {A = Option Value} h s base) p regs w (expr_run again e (calls_in k) l w) (λ v. drop_owned again (expr_spot e) (is_owned (type e)) v (calls_in k))
-        (expr_runs e p h s g base l regs w fa ag few)
-        (λ g1 v l w regs ag few. subst (λ owned. Ran (drop_value qe h (expr_spot e)) (Keeps {A = Option Value} h s base g1) (p + length (expr_code a e p h s g)) regs w (drop_owned again (expr_spot e) owned v (calls_in k) l w)) (owner_is (type e)) (unused qe (expr_spot e) (p + length (expr_code a e p h s g)) h s base g1 v l regs w fa ag few)) has
+        let p1 = p + length (expr_code a e p h s g) in
+        let set_one = λ (v : Value). while_waits (is_owned (type e)) v (set_run again v (expr y (name m io moved))) in
+        let dropped = λ (u : Option Value). drop_owned again at (is_owned x.value) u in
+        only_if_runs code k out n (is_value qe && agree (gives_of x.value) qe) h p _ (Then (then_after (expr_after e h s g) (λ g. comes g)) (Keeps {A = Option Value} h s base)) regs w (stmt_run again (express (expr x (set at (expr y (name m io moved)) e))) (calls_in k) l w)
+        (λ both.
+        subst (λ o. Ran (if_comes p (expr_code a e p h s g) (expr_after e h s g) (λ place g. store (find m.name.0 s) g qe h at)) (Then o (Keeps {A = Option Value} h s base)) p regs w (stmt_run again (express (expr x (set at (expr y (name m io moved)) e))) (calls_in k) l w)) (sym (then_comes (expr_after e h s g)))
+        (subst (λ r. Ran (if_comes p (expr_code a e p h s g) (expr_after e h s g) (λ place g. store (find m.name.0 s) g qe h at)) (Then (expr_after e h s g) (Keeps {A = Option Value} h s base)) p regs w r)
+        (sym (then_assoc code k out n (valued (expr_run again e) (calls_in k) l w) (λ v. set_one v (calls_in k)) (λ u. dropped u (calls_in k))))
+        (ended_by code k out n (expr_after e h s g) (expr_code a e p h s g) (λ place g. store (find m.name.0 s) g qe h at) (Val qe h s base) (Keeps {A = Option Value} h s base) p regs w (valued (expr_run again e) (calls_in k) l w) (λ v l w. then_do (set_one v (calls_in k) l w) (λ u. dropped u (calls_in k)))
+        (value_runs e (and_first (is_value qe) (agree (gives_of x.value) qe) both) p h s g base l regs w fa ag few)
+        (λ g1 v l w regs ag few.
+        let owned_e = owner_is (type e) in
+        let owned_x = ap is_owner (sym (agree_same (gives_of x.value) qe (and_second (is_value qe) (agree (gives_of x.value) qe) both))) ∙ owner_is x.value in
+        subst (λ b. Ran (store (find m.name.0 s) g1 qe h at) (Keeps {A = Option Value} h s base g1) p1 regs w (then_do (while_waits b v (set_run again v (expr y (name m io moved))) (calls_in k) l w) (λ u. dropped u (calls_in k)))) owned_e
+        (subst (λ b. Ran (store (find m.name.0 s) g1 qe h at) (Keeps {A = Option Value} h s base g1) p1 regs w (then_do (while_waits (is_owner qe) v (set_run again v (expr y (name m io moved))) (calls_in k) l w) (λ u. drop_owned again at b u (calls_in k)))) owned_x
+        (local_store y m io moved qe v at p1 h s g1 base l regs w fa ag few)))))) has
+    stmt_runs (express (expr x (set at (expr y (set at1 p1 e1)) e))) p h s g base l regs w fa ag few has = unused_runs (expr x (set at (expr y (set at1 p1 e1)) e)) p h s g base l regs w fa ag few (expr_runs (expr x (set at (expr y (set at1 p1 e1)) e)) p h s g base l regs w fa ag few) has
+    stmt_runs (express (expr x (set at (expr y (chain e1 ls1)) e))) p h s g base l regs w fa ag few has = unused_runs (expr x (set at (expr y (chain e1 ls1)) e)) p h s g base l regs w fa ag few (expr_runs (expr x (set at (expr y (chain e1 ls1)) e)) p h s g base l regs w fa ag few) has
+    stmt_runs (express (expr x (set at (expr y (unary at1 op e1)) e))) p h s g base l regs w fa ag few has = unused_runs (expr x (set at (expr y (unary at1 op e1)) e)) p h s g base l regs w fa ag few (expr_runs (expr x (set at (expr y (unary at1 op e1)) e)) p h s g base l regs w fa ag few) has
+    stmt_runs (express (expr x (set at (expr y (steps e1 ss1)) e))) p h s g base l regs w fa ag few has = unused_runs (expr x (set at (expr y (steps e1 ss1)) e)) p h s g base l regs w fa ag few (expr_runs (expr x (set at (expr y (steps e1 ss1)) e)) p h s g base l regs w fa ag few) has
+    stmt_runs (express (expr x (set at (expr y (number at1 z)) e))) p h s g base l regs w fa ag few has = unused_runs (expr x (set at (expr y (number at1 z)) e)) p h s g base l regs w fa ag few (expr_runs (expr x (set at (expr y (number at1 z)) e)) p h s g base l regs w fa ag few) has
+    stmt_runs (express (expr x (set at (expr y (quote at1 text)) e))) p h s g base l regs w fa ag few has = unused_runs (expr x (set at (expr y (quote at1 text)) e)) p h s g base l regs w fa ag few (expr_runs (expr x (set at (expr y (quote at1 text)) e)) p h s g base l regs w fa ag few) has
+    stmt_runs (express (expr x (set at (expr y (truth at1 b1)) e))) p h s g base l regs w fa ag few has = unused_runs (expr x (set at (expr y (truth at1 b1)) e)) p h s g base l regs w fa ag few (expr_runs (expr x (set at (expr y (truth at1 b1)) e)) p h s g base l regs w fa ag few) has
+    stmt_runs (express (expr x (set at (expr y (call m f es1)) e))) p h s g base l regs w fa ag few has = unused_runs (expr x (set at (expr y (call m f es1)) e)) p h s g base l regs w fa ag few (expr_runs (expr x (set at (expr y (call m f es1)) e)) p h s g base l regs w fa ag few) has
+    stmt_runs (express (expr x (set at (expr y (paren at1 e1)) e))) p h s g base l regs w fa ag few has = unused_runs (expr x (set at (expr y (paren at1 e1)) e)) p h s g base l regs w fa ag few (expr_runs (expr x (set at (expr y (paren at1 e1)) e)) p h s g base l regs w fa ag few) has
+    stmt_runs (express (expr x (set at (expr y (array at1 t es1)) e))) p h s g base l regs w fa ag few has = unused_runs (expr x (set at (expr y (array at1 t es1)) e)) p h s g base l regs w fa ag few (expr_runs (expr x (set at (expr y (array at1 t es1)) e)) p h s g base l regs w fa ag few) has
+    stmt_runs (express (expr x (set at (expr y (iso at1 b1)) e))) p h s g base l regs w fa ag few has = unused_runs (expr x (set at (expr y (iso at1 b1)) e)) p h s g base l regs w fa ag few (expr_runs (expr x (set at (expr y (iso at1 b1)) e)) p h s g base l regs w fa ag few) has
+    stmt_runs (express (expr x (set at (expr y (form f1)) e))) p h s g base l regs w fa ag few has = unused_runs (expr x (set at (expr y (form f1)) e)) p h s g base l regs w fa ag few (expr_runs (expr x (set at (expr y (form f1)) e)) p h s g base l regs w fa ag few) has
+    stmt_runs (express (expr x (chain e ls))) p h s g base l regs w fa ag few has = unused_runs (expr x (chain e ls)) p h s g base l regs w fa ag few (expr_runs (expr x (chain e ls)) p h s g base l regs w fa ag few) has
+    stmt_runs (express (expr x (unary at op e))) p h s g base l regs w fa ag few has = unused_runs (expr x (unary at op e)) p h s g base l regs w fa ag few (expr_runs (expr x (unary at op e)) p h s g base l regs w fa ag few) has
+    stmt_runs (express (expr x (steps e ss))) p h s g base l regs w fa ag few has = unused_runs (expr x (steps e ss)) p h s g base l regs w fa ag few (expr_runs (expr x (steps e ss)) p h s g base l regs w fa ag few) has
+    stmt_runs (express (expr x (number at z))) p h s g base l regs w fa ag few has = unused_runs (expr x (number at z)) p h s g base l regs w fa ag few (expr_runs (expr x (number at z)) p h s g base l regs w fa ag few) has
+    stmt_runs (express (expr x (quote at text))) p h s g base l regs w fa ag few has = unused_runs (expr x (quote at text)) p h s g base l regs w fa ag few (expr_runs (expr x (quote at text)) p h s g base l regs w fa ag few) has
+    stmt_runs (express (expr x (truth at b1))) p h s g base l regs w fa ag few has = unused_runs (expr x (truth at b1)) p h s g base l regs w fa ag few (expr_runs (expr x (truth at b1)) p h s g base l regs w fa ag few) has
+    stmt_runs (express (expr x (name m io moved))) p h s g base l regs w fa ag few has = unused_runs (expr x (name m io moved)) p h s g base l regs w fa ag few (expr_runs (expr x (name m io moved)) p h s g base l regs w fa ag few) has
+    stmt_runs (express (expr x (call m f es))) p h s g base l regs w fa ag few has = unused_runs (expr x (call m f es)) p h s g base l regs w fa ag few (expr_runs (expr x (call m f es)) p h s g base l regs w fa ag few) has
+    stmt_runs (express (expr x (paren at e))) p h s g base l regs w fa ag few has = unused_runs (expr x (paren at e)) p h s g base l regs w fa ag few (expr_runs (expr x (paren at e)) p h s g base l regs w fa ag few) has
+    stmt_runs (express (expr x (array at t es))) p h s g base l regs w fa ag few has = unused_runs (expr x (array at t es)) p h s g base l regs w fa ag few (expr_runs (expr x (array at t es)) p h s g base l regs w fa ag few) has
+    stmt_runs (express (expr x (iso at b1))) p h s g base l regs w fa ag few has = unused_runs (expr x (iso at b1)) p h s g base l regs w fa ag few (expr_runs (expr x (iso at b1)) p h s g base l regs w fa ag few) has
+    stmt_runs (express (expr x (form f))) p h s g base l regs w fa ag few has = unused_runs (expr x (form f)) p h s g base l regs w fa ag few (expr_runs (expr x (form f)) p h s g base l regs w fa ag few) has

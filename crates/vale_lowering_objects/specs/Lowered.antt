@@ -1,13 +1,16 @@
 -- The code of a program with owners; what has no code yet is lowered to an instruction that no step follows.
-use Rattle.std.specs.Prelude.{ℕ, ◌+◌, codes, Bool, true, false, not, ◌&&◌, List, [], ◌∷◌, ◌++◌, length, Option, Some, None, if◌then◌else◌}
+use Rattle.std.specs.Prelude.{ℕ, ◌+◌, codes, Bool, true, false, not, ◌&&◌, ◌||◌, List, [], ◌∷◌, ◌++◌, length, Option, Some, None, if◌then◌else◌}
 use Rattle.vale_base.specs.declared.spot.Spot.{Spot}
 use Rattle.vale_syntax.specs.declared.built_in.BuiltIn.{BuiltIn}
 use Rattle.vale_syntax.specs.declared.built_in.BuiltIn.TheVariants as b
 use Rattle.vale_syntax.specs.declared.tree.NameAt.{NameAt}
 use Rattle.vale_syntax.specs.declared.tree.BinaryOp.{BinaryOp}
 use Rattle.vale_syntax.specs.declared.tree.BinaryOp.TheVariants as op
+use Rattle.vale_syntax.specs.declared.tree.UnaryOp.{UnaryOp}
+use Rattle.vale_syntax.specs.declared.tree.UnaryOp.TheVariants as unary_op
+use Rattle.vale_text.specs.Operations.{is_int}
 use Rattle.vale_rules_spec.specs.Types as y
-use Rattle.vale_rules_spec.specs.Typed.{Callee, built_in, constructor, function, Expr, expr, Node, set, chain, unary, steps, number, quote, truth, name, call, paren, form, Function, Exprs, no_exprs, more_exprs, link, Links, no_links, more_links, field, no_steps, more_steps, Form, branch, else_if, Elses, no_else, otherwise, more_elses, Block, block, Stmt, declare, destructure, return_nothing, return_value, while, form_stmt, express, Stmts, no_stmts, last, more_stmts, type}
+use Rattle.vale_rules_spec.specs.Typed.{Callee, built_in, constructor, function, Expr, expr, Node, set, chain, unary, steps, number, quote, truth, name, call, paren, array, iso, form, Function, Exprs, no_exprs, more_exprs, link, Links, no_links, more_links, Step, field, method, index, Steps, no_steps, more_steps, Form, branch, else_if, Elses, no_else, otherwise, more_elses, Block, block, Stmt, declare, destructure, return_nothing, return_value, while, form_stmt, express, Stmts, no_stmts, last, more_stmts, type}
 use Rattle.vale_syntax.specs.Tree.{Param}
 use Rattle.vale_rules_spec.specs.Declarations.{head_params, param_type}
 use Rattle.vale_rules_spec.specs.Types.{type_of}
@@ -20,6 +23,7 @@ use Rattle.vale_lowering.specs.Instructions as plain
 use Rattle.vale_lowering.specs.Instructions.{stuck, only_if, loop_code, and_code, operator, unary_code, registers_from}
 use Rattle.vale_lowering.specs.Scopes.{number_of_function, number_of_text, result_type}
 use Rattle.vale_lowering.specs.Texts.{is_lawful_text}
+use Rattle.vale_lowering_objects.specs.Changes.{step_changes}
 use Rattle.vale_lowering_objects.specs.Scopes.{Gives, void, copy, owner, gives_of, is_value, is_owner, agree, all_agree, Entry, Scope, entry, waiting, find, Gone, is_gone, without, same_truth, After, comes, never, no_run, then_after, met, may_meet, closes, Around}
 
 -- ---- what is gone after a part
@@ -48,6 +52,23 @@ link_after op.Or after h g = comes g
 link_after op.And after h g = comes g
 link_after o after h g = after (h + 1) g
 
+-- ---- where steps start
+
+abbrev pub step_view : Step → y.View
+step_view (field x view may_be_set at m) = view
+step_view (method x view at m es) = view
+step_view (index x view at e) = view
+
+-- A step takes what a local holds from its register, where its index leaves the local, and an owner is seen directly.
+abbrev pub stays_of : Option Entry → y.View → Bool → Bool
+stays_of None view changes = true
+stays_of (Some x) view changes = not changes && (not x.owned || y.is_direct view)
+
+-- else a reference goes to h
+abbrev pub free_register : Bool → ℕ → ℕ
+free_register true h = h
+free_register false h = h + 1
+
 abbrev mutual
   pub expr_after : Expr → ℕ → Scope → Gone → After
   expr_after (expr x node) h s g = node_after node h s g
@@ -58,9 +79,42 @@ abbrev mutual
   node_after (chain e ls) h s g = then_after (expr_after e h s g) (λ g. links_after ls h s g)
   node_after (unary at op e) h s g = expr_after e h s g
   node_after (call n f es) h s g = args_after es h s g
+  node_after (array at x es) h s g = args_after es h s g
   node_after (form f) h s g = form_after f h s g
-  node_after (set at p e) h s g = expr_after e h s g
+  node_after (set at p e) h s g = then_after (expr_after e h s g) (λ g. place_after p (gives_of (type e)) h s g)
+  node_after (steps e (more_steps x xs)) h s g =
+      then_after (start_after e (step_view x) (λ n. step_changes n x) h s g (λ k g. step_after x k s g)) (λ g. steps_after xs h s g)
   node_after _ h s g = comes g
+
+  -- what a first step starts from, and what is done then with the first free register
+  pub start_after : Expr → y.View → (ℕ → Bool) → ℕ → Scope → Gone → (ℕ → Gone → After) → After
+  start_after (expr y (name n is_outer false)) view changes h s g rest = rest (free_register (stays_of (find n.name.0 s) view (changes n.name.0)) h) g
+  start_after (expr y node) view changes h s g rest = then_after (node_after node h s g) (λ g. rest (h + 1) g)
+
+  -- an index runs from k on
+  pub step_after : Step → ℕ → Scope → Gone → After
+  step_after (field y view may_be_set at m) k s g = comes g
+  step_after (index y view at e) k s g = expr_after e k s g
+  step_after (method y view at m es) k s g = comes g
+
+  -- from what stands in h
+  pub steps_after : Steps → ℕ → Scope → Gone → After
+  steps_after no_steps h s g = comes g
+  steps_after (more_steps x xs) h s g = then_after (step_after x (h + 1) s g) (λ g. steps_after xs h s g)
+
+  -- the place of a `set`, whose new value waits in h
+  pub place_after : Expr → Gives → ℕ → Scope → Gone → After
+  place_after (expr x (steps e (more_steps y no_steps))) q h s g =
+      start_after e (step_view y) (λ n. step_changes n y) (h + 1) (waiting h q ∷ s) (without h g) (λ k g. step_after y k (waiting h q ∷ s) g)
+  place_after (expr x (steps e (more_steps y ys))) q h s g =
+      then_after (start_after e (step_view y) (λ n. step_changes n y) (h + 1) (waiting h q ∷ s) (without h g) (λ k g. step_after y k (waiting h q ∷ s) g))
+      (λ g. targets_after ys (h + 1) (waiting h q ∷ s) g)
+  place_after (expr x node) q h s g = comes g
+
+  pub targets_after : Steps → ℕ → Scope → Gone → After
+  targets_after no_steps h s g = comes g
+  targets_after (more_steps x no_steps) h s g = step_after x (h + 1) s g
+  targets_after (more_steps x xs) h s g = then_after (step_after x (h + 1) s g) (λ g. targets_after xs h s g)
 
   pub args_after : Exprs → ℕ → Scope → Gone → After
   args_after no_exprs h s g = comes g
@@ -153,12 +207,56 @@ abbrev pub read_local : Option Entry → ℕ → List Instr
 read_local None h = stuck h
 read_local (Some x) h = if x.owned then stuck h else i.Copy h x.register ∷ []
 
--- a field of what a local leads to: of an owner's object, which is there, without a test
-abbrev pub load_field : Option Entry → Gone → Option ℕ → Spot → ℕ → List Instr
-load_field None g f at h = stuck h
-load_field (Some x) g None at h = stuck h
-load_field (Some x) g (Some f) at h =
-    if x.owned then (if is_gone x.register g then stuck h else i.LoadOwn h x.register f ∷ []) else i.Load h x.register f at ∷ []
+-- ---- steps
+
+-- what a step starts from: an owner in a register, or a reference
+pub data Origin : Type 0 where
+  at_hand : ℕ → Origin
+  reference : ℕ → Origin
+
+abbrev pub origin_of : Entry → Origin
+origin_of x = if x.owned then at_hand x.register else reference x.register
+
+-- a reference to what an owner leads to
+abbrev pub lend : y.View → ℕ → ℕ → Instr
+lend view h r = if y.is_frozen view then i.Frozen h r else i.Borrow h r
+
+-- what a local holds goes to h: a reference, where it is an owner
+abbrev pub lend_local : Option Entry → Gone → y.View → ℕ → List Instr
+lend_local None g view h = stuck h
+lend_local (Some x) g view h = if x.owned then (if is_gone x.register g then stuck h else lend view h x.register ∷ []) else i.Copy h x.register ∷ []
+
+abbrev pub is_there : Entry → Gone → Bool
+is_there x g = not (x.owned && is_gone x.register g)
+
+-- what is done from a local: from its register where it stays there
+abbrev pub from_local : Option Entry → Bool → y.View → ℕ → ℕ → Gone → (Origin → ℕ → ℕ → Gone → List Instr) → List Instr
+from_local None stays view place h g rest = stuck h
+from_local (Some x) true view place h g rest = only_if (is_there x g) h (rest (origin_of x) place h g)
+from_local (Some x) false view place h g rest = then_code place (h + 1) (lend_local (Some x) g view h) (comes g) (λ place g. rest (reference h) place (h + 1) g)
+
+-- a field goes to h
+abbrev pub load_field : Origin → Option ℕ → Spot → ℕ → List Instr
+load_field o None at h = stuck h
+load_field (at_hand r) (Some f) at h = i.LoadOwn h r f ∷ []
+load_field (reference r) (Some f) at h = i.Load h r f at ∷ []
+
+-- an element, whose index stands in k
+abbrev pub load_element : Origin → ℕ → Spot → ℕ → List Instr
+load_element (at_hand r) k at h = i.ElemOwn h r k at ∷ []
+load_element (reference r) k at h = i.Elem h r k at ∷ []
+
+-- a field gets what stands in h, and h what it held
+abbrev pub swap_field : Origin → Option ℕ → Spot → ℕ → List Instr
+swap_field o None at h = stuck h
+swap_field (at_hand r) (Some f) at h = i.SwapOwn h r f h ∷ []
+swap_field (reference r) (Some f) at h = i.Swap h r f h at ∷ []
+
+abbrev pub swap_element : Origin → ℕ → Spot → ℕ → List Instr
+swap_element (at_hand r) k at h = i.SwapElOwn h r k h at ∷ []
+swap_element (reference r) k at h = i.SwapEl h r k h at ∷ []
+
+-- ---- the set of a local
 
 -- the local gets what stands in h, and h what the local held
 abbrev pub exchange_by : Gives → ℕ → ℕ → List Instr
@@ -171,9 +269,15 @@ abbrev pub exchange : Option Entry → Gone → Gives → ℕ → List Instr
 exchange None g q h = stuck h
 exchange (Some x) g q h = if same_truth x.owned (is_owner q) then (if x.owned && is_gone x.register g then stuck h else exchange_by q x.register h) else stuck h
 
-abbrev pub set_code : Expr → Gives → ℕ → Scope → Gone → List Instr
-set_code (expr x (name n is_outer moved)) q h s g = exchange (find n.name.0 s) g q h
-set_code (expr x _) q h s g = stuck h
+-- the local gets what stands in h, and what it held is dropped at this spot
+abbrev pub store_by : Gives → ℕ → ℕ → Spot → List Instr
+store_by void r h at = stuck h
+store_by copy r h at = i.Copy r h ∷ []
+store_by owner r h at = i.Destroy r at ∷ i.Move r h ∷ []
+
+abbrev pub store : Option Entry → Gone → Gives → ℕ → Spot → List Instr
+store None g q h at = stuck h
+store (Some x) g q h at = if same_truth x.owned (is_owner q) then (if x.owned && is_gone x.register g then stuck h else store_by q x.register h at) else stuck h
 
 -- an owner in h is dropped
 abbrev pub drop_value : Gives → ℕ → Spot → List Instr
@@ -204,6 +308,10 @@ drop_scope (x ∷ s) g at = drop_entry x g at ++ drop_scope s g at
 abbrev pub gives_list : Exprs → List Gives
 gives_list no_exprs = []
 gives_list (more_exprs e es) = gives_of (type e) ∷ gives_list es
+
+abbrev pub first_type : Exprs → y.Ty
+first_type no_exprs = y.void
+first_type (more_exprs e es) = type e
 
 abbrev pub param_gives_of : List Param → List Gives
 param_gives_of [] = []
@@ -238,19 +346,35 @@ abbrev pub are_copied : List Gives → Bool
 are_copied [] = true
 are_copied (q ∷ qs) = is_copied q && are_copied qs
 
+-- how many bytes a text has, or elements an array
+abbrev pub len_code : y.Ty → Spot → ℕ → List Instr
+len_code y.str at h = i.TextLen h h ∷ []
+len_code x at h = i.Len h h at ∷ []
+
 -- a built-in function of copied values
 abbrev pub copies_code : BuiltIn → List Gives → Gives → Spot → ℕ → List Instr
 copies_code f qs q at h = only_if (are_copied qs && not (is_owner q)) h (plain.built_in_code f (length qs) (is_copied q) at h)
 
-abbrev pub built_in_code : BuiltIn → List Gives → Gives → Spot → ℕ → List Instr
-built_in_code b.Drop (owner ∷ []) void at h = i.Destroy h at ∷ []
-built_in_code b.Drop _ _ at h = stuck h
-built_in_code f qs q at h = copies_code f qs q at h
+-- by the type of its first value
+abbrev pub built_in_code : BuiltIn → y.Ty → List Gives → Gives → Spot → ℕ → List Instr
+built_in_code b.Drop x (owner ∷ []) void at h = i.Destroy h at ∷ []
+built_in_code b.Drop x _ _ at h = stuck h
+built_in_code b.Len x (r ∷ []) q at h = only_if (agree q copy) h (len_code x at h)
+built_in_code b.Len x _ q at h = stuck h
+built_in_code b.Push x (r ∷ t ∷ []) q at h = only_if (agree q void) h (i.Push h (h + 1) at ∷ [])
+built_in_code b.Push x _ q at h = stuck h
+built_in_code b.Pop x (r ∷ []) q at h = only_if (is_value q) h (i.Pop h h at ∷ [])
+built_in_code b.Pop x _ q at h = stuck h
+built_in_code f x qs q at h = copies_code f qs q at h
 
-abbrev pub callee_code : Around → Gives → NameAt → Callee → List Gives → ℕ → List Instr
-callee_code around gives n (built_in f) values h = built_in_code f values gives n.at h
-callee_code around gives n constructor values h = only_if (agree gives owner) h (i.Make h (kind_of around.parts (y.kind n.name.0)) (registers_from h (length values)) ∷ [])
-callee_code around gives n (function is_pure) values h =
+-- an object of this type is made of values
+abbrev pub make_code : Parts → Gives → y.Ty → List Gives → ℕ → List Instr
+make_code p gives x values h = only_if (agree gives owner) h (i.Make h (kind_of p x) (registers_from h (length values)) ∷ [])
+
+abbrev pub callee_code : Around → Gives → NameAt → Callee → y.Ty → List Gives → ℕ → List Instr
+callee_code around gives n (built_in f) x values h = built_in_code f x values gives n.at h
+callee_code around gives n constructor x values h = make_code around.parts gives (y.kind n.name.0) values h
+callee_code around gives n (function is_pure) x values h =
     only_if (may_be_called around.parts gives values (first_function (has_name n.name.0) around.functions)) h
     (i.Call h (number_of_function (has_name n.name.0) around.functions) (registers_from h (length values)) n.at ∷ [])
 
@@ -262,32 +386,94 @@ link_code o x at operand after place h s g = then_code place (h + 2) (operand pl
 
 abbrev mutual
   pub expr_code : Around → Expr → ℕ → ℕ → Scope → Gone → List Instr
-  expr_code around (expr x node) place h s g = node_code around (gives_of x.value) node place h s g
+  expr_code around (expr x node) place h s g = node_code around x.value (gives_of x.value) node place h s g
 
-  -- a node that gives so much: its value goes to h
-  pub node_code : Around → Gives → Node → ℕ → ℕ → Scope → Gone → List Instr
-  node_code around gives (number at n) place h s g = only_if (agree gives copy) h (i.Int h n ∷ [])
-  node_code around gives (quote at text) place h s g = only_if (agree gives copy && is_lawful_text text) h (i.Text h (number_of_text text around.texts) ∷ [])
-  node_code around gives (chain e ls) place h s g =
+  -- a node that has this type and gives so much: its value goes to h
+  pub node_code : Around → y.Ty → Gives → Node → ℕ → ℕ → Scope → Gone → List Instr
+  node_code around x gives (number at n) place h s g = only_if (agree gives copy && is_int n) h (i.Int h n ∷ [])
+  node_code around x gives (quote at text) place h s g = only_if (agree gives copy && is_lawful_text text) h (i.Text h (number_of_text text around.texts) ∷ [])
+  node_code around x gives (chain e ls) place h s g =
       only_if (is_value (gives_of (type e)) && agree gives copy) h
       (then_code place (h + 1) (expr_code around e place h s g) (expr_after e h s g) (λ place g. links_code around ls place h s g))
-  node_code around gives (unary at op e) place h s g =
+  node_code around x gives (unary at unary_op.Borrow e) place h s g = only_if (agree gives copy) h (borrow_code around e place h s g)
+  node_code around x gives (unary at op e) place h s g =
       only_if (is_value (gives_of (type e)) && agree gives copy) h
       (then_code place (h + 1) (expr_code around e place h s g) (expr_after e h s g) (λ place g. unary_code op at h))
-  node_code around gives (truth at b) place h s g = only_if (agree gives copy) h (i.Truth h (truth_number b) ∷ [])
-  node_code around gives (name n is_outer true) place h s g = only_if (agree gives owner) h (move_out (find n.name.0 s) g h)
-  node_code around gives (name n is_outer false) place h s g = only_if (agree gives copy) h (read_local (find n.name.0 s) h)
-  node_code around gives (paren at e) place h s g = only_if (agree gives (gives_of (type e))) h (expr_code around e place h s g)
-  node_code around gives (call n f es) place h s g =
-      then_code place (h + length (gives_list es)) (args_code around es place h s g) (args_after es h s g) (λ place g. callee_code around gives n f (gives_list es) h)
-  node_code around gives (form f) place h s g = form_code around gives f place h s g
+  node_code around x gives (truth at b) place h s g = only_if (agree gives copy) h (i.Truth h (truth_number b) ∷ [])
+  node_code around x gives (name n is_outer true) place h s g = only_if (agree gives owner) h (move_out (find n.name.0 s) g h)
+  node_code around x gives (name n is_outer false) place h s g = only_if (agree gives copy) h (read_local (find n.name.0 s) h)
+  node_code around x gives (paren at e) place h s g = only_if (agree gives (gives_of (type e))) h (expr_code around e place h s g)
+  node_code around x gives (call n f es) place h s g =
+      then_code place (h + length (gives_list es)) (args_code around es place h s g) (args_after es h s g)
+      (λ place g. callee_code around gives n f (first_type es) (gives_list es) h)
+  node_code around x gives (array at t es) place h s g =
+      then_code place (h + length (gives_list es)) (args_code around es place h s g) (args_after es h s g) (λ place g. make_code around.parts gives x (gives_list es) h)
+  node_code around x gives (form f) place h s g = form_code around gives f place h s g
   -- the new value waits; the old one comes out
-  node_code around gives (set at p e) place h s g =
+  node_code around x gives (set at p e) place h s g =
       only_if (is_value (gives_of (type e)) && agree gives (gives_of (type e))) h
-      (then_code place (h + 1) (expr_code around e place h s g) (expr_after e h s g) (λ place g. set_code p (gives_of (type e)) h s g))
-  node_code around gives (steps (expr y (name n is_outer false)) (more_steps (field x view may_be_set at m) no_steps)) place h s g =
-      only_if (agree gives copy) h (load_field (find n.name.0 s) g (field_place around.parts view m.0) at h)
-  node_code around gives _ place h s g = stuck h
+      (then_code place (h + 1) (expr_code around e place h s g) (expr_after e h s g) (λ place g. place_code around p (gives_of (type e)) place h s g))
+  node_code around x gives (steps e (more_steps y ys)) place h s g =
+      only_if (agree gives copy) h
+      (then_code place (h + 1) (start_code around e (step_view y) (λ n. step_changes n y) place h s g (λ o place k g. step_code around o y place h k s g))
+      (start_after e (step_view y) (λ n. step_changes n y) h s g (λ k g. step_after y k s g)) (λ place g. steps_code around ys place h s g))
+  node_code around x gives (steps e no_steps) place h s g = stuck h
+  node_code around x gives (iso at b) place h s g = stuck h
+
+  -- a reference to a place
+  pub borrow_code : Around → Expr → ℕ → ℕ → Scope → Gone → List Instr
+  borrow_code around (expr x (name n is_outer false)) place h s g = lend_local (find n.name.0 s) g x.view h
+  borrow_code around (expr x node) place h s g = node_code around x.value copy node place h s g
+
+  -- ---- steps
+
+  -- what a first step starts from, and what is done from there with the first free register
+  pub start_code : Around → Expr → y.View → (ℕ → Bool) → ℕ → ℕ → Scope → Gone → (Origin → ℕ → ℕ → Gone → List Instr) → List Instr
+  start_code around (expr y (name n is_outer false)) view changes place h s g rest =
+      from_local (find n.name.0 s) (stays_of (find n.name.0 s) view (changes n.name.0)) view place h g rest
+  start_code around (expr y node) view changes place h s g rest =
+      only_if (agree copy (gives_of y.value)) h
+      (then_code place (h + 1) (node_code around y.value copy node place h s g) (node_after node h s g) (λ place g. rest (reference h) place (h + 1) g))
+
+  -- what a step leads to goes to h; an index runs from k on
+  pub step_code : Around → Origin → Step → ℕ → ℕ → ℕ → Scope → Gone → List Instr
+  step_code around o (field x view may_be_set at m) place h k s g = load_field o (field_place around.parts view m.0) at h
+  step_code around o (index x view at e) place h k s g =
+      only_if (agree copy (gives_of (type e))) h
+      (then_code place (k + 1) (expr_code around e place k s g) (expr_after e k s g) (λ place g. load_element o k at h))
+  step_code around o (method x view at m es) place h k s g = stuck h
+
+  pub steps_code : Around → Steps → ℕ → ℕ → Scope → Gone → List Instr
+  steps_code around no_steps place h s g = []
+  steps_code around (more_steps x xs) place h s g =
+      then_code place (h + 1) (step_code around (reference h) x place h (h + 1) s g) (step_after x (h + 1) s g) (λ place g. steps_code around xs place h s g)
+
+  -- the place of a `set`: it gets what waits in h, and h what it held
+  pub place_code : Around → Expr → Gives → ℕ → ℕ → Scope → Gone → List Instr
+  place_code around (expr x (name n is_outer moved)) q place h s g = exchange (find n.name.0 s) g q h
+  place_code around (expr x (steps e (more_steps y no_steps))) q place h s g =
+      start_code around e (step_view y) (λ n. step_changes n y) place (h + 1) (waiting h q ∷ s) (without h g) (λ o place k g. swap_code around o y place h k (waiting h q ∷ s) g)
+  place_code around (expr x (steps e (more_steps y ys))) q place h s g =
+      then_code place (h + 2)
+      (start_code around e (step_view y) (λ n. step_changes n y) place (h + 1) (waiting h q ∷ s) (without h g) (λ o place k g. step_code around o y place (h + 1) k (waiting h q ∷ s) g))
+      (start_after e (step_view y) (λ n. step_changes n y) (h + 1) (waiting h q ∷ s) (without h g) (λ k g. step_after y k (waiting h q ∷ s) g))
+      (λ place g. targets_code around ys place h (h + 1) (waiting h q ∷ s) g)
+  place_code around (expr x node) q place h s g = stuck h
+
+  -- the steps of a place that is set, from what stands in h
+  pub targets_code : Around → Steps → ℕ → ℕ → ℕ → Scope → Gone → List Instr
+  targets_code around no_steps place new h s g = stuck new
+  targets_code around (more_steps x no_steps) place new h s g = swap_code around (reference h) x place new (h + 1) s g
+  targets_code around (more_steps x xs) place new h s g =
+      then_code place (h + 1) (step_code around (reference h) x place h (h + 1) s g) (step_after x (h + 1) s g) (λ place g. targets_code around xs place new h s g)
+
+  -- the last step of a place that is set
+  pub swap_code : Around → Origin → Step → ℕ → ℕ → ℕ → Scope → Gone → List Instr
+  swap_code around o (field x view may_be_set at m) place new k s g = swap_field o (field_place around.parts view m.0) at new
+  swap_code around o (index x view at e) place new k s g =
+      only_if (agree copy (gives_of (type e))) new
+      (then_code place (k + 1) (expr_code around e place k s g) (expr_after e k s g) (λ place g. swap_element o k at new))
+  swap_code around o (method x view at m es) place new k s g = stuck new
 
   -- the values go to h and on; each waits for those after it
   pub args_code : Around → Exprs → ℕ → ℕ → Scope → Gone → List Instr
@@ -354,7 +540,10 @@ abbrev mutual
   stmt_code around (while at c b) place h s g =
       only_if (is_value (gives_of (type c)) && (closes s g (expr_after c h s g) && closes s g (block_after b (h + 1) s g))) h
       (turns_code place h (expr_after c h s g) (λ place. expr_code around c place h s g) (λ place. block_code around void b place h (h + 1) s g))
-  -- a value that isn't used is dropped
+  -- a value that isn't used is dropped; so the old value of a local that is set
+  stmt_code around (express (expr x (set at (expr y (name n is_outer moved)) e))) place h s g =
+      only_if (is_value (gives_of (type e)) && agree (gives_of x.value) (gives_of (type e))) h
+      (if_comes place (expr_code around e place h s g) (expr_after e h s g) (λ place g. store (find n.name.0 s) g (gives_of (type e)) h at))
   stmt_code around (express e) place h s g =
       if_comes place (expr_code around e place h s g) (expr_after e h s g) (λ place g. drop_value (gives_of (type e)) h (expr_spot e))
   stmt_code around _ place h s g = stuck h

@@ -1,7 +1,7 @@
 -- What code owes a program: a function for each of its functions, and the same kinds.
 use Rattle.std.specs.Prelude.{◌≡◌, ℕ, codes, ◌+◌, List, [], ◌∷◌, ◌++◌, length, map, flat_map, Some, false, if◌then◌else◌, slice_get}
 use Rattle.vale_state_spec.specs.Outcome.{Wrong}
-use Rattle.vale_state_spec.specs.State.{no_input}
+use Rattle.vale_state_spec.specs.State.{Given}
 use Rattle.vale_rules_spec.specs.Declarations.{head_params, param_type}
 use Rattle.vale_rules_spec.specs.Types.{Ty, type_of}
 use Rattle.vale_rules_spec.specs.Types as y
@@ -75,26 +75,31 @@ pub record IsCode (code : Code) (p : Parts) (functions : List Function) : Type 0
   pub at : (j : ℕ) (f : Function) → slice_get functions j ≡ Some f → IsLowered code p functions j f
   pub kinds : SameKinds code functions p
 
--- `main`, which takes nothing
+-- what `main` takes: nothing, or an array
+abbrev pub TakesInput : List Param → Type 0
+TakesInput [] = Unit {0}
+TakesInput (q ∷ []) = (x : Ty) × (type_of (param_type q) ≡ y.array x)
+TakesInput (q ∷ r ∷ qs) = ⊥
+
 pub record HasMain (code : Code) (p : Parts) (functions : List Function) : Type 0 where
   pub main : Function
   pub found : first_function (has_text p (codes "main")) functions ≡ Some main
   pub number : code.main ≡ number_of_function (has_text p (codes "main")) functions
   pub pure : is_pure main ≡ false
   pub plain : is_destructor p main ≡ false
-  pub takes : head_params (head_of main) ≡ []
+  pub takes : TakesInput (head_params (head_of main))
 
 -- Lowered code that doesn't go wrong does what its program means, tick by tick, with its owners, its destructions and its
--- destructors.
+-- destructors, on every input.
 abbrev pub CodeMeans : Type 0
 CodeMeans =
-    (code : Code) (program : Typed) (functions : List Function) (ticks : ℕ) →
+    (code : Code) (program : Typed) (functions : List Function) (input : Given) (ticks : ℕ) →
     IsCode code (parts_of program) functions → HasMain code (parts_of program) functions →
-    ((run_code code no_input ticks).end ≡ Wrong → ⊥) → run_code code no_input ticks ≡ meaning program no_input ticks
+    ((run_code code input ticks).end ≡ Wrong → ⊥) → run_code code input ticks ≡ meaning program input ticks
 
 -- It needs as many frames.
 abbrev pub CodeNeeds : Type 0
 CodeNeeds =
-    (code : Code) (program : Typed) (functions : List Function) (ticks first : ℕ) →
+    (code : Code) (program : Typed) (functions : List Function) (input : Given) (ticks first : ℕ) →
     IsCode code (parts_of program) functions → HasMain code (parts_of program) functions →
-    ((run_code code no_input ticks).end ≡ Wrong → ⊥) → code_need.need code no_input ticks first ≡ need.need program no_input ticks first
+    ((run_code code input ticks).end ≡ Wrong → ⊥) → code_need.need code input ticks first ≡ need.need program input ticks first

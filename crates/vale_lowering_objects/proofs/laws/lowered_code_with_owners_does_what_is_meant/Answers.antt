@@ -1,3 +1,4 @@
+use Rattle.vale_lowering_objects.proofs.Codes.{code_of_program}
 use Rattle.vale_lowering_objects.proofs.Main.{code_means, code_needs}
 use Rattle.vale_lowering_objects.proofs.laws.lowered_code_with_owners_does_what_is_meant.Goals as goal
 
@@ -6,3 +7,6 @@ returns-clause-means c = code_means
 
 pub returns-clause-needs : goal.returns-clause-needs
 returns-clause-needs c = code_needs
+
+pub returns-clause-code : goal.returns-clause-code
+returns-clause-code c = code_of_program

@@ -1,0 +1,152 @@
+-- Programs with objects, by computation: their code does what they mean, and isn't stuck. A program stands here as its tree.
+use Rattle.std.proofs.Common.{◌≡◌, ℕ, List, [], ◌∷◌, ◌++◌, Option, Some, None, refl}
+use Rattle.std.specs.Prelude.{true, false, codes, pos}
+use Rattle.std.specs.Fmt.{signed_decimal}
+use Rattle.vale_state_spec.specs.Outcome.{Outcome, End, Done, Trap}
+use Rattle.vale_state_spec.specs.State.{Given, no_input, numbers, main_frame}
+use Rattle.vale_base.specs.declared.piece.Piece.{Piece}
+use Rattle.vale_base.specs.declared.spot.Spot.{Spot}
+use Rattle.vale_base.specs.declared.trap.TrapKind.TheVariants.{DeadReference, IndexOutOfRange}
+use Rattle.vale_syntax.specs.declared.tree.NameAt.{NameAt}
+use Rattle.vale_syntax.specs.declared.tree.BinaryOp.TheVariants.{Add, Less}
+use Rattle.vale_syntax.specs.declared.tree.UnaryOp.TheVariants.{Borrow}
+use Rattle.vale_rules_spec.specs.Judged.{Judged, fine, faulty}
+use Rattle.vale_rules_spec.specs.Typed.{Typed}
+use Rattle.vale_rules_spec.specs.Typing.{typed}
+use Rattle.vale_syntax.specs.Tree.{int_type, bool_type, named_type, array_type, ref_type, number, truth, name, call, steps, field, index, no_steps, more_steps, no_exprs, more_exprs, chain, link, no_links, more_links, unary, array, branch, otherwise, form, block, declare, return_value, destructure, set, form_stmt, express, no_stmts, last, more_stmts, param, head, function, function_item, struct_item, field_decl, Tree, tree}
+use Rattle.vale_model.specs.Meaning.{meaning}
+use Rattle.vale_code.specs.Run.{run_code}
+use Rattle.vale_lowering_objects.specs.Code.{lowered}
+
+abbrev pub run_typed : Judged Typed → Given → ℕ → Option Outcome
+run_typed (fine program) input ticks = Some (run_code (lowered program) input ticks)
+run_typed (faulty f fs) input ticks = None
+
+abbrev mean_typed : Judged Typed → Given → ℕ → Option Outcome
+mean_typed (fine program) input ticks = Some (meaning program input ticks)
+mean_typed (faulty f fs) input ticks = None
+
+abbrev run : Tree → ℕ → Option Outcome
+run p ticks = run_typed (typed p) no_input ticks
+
+abbrev mean : Tree → ℕ → Option Outcome
+mean p ticks = mean_typed (typed p) no_input ticks
+
+abbrev at : ℕ → ℕ → Spot
+at line column = record { line = line; col = column }
+
+abbrev n : ℕ → ℕ → ℕ → NameAt
+n k line column = record { name = record { 0 = k }; at = at line column }
+
+abbrev piece : ℕ → List ℕ → Piece
+piece tick bytes = record { tick = tick; bytes = bytes }
+
+abbrev line : ℕ → List ℕ
+line z = signed_decimal (pos z) ++ 10 ∷ []
+
+abbrev gives : List Piece → End → ℕ → Option Outcome
+gives pieces end ticks = Some (record { pieces = pieces; end = end; ticks = ticks })
+
+-- struct S { a int; }
+-- func f(x S) int { return x.a; }
+-- func main() { s = S(7); println(f(S(2))); t = s; println(t.a); S(3); drop(S(4)); }
+abbrev owners : Tree
+owners = tree (codes "S" ∷ codes "a" ∷ codes "f" ∷ codes "x" ∷ codes "main" ∷ codes "s" ∷ codes "println" ∷ codes "t" ∷ codes "drop" ∷ []) (struct_item (n 0 1 8) (field_decl (n 1 1 12) false (int_type (at 1 14)) ∷ []) ∷ function_item (function (head false (n 2 2 6) (param (n 3 2 8) (named_type (n 0 2 10)) ∷ []) (Some (int_type (at 2 13)))) (block (at 2 17) (at 2 31) (more_stmts (return_value (at 2 19) (steps (name (n 3 2 26)) (more_steps (field (at 2 27) (record { 0 = 1 })) no_steps))) no_stmts))) ∷ function_item (function (head false (n 4 3 6) [] None) (block (at 3 13) (at 3 82) (more_stmts (declare (n 5 3 15) (call (n 0 3 19) (more_exprs (number (at 3 21) (pos 7)) no_exprs))) (more_stmts (express (call (n 6 3 25) (more_exprs (call (n 2 3 33) (more_exprs (call (n 0 3 35) (more_exprs (number (at 3 37) (pos 2)) no_exprs)) no_exprs)) no_exprs))) (more_stmts (declare (n 7 3 43) (name (n 5 3 47))) (more_stmts (express (call (n 6 3 50) (more_exprs (steps (name (n 7 3 58)) (more_steps (field (at 3 59) (record { 0 = 1 })) no_steps)) no_exprs))) (more_stmts (express (call (n 0 3 64) (more_exprs (number (at 3 66) (pos 3)) no_exprs))) (more_stmts (express (call (n 8 3 70) (more_exprs (call (n 0 3 75) (more_exprs (number (at 3 77) (pos 4)) no_exprs)) no_exprs))) no_stmts)))))))) ∷ [])
+
+owners_mean : mean owners 1000 ≡ gives (piece 5 (line 2) ∷ piece 5 (line 7) ∷ []) Done 10
+owners_mean = refl
+
+owners_run : run owners 1000 ≡ mean owners 1000
+owners_run = refl
+
+-- cut at each tick alike
+owners_are_cut : run owners 6 ≡ mean owners 6
+owners_are_cut = refl
+
+-- struct S { a int; }
+-- func h(x S, k int) int { return k; }
+-- func g(c bool) int {
+--   s = S(5);
+--   u = S(6);
+--   if c { drop(u); } else { drop(u); }
+--   return h(S(1), if c { return 9; 3 } else { 2 });
+-- }
+-- func main() { println(g(true)); println(g(false)); }
+abbrev waiting_owners : Tree
+waiting_owners = tree (codes "S" ∷ codes "a" ∷ codes "h" ∷ codes "x" ∷ codes "k" ∷ codes "g" ∷ codes "c" ∷ codes "s" ∷ codes "u" ∷ codes "drop" ∷ codes "main" ∷ codes "println" ∷ []) (struct_item (n 0 1 8) (field_decl (n 1 1 12) false (int_type (at 1 14)) ∷ []) ∷ function_item (function (head false (n 2 2 6) (param (n 3 2 8) (named_type (n 0 2 10)) ∷ param (n 4 2 13) (int_type (at 2 15)) ∷ []) (Some (int_type (at 2 20)))) (block (at 2 24) (at 2 36) (more_stmts (return_value (at 2 26) (name (n 4 2 33))) no_stmts))) ∷ function_item (function (head false (n 5 3 6) (param (n 6 3 8) (bool_type (at 3 10)) ∷ []) (Some (int_type (at 3 16)))) (block (at 3 20) (at 8 1) (more_stmts (declare (n 7 4 3) (call (n 0 4 7) (more_exprs (number (at 4 9) (pos 5)) no_exprs))) (more_stmts (declare (n 8 5 3) (call (n 0 5 7) (more_exprs (number (at 5 9) (pos 6)) no_exprs))) (more_stmts (form_stmt (branch (at 6 3) (name (n 6 6 6)) (block (at 6 8) (at 6 19) (more_stmts (express (call (n 9 6 10) (more_exprs (name (n 8 6 15)) no_exprs))) no_stmts)) (otherwise (block (at 6 26) (at 6 37) (more_stmts (express (call (n 9 6 28) (more_exprs (name (n 8 6 33)) no_exprs))) no_stmts))))) (more_stmts (return_value (at 7 3) (call (n 2 7 10) (more_exprs (call (n 0 7 12) (more_exprs (number (at 7 14) (pos 1)) no_exprs)) (more_exprs (form (branch (at 7 18) (name (n 6 7 21)) (block (at 7 23) (at 7 37) (more_stmts (return_value (at 7 25) (number (at 7 32) (pos 9))) (last (number (at 7 35) (pos 3))))) (otherwise (block (at 7 44) (at 7 48) (last (number (at 7 46) (pos 2))))))) no_exprs)))) no_stmts)))))) ∷ function_item (function (head false (n 10 9 6) [] None) (block (at 9 13) (at 9 52) (more_stmts (express (call (n 11 9 15) (more_exprs (call (n 5 9 23) (more_exprs (truth (at 9 25) true) no_exprs)) no_exprs))) (more_stmts (express (call (n 11 9 33) (more_exprs (call (n 5 9 41) (more_exprs (truth (at 9 43) false) no_exprs)) no_exprs))) no_stmts)))) ∷ [])
+
+-- g(true): its entry, three objects made, u dropped, and at `return 9` the waiting S(1) and then s; g(false): the same, with the
+-- entry of h, which drops the S(1) that it was given
+waiting_owners_mean : mean waiting_owners 1000 ≡ gives (piece 8 (line 9) ∷ piece 16 (line 2) ∷ []) Done 16
+waiting_owners_mean = refl
+
+waiting_owners_run : run waiting_owners 1000 ≡ mean waiting_owners 1000
+waiting_owners_run = refl
+
+waiting_owners_are_cut : run waiting_owners 7 ≡ mean waiting_owners 7
+waiting_owners_are_cut = refl
+
+-- struct T { x int; }
+-- struct S { a T; b int; }
+-- func drop(self S) { [a, b] = self; println(b); }
+-- func main() { s = S(T(1), 7); set s = S(T(2), 8); }
+abbrev pub destructors : Tree
+destructors = tree (codes "T" ∷ codes "x" ∷ codes "S" ∷ codes "a" ∷ codes "b" ∷ codes "drop" ∷ codes "self" ∷ codes "println" ∷ codes "main" ∷ codes "s" ∷ []) (struct_item (n 0 1 8) (field_decl (n 1 1 12) false (int_type (at 1 14)) ∷ []) ∷ struct_item (n 2 2 8) (field_decl (n 3 2 12) false (named_type (n 0 2 14)) ∷ field_decl (n 4 2 17) false (int_type (at 2 19)) ∷ []) ∷ function_item (function (head false (n 5 3 6) (param (n 6 3 11) (named_type (n 2 3 16)) ∷ []) None) (block (at 3 19) (at 3 48) (more_stmts (destructure (at 3 21) (n 3 3 22 ∷ n 4 3 25 ∷ []) (name (n 6 3 30))) (more_stmts (express (call (n 7 3 36) (more_exprs (name (n 4 3 44)) no_exprs))) no_stmts)))) ∷ function_item (function (head false (n 8 4 6) [] None) (block (at 4 13) (at 4 51) (more_stmts (declare (n 9 4 15) (call (n 2 4 19) (more_exprs (call (n 0 4 21) (more_exprs (number (at 4 23) (pos 1)) no_exprs)) (more_exprs (number (at 4 27) (pos 7)) no_exprs)))) (more_stmts (express (set (at 4 31) (name (n 9 4 35)) (call (n 2 4 39) (more_exprs (call (n 0 4 41) (more_exprs (number (at 4 43) (pos 2)) no_exprs)) (more_exprs (number (at 4 47) (pos 8)) no_exprs))))) no_stmts)))) ∷ [])
+
+-- main, four objects made; the old value of `set`: its destructor, its death, a T's death; the same at the end
+destructors_mean : mean destructors 1000 ≡ gives (piece 7 (line 7) ∷ piece 10 (line 8) ∷ []) Done 11
+destructors_mean = refl
+
+destructors_run : run destructors 1000 ≡ mean destructors 1000
+destructors_run = refl
+
+destructors_are_cut : run destructors 9 ≡ mean destructors 9
+destructors_are_cut = refl
+
+-- struct S { a! int; }
+-- func main() {
+--   xs = []S(S(1), S(2));
+--   r = &xs;
+--   set xs[1].a = 5;
+--   set r[0] = S(7);
+--   push(r, S(9));
+--   println(r[0].a + xs[1].a + len(r));
+--   t = pop(&xs);
+--   set t.a = t.a + 1;
+--   println(t.a);
+-- }
+abbrev places : Tree
+places = tree (codes "S" ∷ codes "a" ∷ codes "main" ∷ codes "xs" ∷ codes "r" ∷ codes "push" ∷ codes "println" ∷ codes "len" ∷ codes "t" ∷ codes "pop" ∷ []) (struct_item (n 0 1 8) (field_decl (n 1 1 12) true (int_type (at 1 15)) ∷ []) ∷ function_item (function (head false (n 2 2 6) [] None) (block (at 2 13) (at 12 1) (more_stmts (declare (n 3 3 3) (array (at 3 8) (named_type (n 0 3 10)) (more_exprs (call (n 0 3 12) (more_exprs (number (at 3 14) (pos 1)) no_exprs)) (more_exprs (call (n 0 3 18) (more_exprs (number (at 3 20) (pos 2)) no_exprs)) no_exprs)))) (more_stmts (declare (n 4 4 3) (unary (at 4 7) Borrow (name (n 3 4 8)))) (more_stmts (express (set (at 5 3) (steps (name (n 3 5 7)) (more_steps (index (at 5 9) (number (at 5 10) (pos 1))) (more_steps (field (at 5 12) (record { 0 = 1 })) no_steps))) (number (at 5 17) (pos 5)))) (more_stmts (express (set (at 6 3) (steps (name (n 4 6 7)) (more_steps (index (at 6 8) (number (at 6 9) (pos 0))) no_steps)) (call (n 0 6 14) (more_exprs (number (at 6 16) (pos 7)) no_exprs)))) (more_stmts (express (call (n 5 7 3) (more_exprs (name (n 4 7 8)) (more_exprs (call (n 0 7 11) (more_exprs (number (at 7 13) (pos 9)) no_exprs)) no_exprs)))) (more_stmts (express (call (n 6 8 3) (more_exprs (chain (steps (name (n 4 8 11)) (more_steps (index (at 8 12) (number (at 8 13) (pos 0))) (more_steps (field (at 8 15) (record { 0 = 1 })) no_steps))) (more_links (link (at 8 18) Add (steps (name (n 3 8 20)) (more_steps (index (at 8 22) (number (at 8 23) (pos 1))) (more_steps (field (at 8 25) (record { 0 = 1 })) no_steps)))) (more_links (link (at 8 28) Add (call (n 7 8 30) (more_exprs (name (n 4 8 34)) no_exprs))) no_links))) no_exprs))) (more_stmts (declare (n 8 9 3) (call (n 9 9 7) (more_exprs (unary (at 9 11) Borrow (name (n 3 9 12))) no_exprs))) (more_stmts (express (set (at 10 3) (steps (name (n 8 10 7)) (more_steps (field (at 10 8) (record { 0 = 1 })) no_steps)) (chain (steps (name (n 8 10 13)) (more_steps (field (at 10 14) (record { 0 = 1 })) no_steps)) (more_links (link (at 10 17) Add (number (at 10 19) (pos 1))) no_links)))) (more_stmts (express (call (n 6 11 3) (more_exprs (steps (name (n 8 11 11)) (more_steps (field (at 11 12) (record { 0 = 1 })) no_steps)) no_exprs))) no_stmts))))))))))) ∷ [])
+
+-- main, two objects and their array; S(7), and the death of what stood in its place; S(9); at the end t, the array and its two
+places_mean : mean places 1000 ≡ gives (piece 7 (line 15) ∷ piece 7 (line 10) ∷ []) Done 11
+places_mean = refl
+
+places_run : run places 1000 ≡ mean places 1000
+places_run = refl
+
+places_are_cut : run places 5 ≡ mean places 5
+places_are_cut = refl
+
+-- func main() {
+--   a = []int(5, 6);
+--   println(a[if true { set a = []int(7); 0 } else { 1 }]);
+-- }
+abbrev an_index_takes_its_array_away : Tree
+an_index_takes_its_array_away = tree (codes "main" ∷ codes "a" ∷ codes "println" ∷ []) (function_item (function (head false (n 0 1 6) [] None) (block (at 1 13) (at 4 1) (more_stmts (declare (n 1 2 3) (array (at 2 7) (int_type (at 2 9)) (more_exprs (number (at 2 13) (pos 5)) (more_exprs (number (at 2 16) (pos 6)) no_exprs)))) (more_stmts (express (call (n 2 3 3) (more_exprs (steps (name (n 1 3 11)) (more_steps (index (at 3 12) (form (branch (at 3 13) (truth (at 3 16) true) (block (at 3 21) (at 3 43) (more_stmts (express (set (at 3 23) (name (n 1 3 27)) (array (at 3 31) (int_type (at 3 33)) (more_exprs (number (at 3 37) (pos 7)) no_exprs)))) (last (number (at 3 41) (pos 0))))) (otherwise (block (at 3 50) (at 3 54) (last (number (at 3 52) (pos 1)))))))) no_steps)) no_exprs))) no_stmts)))) ∷ [])
+
+it_is_dead_then : run an_index_takes_its_array_away 1000 ≡ mean an_index_takes_its_array_away 1000
+it_is_dead_then = refl
+
+-- func main(xs []int) {
+--   push(&xs, 4);
+--   println(xs[0] + len(&xs));
+-- }
+abbrev with_input : Tree
+with_input = tree (codes "main" ∷ codes "xs" ∷ codes "push" ∷ codes "println" ∷ codes "len" ∷ []) (function_item (function (head false (n 0 1 6) (param (n 1 1 11) (array_type (at 1 14) (int_type (at 1 16))) ∷ []) None) (block (at 1 21) (at 4 1) (more_stmts (express (call (n 2 2 3) (more_exprs (unary (at 2 8) Borrow (name (n 1 2 9))) (more_exprs (number (at 2 13) (pos 4)) no_exprs)))) (more_stmts (express (call (n 3 3 3) (more_exprs (chain (steps (name (n 1 3 11)) (more_steps (index (at 3 13) (number (at 3 14) (pos 0))) no_steps)) (more_links (link (at 3 17) Add (call (n 4 3 19) (more_exprs (unary (at 3 23) Borrow (name (n 1 3 24))) no_exprs))) no_links)) no_exprs))) no_stmts)))) ∷ [])
+
+with_input_means : mean_typed (typed with_input) (numbers (pos 10 ∷ pos 20 ∷ [])) 1000 ≡ gives (piece 2 (line 13) ∷ []) Done 3
+with_input_means = refl
+
+with_input_runs : run_typed (typed with_input) (numbers (pos 10 ∷ pos 20 ∷ [])) 1000 ≡ mean_typed (typed with_input) (numbers (pos 10 ∷ pos 20 ∷ [])) 1000
+with_input_runs = refl
