@@ -1,53 +1,39 @@
 -- Calls of functions, of built-in functions and of constructors.
-use Rattle.std.proofs.Common.{◌≡◌, ◌≢◌, ℕ, suc, ◌+◌, ◌<◌, ◌≤◌, List, [], ◌∷◌, ◌++◌, length, Option, Some, None, Bool, true, false, not, ◌&&◌, refl, sym, ap, ◌∙◌, subst, ◌⊎◌, inl, inr, arith}
-use Rattle.vale_state_spec.specs.State.{State, load, element, swap, swap_element as swapped_element, make, len, push, pop}
-use Rattle.std.specs.Prelude.{slice_get}
-use Rattle.vale_state_spec.specs.World.{Value, Int, Truth, Text}
+use Rattle.std.proofs.Common.{◌≡◌, ℕ, ◌+◌, ◌≤◌, List, [], ◌∷◌, length, Some, true, not, ◌&&◌, refl, sym, subst, arith}
+use Rattle.vale_state_spec.specs.State.{State, make, len, push, pop}
+use Rattle.vale_state_spec.specs.World.{Value}
 use Rattle.vale_base.specs.declared.spot.Spot.{Spot}
 use Rattle.vale_syntax.specs.declared.built_in.BuiltIn.{BuiltIn}
 use Rattle.vale_syntax.specs.declared.built_in.BuiltIn.TheVariants as b
 use Rattle.vale_syntax.specs.declared.tree.NameAt.{NameAt}
-use Rattle.vale_syntax.specs.declared.tree.UnaryOp.TheVariants as unary_op
-use Rattle.vale_text.specs.Operations.{is_int}
 use Rattle.vale_rules_spec.specs.Types as y
 use Rattle.vale_rules_spec.specs.Types.{Ty, Seen, View, is_owned}
-use Rattle.vale_rules_spec.specs.Typed.{Callee, built_in, constructor, function, Function, Expr, expr, Node, set, chain, unary, steps, number, quote, truth, name, call, paren, array, iso, form, Exprs, no_exprs, more_exprs, link, Links, no_links, more_links, Step, field, method, index, Steps, no_steps, more_steps, Form, branch, pure, parallel_range, parallel_each, else_if, Elses, no_else, otherwise, more_elses, Block, block, Stmt, declare, destructure, return_nothing, return_value, while, foreach, form_stmt, express, Stmts, no_stmts, last, more_stmts, type}
-use Rattle.vale_model.specs.Parts.{Parts, kind_of, field_place}
-use Rattle.vale_model.specs.Runs.{Run, Locals, Result, goes, returned, ended, then_do, the_value, valued, give, choose, held_by, with_held, outer, innermost, while_waits, tick, step, ◌>>=◌}
-use Rattle.vale_model.specs.Destruction.{Again, drop, drop_owned, leave, with_local, with_locals}
-use Rattle.vale_model.specs.Loops.{taken_apart}
-use Rattle.vale_model.specs.Expressions.{expr_run, node_run, exprs_run, links_run, link_run, unary_run, form_run, elses_run, block_run, stmts_run, stmt_run, set_run, set_steps, set_step, step_run, steps_run, made, callee_run, built_in_run, numbers_of, expr_spot, on_place}
-use Rattle.vale_code.specs.Instructions.{with_value, with_choice, onward, gets, copied, moved}
+use Rattle.vale_rules_spec.specs.Typed.{Callee, built_in, constructor, function, Function}
+use Rattle.vale_model.specs.Parts.{Parts, kind_of}
+use Rattle.vale_model.specs.Runs.{Locals, Result, tick, step, ◌>>=◌}
+use Rattle.vale_model.specs.Destruction.{Again, drop}
+use Rattle.vale_model.specs.Expressions.{made, callee_run, built_in_run}
 use Rattle.vale_code.specs.Parts.{Parts as Code}
-use Rattle.vale_code.specs.Registers.{Registers, read, put}
+use Rattle.vale_code.specs.Registers.{Registers, read}
 use Rattle.vale_code.specs.declared.instr.Instr.{Instr}
 use Rattle.vale_code.specs.declared.instr.Instr.TheVariants as i
 use Rattle.vale_lowering.specs.Instructions as plain
 use Rattle.vale_lowering.specs.Instructions.{only_if, unary_code, registers_from}
-use Rattle.vale_lowering.specs.Scopes.{number_of_text}
-use Rattle.vale_lowering.specs.Texts.{is_lawful_text}
-use Rattle.vale_lowering.proofs.Lookups.{text_or_none}
-use Rattle.vale_lowering.proofs.Registers.{Held, Base, with_at, with_all, with_all_below, one_above, pick_other, read_put, Stand, pick_same}
-use Rattle.vale_lowering.proofs.Reaches.{Where, active, conf, calls_in, Post, moves, jumps, free_on}
-use Rattle.vale_lowering.proofs.Shapes.{loop_test}
+use Rattle.vale_lowering.proofs.Registers.{Base, with_at, with_all, with_all_below, one_above, Stand}
+use Rattle.vale_lowering.proofs.Reaches.{Where, conf, calls_in, Post}
 use Rattle.vale_lowering_objects.specs.Destruction.{SameKinds}
-use Rattle.vale_lowering_objects.specs.Scopes.{Gives, void, copy, owner, gives_of, is_value, is_owner, agree, Entry, Scope, entry, waiting, find, Gone, without, same_gone, After, comes, never, no_run, then_after, met, may_meet, closes, Around}
-use Rattle.vale_lowering_objects.specs.Changes.{expr_changes, step_changes}
-use Rattle.vale_lowering_objects.specs.Lowered.{Origin, at_hand, reference, then_code, if_comes, turns_code, loop_after, locals_after, locals_code, all_gives, gives_list, first_type, hand, exchange, store, lend_local, from_local, stays_of, step_view, load_field, load_element, swap_field, swap_element, drop_value, drop_entry, drop_scope, move_out, read_local, len_code, built_in_code, make_code, copies_code, is_copied, are_copied, link_after, link_code, links_after, links_code, expr_after, node_after, args_after, start_after, step_after, steps_after, place_after, targets_after, form_after, elses_after, block_after, stmts_after, stmt_after, callee_code, expr_code, node_code, borrow_code, start_code, step_code, steps_code, place_code, targets_code, swap_code, args_code, form_code, elses_code, block_code, stmts_code, stmt_code}
-use Rattle.vale_lowering_objects.proofs.Kept.{valued_keeps, expr_keeps, still_holds}
-use Rattle.vale_lowering_objects.proofs.Origins.{some_fits, Starts, Still, still_reference, Out, RestRuns, loads, elements, swaps, swaps_element, lends, pops, pushes, lengths, with_fact, start_value, start_local, then_assoc}
-use Rattle.vale_lowering_objects.proofs.Stores.{stores, replaced}
-use Rattle.vale_lowering_objects.proofs.Destruction.{IsOwned}
+use Rattle.vale_lowering_objects.specs.Scopes.{Gives, void, copy, owner, is_value, is_owner, Scope, Gone, comes, Around}
+use Rattle.vale_lowering_objects.specs.Lowered.{len_code, built_in_code, make_code, copies_code, is_copied, are_copied, callee_code}
+use Rattle.vale_lowering_objects.proofs.Origins.{pops, pushes, lengths}
 use Rattle.vale_lowering_objects.proofs.Owes.{IsHere, Follows}
-use Rattle.vale_lowering_objects.proofs.Operators.{link_runs, unary_runs}
-use Rattle.vale_lowering_objects.proofs.BuiltIns.{given_by, built_ins as plain_built_ins}
+use Rattle.vale_lowering_objects.proofs.BuiltIns.{built_ins as plain_built_ins}
 use Rattle.vale_lowering_objects.proofs.Calls.{call_runs}
 use Rattle.vale_lowering_objects.specs.Program.{IsCode}
-use Rattle.vale_lowering_objects.proofs.Registers.{Fits, Falls, falls_up, Fresh, fresh_above, Agrees, agrees_down, agrees_dest, agrees_once, agrees_more, agrees_met, agrees_push, agrees_pop, agrees_wait, agrees_done, agrees_top, agrees_push_first, owner_is, top_read, takes, meets, empties, stands, all_stand, and_first, and_second, look_above}
-use Rattle.vale_lowering_objects.proofs.Reaches.{Then, In, Val, Put, Keeps, All, as_many, Reaches, Runs, then_reaches, weaker, stays, stays_at, is_stuck, only_if_runs, then_more, joined, joined_last, values, one_after, sides_run, loop_tests, comes_reaches, stops_there, ended_by, returned_by, wrongs}
-use Rattle.vale_lowering_objects.proofs.Drops.{Without, destroys, entry_runs, leave_runs, leave_void_runs}
-use Rattle.vale_lowering_objects.proofs.Steps.{IsCopied, moved_same, copied_same, copied_or_not, moved_or_not, copy_wrongs, move_wrongs, sets, move_runs, read_runs, make_runs, Came, open_runs, set_runs, changed as set_changed}
-use Rattle.vale_lowering_objects.proofs.Posts.{agree_same, value_some, given_same, in_met, in_keeps, put_in, put_pop, put_top, dropped, given, as_it_is}
+use Rattle.vale_lowering_objects.proofs.Registers.{Falls, Agrees, agrees_down, top_read, all_stand, and_second}
+use Rattle.vale_lowering_objects.proofs.Reaches.{In, All, as_many, Runs, weaker, is_stuck, only_if_runs}
+use Rattle.vale_lowering_objects.proofs.Drops.{Without, destroys}
+use Rattle.vale_lowering_objects.proofs.Steps.{make_runs}
+use Rattle.vale_lowering_objects.proofs.Posts.{given_same, dropped, given}
 
 module _ (code : Code) (functions : List Function) (p0 : Parts) (is_code : IsCode code p0 functions) (k : Where) (out : Gives) (is : IsHere code k) (n : ℕ) (again : Again) (follows : Follows code functions p0 again n) where
   abbrev kinds : SameKinds code functions p0

@@ -1,13 +1,12 @@
 -- The code of a program has, for each of its functions, that function's lowered code.
-use Rattle.std.proofs.Common.{◌≡◌, ℕ, List, [], ◌∷◌, ◌++◌, map, Some, refl, ap, ◌∙◌}
+use Rattle.std.proofs.Common.{◌≡◌, ℕ, ◌++◌, map, Some, refl, ap, ◌∙◌}
 use Rattle.std.specs.Prelude.{slice_get, option_map, flat_map}
 use Rattle.std.proofs.lemmas.Option.{slice_get-map}
-use Rattle.vale_rules_spec.specs.Typed.{Function, Typed}
+use Rattle.vale_rules_spec.specs.Typed.{Function}
 use Rattle.vale_model.specs.Parts.{Parts, parts_of, name_of, name_text}
 use Rattle.vale_code.specs.Kinds.{text_or_none}
 use Rattle.vale_lowering.proofs.Lookups.{found_text, in_front}
 use Rattle.vale_lowering_objects.specs.Code.{CodeOfProgram, functions_in, texts_of, lowered_function, lowered_parts, kind_names, method_names}
-
 use Rattle.vale_lowering_objects.specs.Program.{IsLowered}
 use Rattle.vale_lowering_objects.specs.Quotes.{function_quotes}
 

@@ -1,5 +1,5 @@
 -- A part that neither sets nor moves a local leaves what it holds.
-use Rattle.std.proofs.Common.{◌≡◌, ◌≢◌, ℕ, zero, suc, ◌+◌, ◌==◌, pos, ◌||◌, List, [], ◌∷◌, Option, Some, None, Bool, true, false, if◌then◌else◌, refl, sym, ap, ◌∙◌, subst}
+use Rattle.std.proofs.Common.{◌≡◌, ℕ, zero, suc, ◌+◌, ◌==◌, pos, ◌||◌, List, [], ◌∷◌, Option, Some, None, Bool, true, false, if◌then◌else◌, refl, sym, ap, ◌∙◌, subst}
 use Rattle.std.specs.Prelude.{nat_lt, ◌+ℤ◌, ℤ}
 use Rattle.std.proofs.lemmas.Bool.Decides.{Decides-eqb}
 use Rattle.vale_base.specs.Limits.{width_limit}
@@ -7,7 +7,7 @@ use Rattle.vale_base.specs.declared.spot.Spot.{Spot}
 use Rattle.vale_base.specs.declared.trap.FrameAt.{FrameAt}
 use Rattle.vale_base.specs.declared.trap.TrapKind.{TrapKind}
 use Rattle.vale_base.specs.declared.trap.TrapKind.TheVariants.{CallDepth, LoopTooWide, DeadReference}
-use Rattle.vale_state_spec.specs.State.{State, Calls, Answer, gives, traps, fails, spend, has_depth, lent, Looked, found, dead, nowhere, look, load, element, swap, swap_element, len, push, pop, make, merge, print, freeze, thaw, RegionEnd, end_of_pure, end_of_isolate, isolated, function_frame, method_frame, width_of, dies, drop_frame, join_isolate, object_of, freeze_iteration, thaw_iteration, iteration_frame, is_outermost, loop_counted, counting_as}
+use Rattle.vale_state_spec.specs.State.{State, Calls, Answer, gives, traps, fails, spend, has_depth, Looked, found, dead, nowhere, look, load, element, swap, swap_element, len, push, pop, make, merge, print, freeze, thaw, RegionEnd, end_of_pure, end_of_isolate, isolated, function_frame, method_frame, width_of, dies, drop_frame, join_isolate, object_of, freeze_iteration, thaw_iteration, iteration_frame, is_outermost, loop_counted, counting_as}
 use Rattle.vale_state_spec.specs.World.{Value, Int, Truth, Text, Own, Ref, Iso, Object}
 use Rattle.vale_text.specs.Steps as o
 use Rattle.vale_syntax.specs.declared.built_in.BuiltIn.{BuiltIn}

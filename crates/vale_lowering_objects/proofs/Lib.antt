@@ -4,6 +4,7 @@ mod Calls
 mod Codes
 mod Destruction
 mod Drops
+mod Freezes
 pub mod Kept
 mod Main
 mod ObjectTexts

@@ -2,20 +2,21 @@
 use Rattle.std.proofs.Common.{◌≡◌, ℕ, List, [], ◌∷◌, ◌++◌, Option, Some, None, refl}
 use Rattle.std.specs.Prelude.{true, false, codes, pos}
 use Rattle.std.specs.Fmt.{signed_decimal}
-use Rattle.vale_state_spec.specs.Outcome.{Outcome, End, Done, Trap}
-use Rattle.vale_state_spec.specs.State.{Given, no_input, numbers, main_frame}
+use Rattle.vale_state_spec.specs.Outcome.{Outcome, End, Done}
+use Rattle.vale_state_spec.specs.State.{Given, no_input, numbers}
 use Rattle.vale_base.specs.declared.piece.Piece.{Piece}
 use Rattle.vale_base.specs.declared.spot.Spot.{Spot}
-use Rattle.vale_base.specs.declared.trap.TrapKind.TheVariants.{DeadReference, IndexOutOfRange}
 use Rattle.vale_syntax.specs.declared.tree.NameAt.{NameAt}
-use Rattle.vale_syntax.specs.declared.tree.BinaryOp.TheVariants.{Add, Less}
-use Rattle.vale_syntax.specs.declared.tree.UnaryOp.TheVariants.{Borrow}
+use Rattle.vale_syntax.specs.declared.tree.BinaryOp.TheVariants.{Add, And, Equal, Less, Greater, Mul}
+use Rattle.vale_syntax.specs.declared.tree.UnaryOp.TheVariants.{Borrow, Merge, Minus, Not}
 use Rattle.vale_rules_spec.specs.Judged.{Judged, fine, faulty}
 use Rattle.vale_rules_spec.specs.Typed.{Typed}
 use Rattle.vale_rules_spec.specs.Typing.{typed}
-use Rattle.vale_syntax.specs.Tree.{int_type, bool_type, named_type, array_type, ref_type, number, truth, name, call, steps, field, index, no_steps, more_steps, no_exprs, more_exprs, chain, link, no_links, more_links, unary, array, branch, otherwise, form, block, declare, return_value, destructure, set, form_stmt, express, no_stmts, last, more_stmts, param, head, function, function_item, struct_item, field_decl, Tree, tree}
+use Rattle.vale_syntax.specs.Tree.{pure, iso, str_type, quote, while, more_elses, else_if, paren, no_else, int_type, bool_type, named_type, array_type, number, truth, name, call, steps, field, index, no_steps, more_steps, no_exprs, more_exprs, chain, link, no_links, more_links, unary, array, branch, otherwise, form, block, declare, return_value, destructure, set, form_stmt, express, no_stmts, last, more_stmts, param, head, function, function_item, struct_item, field_decl, Tree, tree}
 use Rattle.vale_model.specs.Meaning.{meaning}
 use Rattle.vale_code.specs.Run.{run_code}
+use Rattle.vale_code.specs.Parts.{Parts as Code}
+use Rattle.vale_lowering.specs.Lowered as plain
 use Rattle.vale_lowering_objects.specs.Code.{lowered}
 
 abbrev pub run_typed : Judged Typed → Given → ℕ → Option Outcome
@@ -150,3 +151,48 @@ with_input_means = refl
 
 with_input_runs : run_typed (typed with_input) (numbers (pos 10 ∷ pos 20 ∷ [])) 1000 ≡ mean_typed (typed with_input) (numbers (pos 10 ∷ pos 20 ∷ [])) 1000
 with_input_runs = refl
+
+-- ---- without owners
+
+abbrev code_typed : (Typed → Code) → Judged Typed → Option Code
+code_typed lower (fine program) = Some (lower program)
+code_typed lower (faulty f fs) = None
+
+-- func g(s str) { println(s + "b"); }
+-- func main() {
+--   x = 1 + 2;
+--   while x < 9 and not (x == 7) {
+--     set x = x + 1;
+--     y = set x = x * 1;
+--     if x == 5 { println(x); } else if y > 4 { print("a"); }
+--   }
+--   g("a");
+--   println(if x > 1 { x } else { -x });
+-- }
+abbrev without_owners : Tree
+without_owners = tree (codes "g" ∷ codes "s" ∷ codes "println" ∷ codes "main" ∷ codes "x" ∷ codes "y" ∷ codes "print" ∷ []) (function_item (function (head false (n 0 1 6) (param (n 1 1 8) (str_type (at 1 10)) ∷ []) None) (block (at 1 15) (at 1 35) (more_stmts (express (call (n 2 1 17) (more_exprs (chain (name (n 1 1 25)) (more_links (link (at 1 27) Add (quote (at 1 29) (codes "b"))) no_links)) no_exprs))) no_stmts))) ∷ function_item (function (head false (n 3 2 6) [] None) (block (at 2 13) (at 11 1) (more_stmts (declare (n 4 3 3) (chain (number (at 3 7) (pos 1)) (more_links (link (at 3 9) Add (number (at 3 11) (pos 2))) no_links))) (more_stmts (while (at 4 3) (chain (chain (name (n 4 4 9)) (more_links (link (at 4 11) Less (number (at 4 13) (pos 9))) no_links)) (more_links (link (at 4 15) And (unary (at 4 19) Not (paren (at 4 23) (chain (name (n 4 4 24)) (more_links (link (at 4 26) Equal (number (at 4 29) (pos 7))) no_links))))) no_links)) (block (at 4 32) (at 8 3) (more_stmts (express (set (at 5 5) (name (n 4 5 9)) (chain (name (n 4 5 13)) (more_links (link (at 5 15) Add (number (at 5 17) (pos 1))) no_links)))) (more_stmts (declare (n 5 6 5) (set (at 6 9) (name (n 4 6 13)) (chain (name (n 4 6 17)) (more_links (link (at 6 19) Mul (number (at 6 21) (pos 1))) no_links)))) (last (form (branch (at 7 5) (chain (name (n 4 7 8)) (more_links (link (at 7 10) Equal (number (at 7 13) (pos 5))) no_links)) (block (at 7 15) (at 7 29) (more_stmts (express (call (n 2 7 17) (more_exprs (name (n 4 7 25)) no_exprs))) no_stmts)) (more_elses (else_if (at 7 36) (chain (name (n 5 7 39)) (more_links (link (at 7 41) Greater (number (at 7 43) (pos 4))) no_links)) (block (at 7 45) (at 7 59) (more_stmts (express (call (n 6 7 47) (more_exprs (quote (at 7 53) (codes "a")) no_exprs))) no_stmts))) no_else)))))))) (more_stmts (express (call (n 0 9 3) (more_exprs (quote (at 9 5) (codes "a")) no_exprs))) (more_stmts (express (call (n 2 10 3) (more_exprs (form (branch (at 10 11) (chain (name (n 4 10 14)) (more_links (link (at 10 16) Greater (number (at 10 18) (pos 1))) no_links)) (block (at 10 20) (at 10 24) (last (name (n 4 10 22)))) (otherwise (block (at 10 31) (at 10 36) (last (unary (at 10 33) Minus (name (n 4 10 34)))))))) no_exprs))) no_stmts)))))) ∷ [])
+
+-- where a run may come to every part, the code is that of the lowering without owners
+the_code_is_the_same : code_typed plain.lowered (typed without_owners) ≡ code_typed lowered (typed without_owners)
+the_code_is_the_same = refl
+
+-- ---- freezes
+
+-- struct S { a! int; }
+-- func main() {
+--   s = S(3);
+--   x = pure { t = S(s.a); t.a + s.a };
+--   y = pure { S(x) };
+--   z = iso { S(y.a) };
+--   m = merge z;
+--   println(m.a);
+-- }
+abbrev regions : Tree
+regions = tree (codes "S" ∷ codes "a" ∷ codes "main" ∷ codes "s" ∷ codes "x" ∷ codes "t" ∷ codes "y" ∷ codes "z" ∷ codes "m" ∷ codes "println" ∷ []) (struct_item (n 0 1 8) (field_decl (n 1 1 12) true (int_type (at 1 15)) ∷ []) ∷ function_item (function (head false (n 2 2 6) [] None) (block (at 2 13) (at 9 1) (more_stmts (declare (n 3 3 3) (call (n 0 3 7) (more_exprs (number (at 3 9) (pos 3)) no_exprs))) (more_stmts (declare (n 4 4 3) (form (pure (at 4 7) (block (at 4 12) (at 4 36) (more_stmts (declare (n 5 4 14) (call (n 0 4 18) (more_exprs (steps (name (n 3 4 20)) (more_steps (field (at 4 21) (record { 0 = 1 })) no_steps)) no_exprs))) (last (chain (steps (name (n 5 4 26)) (more_steps (field (at 4 27) (record { 0 = 1 })) no_steps)) (more_links (link (at 4 30) Add (steps (name (n 3 4 32)) (more_steps (field (at 4 33) (record { 0 = 1 })) no_steps))) no_links)))))))) (more_stmts (declare (n 6 5 3) (form (pure (at 5 7) (block (at 5 12) (at 5 19) (last (call (n 0 5 14) (more_exprs (name (n 4 5 16)) no_exprs))))))) (more_stmts (declare (n 7 6 3) (iso (at 6 7) (block (at 6 11) (at 6 20) (last (call (n 0 6 13) (more_exprs (steps (name (n 6 6 15)) (more_steps (field (at 6 16) (record { 0 = 1 })) no_steps)) no_exprs)))))) (more_stmts (declare (n 8 7 3) (unary (at 7 7) Merge (name (n 7 7 13)))) (more_stmts (express (call (n 9 8 3) (more_exprs (steps (name (n 8 8 11)) (more_steps (field (at 8 12) (record { 0 = 1 })) no_steps)) no_exprs))) no_stmts)))))))) ∷ [])
+
+-- main and four objects, of which t dies with its block; at the end m, y and s die
+regions_mean : mean regions 1000 ≡ gives (piece 6 (line 6) ∷ []) Done 9
+regions_mean = refl
+
+regions_run : run regions 1000 ≡ mean regions 1000
+regions_run = refl

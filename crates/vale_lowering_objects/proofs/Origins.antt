@@ -1,11 +1,11 @@
 -- Steps from what a local or a register holds: what is loaded and what is swapped.
-use Rattle.std.proofs.Common.{◌≡◌, ◌≢◌, ℕ, suc, ◌+◌, ◌<◌, ◌≤◌, ℤ, pos, negsuc, List, [], ◌∷◌, ◌++◌, length, Option, Some, None, Bool, true, false, not, ◌&&◌, ◌||◌, if◌then◌else◌, refl, sym, ap, ◌∙◌, subst, ◌⊎◌, inl, inr, arith}
-use Rattle.std.specs.Prelude.{slice_get, slice_set, nat_lt}
+use Rattle.std.proofs.Common.{◌≡◌, ◌≢◌, ℕ, ◌+◌, ◌<◌, ◌≤◌, pos, negsuc, List, [], ◌∷◌, ◌++◌, length, Option, Some, None, Bool, true, false, not, ◌&&◌, ◌||◌, if◌then◌else◌, refl, sym, ap, ◌∙◌, subst, ◌⊎◌, inl, inr, arith}
+use Rattle.std.specs.Prelude.{slice_get, nat_lt}
 use Rattle.vale_base.specs.Limits.{width_limit}
 use Rattle.vale_base.specs.declared.spot.Spot.{Spot}
 use Rattle.vale_base.specs.declared.trap.TrapKind.TheVariants.{Overflow, DivisionByZero, DeadReference, IndexOutOfRange, ArrayTooLong, TextTooLong, EmptyPop, NotANumber, CallDepth, LoopTooWide}
 use Rattle.vale_state_spec.specs.Outcome.{Wrong}
-use Rattle.vale_state_spec.specs.State.{State, Calls, Answer, gives, traps, fails, Looked, found, dead, nowhere, look as looked, look_up, on_object, lent, name_of, load, field_in, element, element_at, element_in, swap, swapped_in, swap_element, element_swapped_at, element_swapped_in, push, pop, popped, len, changed, front_from}
+use Rattle.vale_state_spec.specs.State.{State, Answer, gives, traps, fails, Looked, found, dead, nowhere, look as looked, look_up, on_object, lent, name_of, load, field_in, element, element_at, element_in, swap, swapped_in, swap_element, element_swapped_at, element_swapped_in, push, pop, popped, len, changed}
 use Rattle.vale_state_spec.specs.World.{Value, Int, Truth, Text, Own, Ref, Iso, Object}
 use Rattle.vale_rules_spec.specs.Types.{View, is_frozen, is_direct}
 use Rattle.vale_model.specs.Runs as model
@@ -17,13 +17,13 @@ use Rattle.vale_code.specs.Parts.{Parts as Code}
 use Rattle.vale_code.specs.Registers.{Registers, read, put, kept, as_frozen}
 use Rattle.vale_code.specs.declared.instr.Instr.{Instr}
 use Rattle.vale_code.specs.declared.instr.Instr.TheVariants as i
-use Rattle.vale_lowering.specs.Instructions.{stuck, only_if}
+use Rattle.vale_lowering.specs.Instructions.{only_if}
 use Rattle.vale_lowering.proofs.Operators.{reads_two}
 use Rattle.vale_lowering.proofs.Registers.{Held, Base, with_at, one_above, pick_same}
 use Rattle.vale_lowering.proofs.Reaches.{Where, active, conf, calls_in, Post, does, moves, stops}
 use Rattle.vale_lowering_objects.specs.Scopes.{Gives, void, copy, owner, is_value, Entry, Scope, find, Gone, is_gone, After, comes, never, then_after}
-use Rattle.vale_lowering_objects.specs.Lowered.{Origin, at_hand, reference, origin_of, lend, lend_local, is_there, from_local, stays_of, free_register, load_field, load_element, swap_field, swap_element as swap_code, then_code}
-use Rattle.vale_lowering_objects.proofs.Registers.{Fits, Holds, Falls, Agrees, agrees_put, agrees_down, look, look_above, Meets, meets, and_first, and_second}
+use Rattle.vale_lowering_objects.specs.Lowered.{Origin, at_hand, reference, origin_of, lend_local, is_there, from_local, stays_of, free_register, load_field, load_element, swap_field, swap_element as swap_code, then_code}
+use Rattle.vale_lowering_objects.proofs.Registers.{Fits, Holds, Falls, Agrees, agrees_put, agrees_down, look_above, Meets, meets, and_first}
 use Rattle.vale_lowering_objects.proofs.Reaches.{Then, In, Val, Reaches, Runs, wrongs, is_stuck, only_if_runs, one_after, joined, values}
 use Rattle.vale_lowering_objects.proofs.Steps.{keeping, sets}
 

@@ -17,7 +17,7 @@ use Rattle.vale_code.specs.Run.{run_code}
 use Rattle.vale_lowering_objects.specs.Code.{functions_in, texts_of, lowered_function, lowered}
 use Rattle.vale_lowering_objects.specs.Destruction.{IsDestructor, SameDestructor, SameKinds}
 use Rattle.vale_lowering_objects.specs.Lowered.{param_gives, result_gives}
-use Rattle.vale_lowering_objects.specs.Program.{IsCode, HasMain}
+use Rattle.vale_lowering_objects.specs.Program.{HasMain}
 use Rattle.vale_lowering_objects.specs.Scopes.{void, owner}
 use Rattle.vale_lowering_objects.proofs.Codes.{func_here, code_of_program}
 use Rattle.vale_lowering_objects.proofs.ObjectTexts.{destructors}

@@ -1,8 +1,7 @@
 -- Single instructions: moves, reads, loads, births and what is printed.
 use Rattle.std.proofs.Common.{◌≡◌, ◌≢◌, ℕ, zero, suc, ◌+◌, ◌<◌, ◌≤◌, List, [], ◌∷◌, length, Option, Some, None, Bool, true, false, ◌&&◌, if◌then◌else◌, refl, sym, ap, ◌∙◌, subst, ◌⊎◌, inl, inr, arith}
-use Rattle.std.specs.Prelude.{slice_get}
 use Rattle.vale_state_spec.specs.Outcome.{Cut, Wrong}
-use Rattle.vale_state_spec.specs.State.{State, Answer, dies, gives, traps, fails, spend, spend_of, load, lent, name_of, look_up, object_of, found_or_dead, on_object, field_in, make, born, print, print_text, shown}
+use Rattle.vale_state_spec.specs.State.{State, Answer, dies, gives, traps, fails, spend, spend_of, object_of, make, born, print, print_text, shown}
 use Rattle.vale_state_spec.specs.World.{Value, Int, Truth, Text, Own, Ref, Iso, Object}
 use Rattle.vale_base.specs.declared.name.Kind.{Kind}
 use Rattle.vale_base.specs.declared.spot.Spot.{Spot}
@@ -21,7 +20,7 @@ use Rattle.vale_lowering.proofs.Registers.{Held, Base, with_at, with_all, one_ab
 use Rattle.vale_model.specs.Loops.{emptied, taken_apart}
 use Rattle.vale_lowering.proofs.Reaches.{Where, active, conf, calls_in, Post, Comes, comes_on, does, moves, stops}
 use Rattle.vale_lowering_objects.specs.Scopes.{Gives, void, copy, owner, is_owner, same_truth, Entry, Scope, Gone, is_gone}
-use Rattle.vale_lowering_objects.specs.Lowered.{move_out, moved_out, exchange_by, exchange, read_local}
+use Rattle.vale_lowering_objects.specs.Lowered.{move_out, moved_out, exchange_by, exchange}
 use Rattle.vale_lowering_objects.proofs.Destruction.{IsOwned}
 use Rattle.vale_lowering_objects.proofs.Registers.{Fits, Holds, Falls, Agrees, agrees_put, agrees_down, Meets, Empties, agrees_emptied, Takes, agrees_taken, agrees_all, top_read, same_truths}
 use Rattle.vale_lowering_objects.proofs.Reaches.{In, Reaches, Runs, wrongs, is_stuck, comes_reaches}
@@ -74,14 +73,6 @@ IsCopied (Text t) = Unit {0}
 IsCopied (Ref n) = Unit {0}
 IsCopied (Own n) = ⊥
 IsCopied (Iso n) = ⊥
-
-lent_same : (v : Value) → IsCopied v → lent v ≡ v
-lent_same (Int z) c = refl
-lent_same (Truth b) c = refl
-lent_same (Text t) c = refl
-lent_same (Ref n) c = refl
-lent_same (Own n) c = absurd c
-lent_same (Iso n) c = absurd c
 
 pub copied_same : (v : Value) → IsCopied v → copied v ≡ Some v
 copied_same (Int z) c = refl
@@ -332,26 +323,6 @@ module _ (code : Code) (k : Where) (out : Gives) (n : ℕ) where
             let ne : x.register ≢ h = omega (arith, m.0) in
             set_held q x u (same_truths x.owned (is_owner q) e) (λ o. ap (λ b. b && is_gone x.register g) (sym o) ∙ f) fn m.1
             (ag.each x.register lt ∙ m.2 (with_at h (Some new) base)) t has
-
-  module _ (p h : ℕ) (s : Scope) (g : Gone) (base : Base) (l : Locals) (regs : Registers) (w : State) (fa : Falls h s) (ag : Agrees h s g l base regs) (few : w.left ≤ n) where
-    abbrev seen : Held → Result (Option Value)
-    seen u = then_do (then_do (the_value u (calls_in k) l w) (λ v. give (lent v) (calls_in k))) (λ v. give (Some v) (calls_in k))
-
-    reads_by : (owned gone : Bool) (x : Entry) (u : Held) → Holds owned gone u → read regs x.register ≡ u → Runs code k out n (if owned then i.Truth h 2 ∷ [] else i.Copy h x.register ∷ []) (In copy h s base g) p regs w (seen u)
-    reads_by true gone x u hold e has = is_stuck code k out n p (p + 1) h (In copy h s base g) regs w (seen u) has
-    reads_by false gone x None hold e has = absurd hold
-    reads_by false gone x (Some v) hold e has = by (copied_or_not v)
-      where
-        by : IsCopied v ⊎ (copied v ≡ None) → Reaches code k out n (p + 1) (In copy h s base g) (conf k p regs w) (seen (Some v))
-        by (inr bad) = copy_wrongs p (p + 1) h x.register (In copy h s base g) regs w v (seen (Some v)) bad e has.0
-        by (inl c) = subst (λ z. Reaches code k out n (p + 1) (In copy h s base g) (conf k p regs w) (goes (Some z) l w)) (sym (lent_same v c))
-            (sets copy p h s g base l regs regs w (i.Copy h x.register) v fa tt ag few has.0
-            (ap (λ o. with_value o w (λ v. gets (active k p regs) h (copied v) regs k.below w)) e ∙ ap (λ o. gets (active k p regs) h o regs k.below w) (copied_same v c)))
-
-    -- a local that is no owner is read
-    pub read_runs : (o : Option Entry) (u : Held) → Meets h s g l o u → Runs code k out n (read_local o h) (In copy h s base g) p regs w (seen u)
-    read_runs None u m has = is_stuck code k out n p (p + 1) h (In copy h s base g) regs w (seen u) has
-    read_runs (Some x) u m has = reads_by x.owned (is_gone x.register g) x u m.1 (ag.each x.register m.0 ∙ m.2 base) has
 
   -- ---- an object is made
 

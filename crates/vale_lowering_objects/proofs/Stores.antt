@@ -1,18 +1,16 @@
 -- The set of a local whose old value isn't used: it is dropped.
-use Rattle.std.proofs.Common.{◌≡◌, ◌≢◌, ℕ, ◌+◌, ◌<◌, ◌≤◌, List, [], ◌∷◌, ◌++◌, length, Option, Some, None, Bool, true, false, ◌&&◌, if◌then◌else◌, refl, sym, ap, ◌∙◌, subst, ◌⊎◌, inl, inr, arith}
+use Rattle.std.proofs.Common.{◌≡◌, ◌≢◌, ℕ, ◌+◌, ◌<◌, ◌≤◌, List, [], ◌∷◌, Option, Some, None, Bool, true, false, ◌&&◌, if◌then◌else◌, refl, sym, ap, ◌∙◌, subst, ◌⊎◌, inl, inr, arith}
 use Rattle.vale_state_spec.specs.Outcome.{Wrong}
 use Rattle.vale_state_spec.specs.State.{State}
 use Rattle.vale_state_spec.specs.World.{Value}
 use Rattle.vale_base.specs.declared.spot.Spot.{Spot}
 use Rattle.vale_rules_spec.specs.Typed.{Function}
 use Rattle.vale_model.specs.Parts.{Parts}
-use Rattle.vale_model.specs.Runs.{Locals, Result, goes, returned, ended, then_do}
+use Rattle.vale_model.specs.Runs.{Locals, Result, goes, ended}
 use Rattle.vale_model.specs.Destruction.{Again, drop, drop_owned}
-use Rattle.vale_code.specs.Frames.{Config}
 use Rattle.vale_code.specs.Instructions.{copied, moved}
 use Rattle.vale_code.specs.Parts.{Parts as Code}
 use Rattle.vale_code.specs.Registers.{Registers, read, put}
-use Rattle.vale_code.specs.declared.instr.Instr.{Instr}
 use Rattle.vale_code.specs.declared.instr.Instr.TheVariants as i
 use Rattle.vale_lowering.proofs.Registers.{Held, Base, with_at, one_above}
 use Rattle.vale_lowering.proofs.Reaches.{Where, conf, calls_in, Post}
@@ -22,7 +20,7 @@ use Rattle.vale_lowering_objects.specs.Lowered.{store_by, store}
 use Rattle.vale_lowering_objects.proofs.Destruction.{IsOwned}
 use Rattle.vale_lowering_objects.proofs.Owes.{Follows}
 use Rattle.vale_lowering_objects.proofs.Registers.{Fits, Holds, Falls, Agrees, agrees_down, Meets, Takes, agrees_taken, top_read, same_truths}
-use Rattle.vale_lowering_objects.proofs.Reaches.{Keeps, Reaches, Runs, is_stuck, comes_reaches, then_reaches, ends_at}
+use Rattle.vale_lowering_objects.proofs.Reaches.{Keeps, Reaches, Runs, is_stuck, then_reaches, ends_at}
 use Rattle.vale_lowering_objects.proofs.Posts.{as_it_is}
 use Rattle.vale_lowering_objects.proofs.Drops.{Without, destroys}
 use Rattle.vale_lowering_objects.proofs.Steps.{IsCopied, copied_or_not, moved_or_not, copy_wrongs, move_wrongs, copies, shifts, put_here, put_other}

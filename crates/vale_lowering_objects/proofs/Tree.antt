@@ -1,53 +1,53 @@
 -- The code of each part of a program does what the part means: by induction on the tree.
-use Rattle.std.proofs.Common.{◌≡◌, ◌≢◌, ℕ, suc, ◌+◌, ◌<◌, ◌≤◌, List, [], ◌∷◌, ◌++◌, length, Option, Some, None, Bool, true, false, not, ◌&&◌, refl, sym, ap, ◌∙◌, subst, ◌⊎◌, inl, inr, arith}
-use Rattle.vale_state_spec.specs.State.{State, load, element, swap, swap_element as swapped_element, make, len, push, pop}
+use Rattle.std.proofs.Common.{◌≡◌, ◌≢◌, ℕ, suc, ◌+◌, ◌<◌, ◌≤◌, List, [], ◌∷◌, ◌++◌, length, Option, Some, None, Bool, true, false, ◌&&◌, refl, sym, ap, ◌∙◌, subst, ◌⊎◌, inl, inr, arith}
+use Rattle.vale_state_spec.specs.State.{State, load, element, swap, swap_element as swapped_element}
 use Rattle.std.specs.Prelude.{slice_get}
 use Rattle.vale_state_spec.specs.World.{Value, Int, Truth, Text}
 use Rattle.vale_base.specs.declared.spot.Spot.{Spot}
-use Rattle.vale_syntax.specs.declared.built_in.BuiltIn.{BuiltIn}
-use Rattle.vale_syntax.specs.declared.built_in.BuiltIn.TheVariants as b
 use Rattle.vale_syntax.specs.declared.tree.NameAt.{NameAt}
 use Rattle.vale_syntax.specs.declared.tree.UnaryOp.TheVariants as unary_op
 use Rattle.vale_text.specs.Operations.{is_int}
 use Rattle.vale_rules_spec.specs.Types as y
 use Rattle.vale_rules_spec.specs.Types.{Ty, Seen, View, is_owned}
-use Rattle.vale_rules_spec.specs.Typed.{Callee, built_in, constructor, function, Function, Expr, expr, Node, set, chain, unary, steps, number, quote, truth, name, call, paren, array, iso, form, Exprs, no_exprs, more_exprs, link, Links, no_links, more_links, Step, field, method, index, Steps, no_steps, more_steps, Form, branch, pure, parallel_range, parallel_each, else_if, Elses, no_else, otherwise, more_elses, Block, block, Stmt, declare, destructure, return_nothing, return_value, while, foreach, form_stmt, express, Stmts, no_stmts, last, more_stmts, type}
-use Rattle.vale_model.specs.Parts.{Parts, kind_of, field_place}
-use Rattle.vale_model.specs.Runs.{Run, Locals, Result, goes, returned, ended, then_do, the_value, valued, give, choose, held_by, with_held, outer, innermost, while_waits, tick, step, ◌>>=◌}
+use Rattle.vale_rules_spec.specs.Typed.{Function, Expr, expr, Node, set, chain, unary, steps, number, quote, truth, name, call, paren, array, iso, form, Exprs, no_exprs, more_exprs, link, Links, no_links, more_links, Step, field, method, index, Steps, no_steps, more_steps, Form, branch, pure, parallel_range, parallel_each, else_if, Elses, no_else, otherwise, more_elses, Block, block, Stmt, declare, destructure, return_nothing, return_value, while, foreach, form_stmt, express, Stmts, no_stmts, last, more_stmts, type}
+use Rattle.vale_model.specs.Parts.{Parts, field_place}
+use Rattle.vale_model.specs.Runs.{Run, Locals, Result, goes, then_do, the_value, valued, give, choose, held_by, with_held, outer, innermost, while_waits, step}
 use Rattle.vale_model.specs.Destruction.{Again, drop, drop_owned, leave, with_local, with_locals}
 use Rattle.vale_model.specs.Loops.{taken_apart}
-use Rattle.vale_model.specs.Expressions.{expr_run, node_run, exprs_run, links_run, link_run, unary_run, form_run, elses_run, block_run, stmts_run, stmt_run, set_run, set_steps, set_step, step_run, steps_run, made, callee_run, built_in_run, numbers_of, expr_spot, on_place}
+use Rattle.vale_model.specs.Expressions.{expr_run, node_run, exprs_run, links_run, link_run, unary_run, form_run, elses_run, block_run, stmts_run, stmt_run, set_run, set_steps, set_step, step_run, steps_run, made, callee_run, numbers_of, expr_spot, on_place}
 use Rattle.vale_code.specs.Instructions.{with_value, with_choice, onward, gets, copied, moved}
 use Rattle.vale_code.specs.Parts.{Parts as Code}
 use Rattle.vale_code.specs.Registers.{Registers, read, put}
 use Rattle.vale_code.specs.declared.instr.Instr.{Instr}
 use Rattle.vale_code.specs.declared.instr.Instr.TheVariants as i
-use Rattle.vale_lowering.specs.Instructions as plain
-use Rattle.vale_lowering.specs.Instructions.{only_if, unary_code, registers_from}
+use Rattle.vale_lowering.specs.Instructions.{unary_code, registers_from}
 use Rattle.vale_lowering.specs.Scopes.{number_of_text}
 use Rattle.vale_lowering.specs.Texts.{is_lawful_text}
 use Rattle.vale_lowering.proofs.Lookups.{text_or_none}
-use Rattle.vale_lowering.proofs.Registers.{Held, Base, with_at, with_all, with_all_below, one_above, pick_other, read_put, Stand, pick_same}
+use Rattle.vale_lowering.proofs.Registers.{Held, Base, with_at, with_all, one_above, pick_other, read_put, pick_same}
 use Rattle.vale_lowering.proofs.Reaches.{Where, active, conf, calls_in, Post, moves, jumps, free_on}
 use Rattle.vale_lowering.proofs.Shapes.{loop_test}
 use Rattle.vale_lowering_objects.specs.Destruction.{SameKinds}
-use Rattle.vale_lowering_objects.specs.Scopes.{Gives, void, copy, owner, gives_of, is_value, is_owner, agree, Entry, Scope, entry, waiting, find, Gone, without, same_gone, After, comes, never, no_run, then_after, met, may_meet, closes, Around}
+use Rattle.vale_lowering_objects.specs.Scopes.{Gives, void, copy, owner, gives_of, is_value, is_owner, agree, Scope, entry, waiting, find, Gone, without, After, comes, never, no_run, then_after, met, may_meet, closes, Around}
 use Rattle.vale_lowering_objects.specs.Changes.{expr_changes, step_changes}
-use Rattle.vale_lowering_objects.specs.Lowered.{Origin, at_hand, reference, then_code, if_comes, turns_code, loop_after, locals_after, locals_code, all_gives, gives_list, first_type, hand, exchange, store, lend_local, from_local, stays_of, step_view, load_field, load_element, swap_field, swap_element, drop_value, drop_entry, drop_scope, move_out, read_local, len_code, built_in_code, make_code, copies_code, is_copied, are_copied, link_after, link_code, links_after, links_code, expr_after, node_after, args_after, start_after, step_after, steps_after, place_after, targets_after, form_after, elses_after, block_after, stmts_after, stmt_after, callee_code, expr_code, node_code, borrow_code, start_code, step_code, steps_code, place_code, targets_code, swap_code, args_code, form_code, elses_code, block_code, stmts_code, stmt_code}
+use Rattle.vale_lowering_objects.specs.Lowered.{Origin, reference, then_code, if_comes, turns_code, loop_after, locals_after, locals_code, all_gives, gives_list, first_type, hand, exchange, store, lend_local, step_view, load_field, load_element, swap_field, swap_element, drop_value, drop_entry, drop_scope, move_out, make_code, link_after, link_code, links_after, links_code, expr_after, node_after, args_after, start_after, step_after, steps_after, place_after, targets_after, form_after, elses_after, block_after, stmts_after, stmt_after, callee_code, expr_code, node_code, borrow_code, start_code, step_code, steps_code, place_code, targets_code, swap_code, args_code, form_code, elses_code, block_code, stmts_code, stmt_code}
 use Rattle.vale_lowering_objects.proofs.Kept.{valued_keeps, expr_keeps, still_holds}
-use Rattle.vale_lowering_objects.proofs.Origins.{some_fits, Starts, Still, still_reference, Out, RestRuns, loads, elements, swaps, swaps_element, lends, pops, pushes, lengths, with_fact, start_value, start_local, then_assoc}
+use Rattle.vale_lowering_objects.proofs.Origins.{some_fits, Still, still_reference, Out, RestRuns, loads, elements, swaps, swaps_element, lends, with_fact, start_value, start_local, then_assoc}
 use Rattle.vale_lowering_objects.proofs.Stores.{stores, replaced}
 use Rattle.vale_lowering_objects.proofs.Destruction.{IsOwned}
 use Rattle.vale_lowering_objects.proofs.Owes.{IsHere, Follows}
 use Rattle.vale_lowering_objects.proofs.Operators.{link_runs, unary_runs}
-use Rattle.vale_lowering_objects.proofs.BuiltIns.{given_by, built_ins as plain_built_ins}
-use Rattle.vale_lowering_objects.proofs.Calls.{call_runs}
 use Rattle.vale_lowering_objects.specs.Program.{IsCode}
-use Rattle.vale_lowering_objects.proofs.Registers.{Fits, Falls, falls_up, Fresh, fresh_above, Agrees, agrees_down, agrees_dest, agrees_once, agrees_more, agrees_met, agrees_push, agrees_pop, agrees_wait, agrees_done, agrees_top, agrees_push_first, owner_is, top_read, takes, meets, empties, stands, all_stand, and_first, and_second, look_above}
-use Rattle.vale_lowering_objects.proofs.Reaches.{Then, In, Val, Put, Keeps, All, as_many, Reaches, Runs, then_reaches, weaker, stays, stays_at, is_stuck, only_if_runs, then_more, joined, joined_last, values, one_after, sides_run, loop_tests, comes_reaches, stops_there, ended_by, returned_by, wrongs}
+use Rattle.vale_lowering_objects.proofs.Registers.{Fits, Falls, falls_up, Fresh, fresh_above, Agrees, agrees_down, agrees_dest, agrees_more, agrees_push, agrees_wait, agrees_done, agrees_top, agrees_push_first, owner_is, top_read, takes, meets, empties, stands, and_first, and_second, look_above}
+use Rattle.vale_lowering_objects.proofs.Reaches.{Then, In, Val, Put, Keeps, All, Reaches, Runs, then_reaches, weaker, stays, stays_at, is_stuck, only_if_runs, then_more, joined, joined_last, values, one_after, sides_run, loop_tests, comes_reaches, stops_there, ended_by, returned_by, wrongs}
 use Rattle.vale_lowering_objects.proofs.Drops.{Without, destroys, entry_runs, leave_runs, leave_void_runs}
-use Rattle.vale_lowering_objects.proofs.Steps.{IsCopied, moved_same, copied_same, copied_or_not, moved_or_not, copy_wrongs, move_wrongs, sets, move_runs, read_runs, make_runs, Came, open_runs, set_runs, changed as set_changed}
-use Rattle.vale_lowering_objects.proofs.Posts.{agree_same, value_some, given_same, in_met, in_keeps, put_in, put_pop, put_top, dropped, given, as_it_is}
+use Rattle.vale_lowering_objects.proofs.Steps.{IsCopied, moved_same, copied_same, copied_or_not, moved_or_not, copy_wrongs, move_wrongs, sets, move_runs, Came, open_runs, set_runs, changed as set_changed}
+use Rattle.vale_lowering_objects.proofs.Freezes.{freezes, keeps_region, thaws, merges}
+use Rattle.vale_state_spec.specs.State.{freeze, thaw, end_of_isolate, isolated}
+use Rattle.vale_model.specs.Runs.{deep}
+use Rattle.vale_model.specs.Expressions.{end_of_block}
+use Rattle.vale_lowering_objects.specs.Lowered.{freeze_code, thaw_code}
+use Rattle.vale_lowering_objects.proofs.Posts.{agree_same, value_some, in_met, in_keeps, put_in, put_pop, put_top, dropped, given, as_it_is}
 use Rattle.vale_lowering_objects.proofs.Callees.{callee_runs, makes}
 
 module _ (code : Code) (functions : List Function) (p0 : Parts) (is_code : IsCode code p0 functions) (k : Where) (out : Gives) (is : IsHere code k) (n : ℕ) (again : Again) (follows : Follows code functions p0 again n) where
@@ -325,8 +325,8 @@ module _ (code : Code) (functions : List Function) (p0 : Parts) (is_code : IsCod
         given code k out n q owner (node_after (name m is_outer true) h s g) (move_out (find m.name.0 s) g h) p h s base regs w (node_run again x (name m is_outer true) (calls_in k) l w)
         (move_runs code k out n p h s g base l (with_held m.name.0 None) regs w fa ag few (find m.name.0 s) (held_by m.name.0 l) (meets m.name.0 h s g l base fa ag.ties) (empties m.name.0 h s g l base fa ag.ties)) has
     node_runs (name m is_outer false) x q p h s g base l regs w fa ag few has =
-        given code k out n q copy (comes g) (read_local (find m.name.0 s) h) p h s base regs w (node_run again x (name m is_outer false) (calls_in k) l w)
-        (read_runs code k out n p h s g base l regs w fa ag few (find m.name.0 s) (held_by m.name.0 l) (meets m.name.0 h s g l base fa ag.ties)) has
+        given code k out n q copy (comes g) (lend_local (find m.name.0 s) g (y.frozen x) h) p h s base regs w (node_run again x (name m is_outer false) (calls_in k) l w)
+        (lends code k out n p h s g base l regs w fa ag few (y.frozen x) (find m.name.0 s) (held_by m.name.0 l) (meets m.name.0 h s g l base fa ag.ties)) has
     node_runs (paren at e) x q p h s g base l regs w fa ag few has =
         given code k out n q (gives_of (type e)) (expr_after e h s g) (expr_code a e p h s g) p h s base regs w (expr_run again e (calls_in k) l w) (expr_runs e p h s g base l regs w fa ag few) has
     node_runs (call m f es) x q p h s g base l regs w fa ag few has =
@@ -402,12 +402,13 @@ module _ (code : Code) (functions : List Function) (p0 : Parts) (is_code : IsCod
         (λ g v l w regs ag few. unary_runs code k out n _ h s g base at v l regs w fa (tt, ag.1) few unary_op.Not))) has
     node_runs (unary at unary_op.Merge e) x q p h s g base l regs w fa ag few has =
         let qe = gives_of (type e) in
-        only_if_runs code k out n (is_value qe && agree q copy) h p _ (Then (expr_after e h s g) (In q h s base)) regs w (node_run again x (unary at unary_op.Merge e) (calls_in k) l w)
+        only_if_runs code k out n (agree owner qe && agree q owner) h p _ (Then (expr_after e h s g) (In q h s base)) regs w (node_run again x (unary at unary_op.Merge e) (calls_in k) l w)
         (λ both.
-        subst (λ z. Ran (then_code p (h + 1) (expr_code a e p h s g) (expr_after e h s g) (λ place g. unary_code unary_op.Merge at h)) (Then (expr_after e h s g) (In z h s base)) p regs w (node_run again x (unary at unary_op.Merge e) (calls_in k) l w)) (sym (agree_same q copy (and_second (is_value qe) (agree q copy) both)))
-        (joined_last code k out n (expr_after e h s g) (h + 1) (expr_code a e p h s g) (λ place g. unary_code unary_op.Merge at h) (Val qe h s base) (In copy h s base) p regs w (valued (expr_run again e) (calls_in k) l w) (λ v. unary_run at unary_op.Merge v (calls_in k))
-        (value_runs e (and_first (is_value qe) (agree q copy) both) p h s g base l regs w fa ag few)
-        (λ g v l w regs ag few. unary_runs code k out n _ h s g base at v l regs w fa (tt, ag.1) few unary_op.Merge))) has
+        let is_owned_value = ap is_value (sym (agree_same owner qe (and_first (agree owner qe) (agree q owner) both))) in
+        subst (λ z. Ran (then_code p (h + 1) (expr_code a e p h s g) (expr_after e h s g) (λ place g. i.Merge h h ∷ [])) (Then (expr_after e h s g) (In z h s base)) p regs w (node_run again x (unary at unary_op.Merge e) (calls_in k) l w)) (sym (agree_same q owner (and_second (agree owner qe) (agree q owner) both)))
+        (joined_last code k out n (expr_after e h s g) (h + 1) (expr_code a e p h s g) (λ place g. i.Merge h h ∷ []) (Val qe h s base) (In owner h s base) p regs w (valued (expr_run again e) (calls_in k) l w) (λ v. unary_run at unary_op.Merge v (calls_in k))
+        (value_runs e is_owned_value p h s g base l regs w fa ag few)
+        (λ g1 v l1 w1 regs1 ag few. merges code k out n at (p + length (expr_code a e p h s g)) h s g1 base l1 regs1 w1 fa few v ag.1))) has
     node_runs (unary at unary_op.Borrow (expr y node)) x q p h s g base l regs w fa ag few has =
         given code k out n q copy (node_after node h s g) (borrow_code a (expr y node) p h s g) p h s base regs w (node_run again x (unary at unary_op.Borrow (expr y node)) (calls_in k) l w)
         (borrows y node p h s g base l regs w fa ag few (node_runs node y.value copy p h s g base l regs w fa ag few)) has
@@ -415,7 +416,19 @@ module _ (code : Code) (functions : List Function) (p0 : Parts) (is_code : IsCod
         only_if_runs code k out n (agree q copy && is_lawful_text text) h p _ (In q h s base g) regs w (goes (Some (Text text)) l w)
         (λ both. subst (λ z. Ran (i.Text h (number_of_text text code.texts) ∷ []) (In z h s base g) p regs w (goes (Some (Text text)) l w)) (sym (agree_same q copy (and_first (agree q copy) (is_lawful_text text) both)))
         (text_runs text p h s g base l regs w fa ag few)) has
-    node_runs (iso at b) x q p h s g base l regs w fa ag few has = is_stuck code k out n p (p + 1) h (Then (comes g) (In q h s base)) regs w (node_run again x (iso at b) (calls_in k) l w) has
+    node_runs (iso at b) x q p h s g base l regs w fa ag few has =
+        let part = λ (place : ℕ). block_code a owner b place h (h + 1) s g in
+        let o = block_after b (h + 1) s g in
+        let run = block_run again b in
+        let ends = λ (v : Option Value) (l : Locals) (w : State). goes v l (thaw (end_of_isolate v) w) in
+        let gives_isolate = λ (v : Option Value) (l : Locals) (w : State). goes (isolated v) l w in
+        given code k out n q owner o (freeze_code at p part o (i.ThawKeep h h ∷ [])) p h s base regs w (node_run again x (iso at b) (calls_in k) l w)
+        (subst (λ r. Ran (freeze_code at p part o (i.ThawKeep h h ∷ [])) (Then o (In owner h s base)) p regs w r)
+        (sym (then_assoc code k out n (deep 1 at (calls_in k) l w) (λ u l w. then_do (run (calls_in k) l (freeze w)) ends) gives_isolate))
+        (freezes code k out n owner owner at p h s base l regs w part o (i.ThawKeep h h ∷ []) (run (calls_in k) l (freeze w)) (λ v l w. goes (isolated v) l (thaw (end_of_isolate v) w)) (λ l w. then_do (then_do (run (calls_in k) l (freeze w)) ends) gives_isolate)
+        (then_assoc code k out n (run (calls_in k) l (freeze w)) ends gives_isolate)
+        (λ has. in_block b owner (p + 1) h s g base l regs (freeze w) fa (block_runs b owner (p + 1) h (h + 1) s g (with_at h (read regs h) base) l regs (freeze w) (falls_up s h (h + 1) (omega arith) fa) (omega arith) (fresh_above s h h fa (omega arith)) (agrees_more s g l base h regs fa ag) few has))
+        (λ g v l w regs z ag few. keeps_region code k out n at z h s g base l regs w fa few v ag))) has
 
     -- a step from where it starts; its value goes to h
     step_runs : (z : Step) (o : Origin) (v : Value) (p h free : ℕ) (s : Scope) (g : Gone) (base base' : Base) (l : Locals) (regs : Registers) (w : State) → Falls h s → h ≤ free → ((r : ℕ) → r < h → base' r ≡ base r) → Agrees free s g l base' regs → Still o v (λ m. step_changes m z) free s base' l → w.left ≤ n → Ran (step_code a o z p h free s g) (Then (step_after z free s g) (In copy h s base)) p regs w (step_run again v z (calls_in k) l w)
@@ -590,7 +603,7 @@ module _ (code : Code) (functions : List Function) (p0 : Parts) (is_code : IsCod
         at x.value v l regs w fa ag few op has) (λ x. x))
         (λ g u l w regs ag few. links_runs ls u _ h s g base l regs w fa ag few)) has
 
-    form_runs : (f : Form) (x : Ty) (q : Gives) (p h : ℕ) (s : Scope) (g : Gone) (base : Base) (l : Locals) (regs : Registers) (w : State) → Falls h s → Agrees h s g l base regs → w.left ≤ n → Ran (form_code a q f p h s g) (Then (form_after f h s g) (In q h s base)) p regs w (form_run again x f (calls_in k) l w)
+    form_runs : (f : Form) (x : Ty) (q : Gives) (p h : ℕ) (s : Scope) (g : Gone) (base : Base) (l : Locals) (regs : Registers) (w : State) → Falls h s → Agrees h s g l base regs → w.left ≤ n → Ran (form_code a x q f p h s g) (Then (form_after f h s g) (In q h s base)) p regs w (form_run again x f (calls_in k) l w)
     form_runs (branch at c b es) x q p h s g base l regs w fa ag few has =
         let o = λ (now : Gone). met g (block_after b (h + 1) s now) (elses_after es g h s now) in
         only_if_runs code k out n (is_value (gives_of (type c))) h p _ (Then (then_after (expr_after c h s g) o) (In q h s base)) regs w (form_run again x (branch at c b es) (calls_in k) l w)
@@ -605,7 +618,14 @@ module _ (code : Code) (functions : List Function) (p0 : Parts) (is_code : IsCod
         (top_read s now l base h (h + 1) (Some v) regs fa (omega arith) ag.1)
         (λ is place has. in_block b q place h s now base l regs w fa (block_runs b q place h (h + 1) s now (with_at h (read regs h) base) l regs w (falls_up s h (h + 1) (omega arith) fa) (omega arith) (fresh_above s h h fa (omega arith)) (agrees_more s now l base h regs fa down) few has))
         (λ is place. elses_runs es g q place h s now base l regs w fa down few)))) has
-    form_runs (pure at b) x q p h s g base l regs w fa ag few has = is_stuck code k out n p (p + 1) h (Then (comes g) (In q h s base)) regs w (form_run again x (pure at b) (calls_in k) l w) has
+    form_runs (pure at b) x q p h s g base l regs w fa ag few has =
+        let part = λ (place : ℕ). block_code a q b place h (h + 1) s g in
+        let o = block_after b (h + 1) s g in
+        let run = block_run again b in
+        let ends = λ (v : Option Value) (l : Locals) (w : State). goes v l (thaw (end_of_block (y.is_owner x)) w) in
+        freezes code k out n q q at p h s base l regs w part o (thaw_code (y.is_owner x) q h) (run (calls_in k) l (freeze w)) ends (λ l w. then_do (run (calls_in k) l (freeze w)) ends) refl
+        (λ has. in_block b q (p + 1) h s g base l regs (freeze w) fa (block_runs b q (p + 1) h (h + 1) s g (with_at h (read regs h) base) l regs (freeze w) (falls_up s h (h + 1) (omega arith) fa) (omega arith) (fresh_above s h h fa (omega arith)) (agrees_more s g l base h regs fa ag) few has))
+        (λ g v l w regs z ag few. thaws code k out n at z h s g base l regs w fa few (y.is_owner x) q v ag) has
     form_runs (parallel_range at m e f b) x q p h s g base l regs w fa ag few has = is_stuck code k out n p (p + 1) h (Then (comes g) (In q h s base)) regs w (form_run again x (parallel_range at m e f b) (calls_in k) l w) has
     form_runs (parallel_each at m e b) x q p h s g base l regs w fa ag few has = is_stuck code k out n p (p + 1) h (Then (comes g) (In q h s base)) regs w (form_run again x (parallel_each at m e b) (calls_in k) l w) has
 

@@ -1,10 +1,10 @@
 -- The code of a whole program: its texts, its kinds and its functions.
-use Rattle.std.specs.Prelude.{ℕ, suc, ◌+◌, max, Bool, true, false, ◌&&◌, ◌==◌, List, [], ◌∷◌, ◌++◌, length, map, flat_map, Option, Some, None, codes, option_map, if◌then◌else◌}
-use Rattle.vale_syntax.specs.Tree.{FieldDecl, field_decl, Head, head, Param}
+use Rattle.std.specs.Prelude.{ℕ, suc, ◌+◌, max, Bool, ◌&&◌, ◌==◌, List, [], ◌∷◌, ◌++◌, length, map, flat_map, Option, Some, None, codes, option_map, if◌then◌else◌}
+use Rattle.vale_syntax.specs.Tree.{FieldDecl, field_decl, Head, head}
 use Rattle.vale_rules_spec.specs.Declarations.{head_params, head_name, param_type}
 use Rattle.vale_rules_spec.specs.Types.{Ty, type_of, result_of}
 use Rattle.vale_rules_spec.specs.Types as y
-use Rattle.vale_rules_spec.specs.Typed.{Function, Item, struct_item, interface_item, Typed}
+use Rattle.vale_rules_spec.specs.Typed.{Function, Item, interface_item, Typed}
 use Rattle.vale_model.specs.Kinds.{head_of}
 use Rattle.vale_model.specs.Parts.{Parts, parts_of, name_text, name_of, functions_of, has_text, takes_struct, fields_in, is_pure}
 use Rattle.vale_code.specs.Operands.{room_for}

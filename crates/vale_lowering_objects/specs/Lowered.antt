@@ -6,11 +6,10 @@ use Rattle.vale_syntax.specs.declared.built_in.BuiltIn.TheVariants as b
 use Rattle.vale_syntax.specs.declared.tree.NameAt.{NameAt}
 use Rattle.vale_syntax.specs.declared.tree.BinaryOp.{BinaryOp}
 use Rattle.vale_syntax.specs.declared.tree.BinaryOp.TheVariants as op
-use Rattle.vale_syntax.specs.declared.tree.UnaryOp.{UnaryOp}
 use Rattle.vale_syntax.specs.declared.tree.UnaryOp.TheVariants as unary_op
 use Rattle.vale_text.specs.Operations.{is_int}
 use Rattle.vale_rules_spec.specs.Types as y
-use Rattle.vale_rules_spec.specs.Typed.{Callee, built_in, constructor, function, Expr, expr, Node, set, chain, unary, steps, number, quote, truth, name, call, paren, array, iso, form, Function, Exprs, no_exprs, more_exprs, link, Links, no_links, more_links, Step, field, method, index, Steps, no_steps, more_steps, Form, branch, else_if, Elses, no_else, otherwise, more_elses, Block, block, Stmt, declare, destructure, return_nothing, return_value, while, form_stmt, express, Stmts, no_stmts, last, more_stmts, type}
+use Rattle.vale_rules_spec.specs.Typed.{Callee, built_in, constructor, function, Expr, expr, Node, set, chain, unary, steps, number, quote, truth, name, call, paren, array, iso, form, Function, Exprs, no_exprs, more_exprs, link, Links, no_links, more_links, Step, field, method, index, Steps, no_steps, more_steps, Form, branch, pure, else_if, Elses, no_else, otherwise, more_elses, Block, block, Stmt, declare, destructure, return_nothing, return_value, while, form_stmt, express, Stmts, no_stmts, last, more_stmts, type}
 use Rattle.vale_syntax.specs.Tree.{Param}
 use Rattle.vale_rules_spec.specs.Declarations.{head_params, param_type}
 use Rattle.vale_rules_spec.specs.Types.{type_of}
@@ -84,6 +83,7 @@ abbrev mutual
   node_after (set at p e) h s g = then_after (expr_after e h s g) (λ g. place_after p (gives_of (type e)) h s g)
   node_after (steps e (more_steps x xs)) h s g =
       then_after (start_after e (step_view x) (λ n. step_changes n x) h s g (λ k g. step_after x k s g)) (λ g. steps_after xs h s g)
+  node_after (iso at b) h s g = block_after b (h + 1) s g
   node_after _ h s g = comes g
 
   -- what a first step starts from, and what is done then with the first free register
@@ -127,6 +127,7 @@ abbrev mutual
 
   pub form_after : Form → ℕ → Scope → Gone → After
   form_after (branch at c b es) h s g = then_after (expr_after c h s g) (λ now. met g (block_after b (h + 1) s now) (elses_after es g h s now))
+  form_after (pure at b) h s g = block_after b (h + 1) s g
   form_after _ h s g = comes g
 
   -- with what was gone before the `if`
@@ -202,10 +203,16 @@ abbrev pub move_out : Option Entry → Gone → ℕ → List Instr
 move_out None g h = stuck h
 move_out (Some x) g h = if x.owned then (if is_gone x.register g then stuck h else i.Move h x.register ∷ []) else stuck h
 
--- a local that is no owner is read
-abbrev pub read_local : Option Entry → ℕ → List Instr
-read_local None h = stuck h
-read_local (Some x) h = if x.owned then stuck h else i.Copy h x.register ∷ []
+-- ---- freezes
+
+-- A part whose value goes to h runs in a region of its own, and what ends the region stands after it, where a run comes.
+abbrev pub freeze_code : Spot → ℕ → (ℕ → List Instr) → After → List Instr → List Instr
+freeze_code at place part after ends = i.Freeze at ∷ if_comes (place + 1) (part (place + 1)) after (λ place g. ends)
+
+-- by what a `pure` block gives: an owner's objects join the region around
+abbrev pub thaw_code : Bool → Gives → ℕ → List Instr
+thaw_code true gives h = only_if (agree gives owner) h (i.ThawMerge h h ∷ [])
+thaw_code false gives h = i.ThawClear ∷ []
 
 -- ---- steps
 
@@ -396,19 +403,22 @@ abbrev mutual
       only_if (is_value (gives_of (type e)) && agree gives copy) h
       (then_code place (h + 1) (expr_code around e place h s g) (expr_after e h s g) (λ place g. links_code around ls place h s g))
   node_code around x gives (unary at unary_op.Borrow e) place h s g = only_if (agree gives copy) h (borrow_code around e place h s g)
+  node_code around x gives (unary at unary_op.Merge e) place h s g =
+      only_if (agree owner (gives_of (type e)) && agree gives owner) h
+      (then_code place (h + 1) (expr_code around e place h s g) (expr_after e h s g) (λ place g. i.Merge h h ∷ []))
   node_code around x gives (unary at op e) place h s g =
       only_if (is_value (gives_of (type e)) && agree gives copy) h
       (then_code place (h + 1) (expr_code around e place h s g) (expr_after e h s g) (λ place g. unary_code op at h))
   node_code around x gives (truth at b) place h s g = only_if (agree gives copy) h (i.Truth h (truth_number b) ∷ [])
   node_code around x gives (name n is_outer true) place h s g = only_if (agree gives owner) h (move_out (find n.name.0 s) g h)
-  node_code around x gives (name n is_outer false) place h s g = only_if (agree gives copy) h (read_local (find n.name.0 s) h)
+  node_code around x gives (name n is_outer false) place h s g = only_if (agree gives copy) h (lend_local (find n.name.0 s) g (y.frozen x) h)
   node_code around x gives (paren at e) place h s g = only_if (agree gives (gives_of (type e))) h (expr_code around e place h s g)
   node_code around x gives (call n f es) place h s g =
       then_code place (h + length (gives_list es)) (args_code around es place h s g) (args_after es h s g)
       (λ place g. callee_code around gives n f (first_type es) (gives_list es) h)
   node_code around x gives (array at t es) place h s g =
       then_code place (h + length (gives_list es)) (args_code around es place h s g) (args_after es h s g) (λ place g. make_code around.parts gives x (gives_list es) h)
-  node_code around x gives (form f) place h s g = form_code around gives f place h s g
+  node_code around x gives (form f) place h s g = form_code around x gives f place h s g
   -- the new value waits; the old one comes out
   node_code around x gives (set at p e) place h s g =
       only_if (is_value (gives_of (type e)) && agree gives (gives_of (type e))) h
@@ -418,7 +428,9 @@ abbrev mutual
       (then_code place (h + 1) (start_code around e (step_view y) (λ n. step_changes n y) place h s g (λ o place k g. step_code around o y place h k s g))
       (start_after e (step_view y) (λ n. step_changes n y) h s g (λ k g. step_after y k s g)) (λ place g. steps_code around ys place h s g))
   node_code around x gives (steps e no_steps) place h s g = stuck h
-  node_code around x gives (iso at b) place h s g = stuck h
+  -- the block's owner becomes an isolate
+  node_code around x gives (iso at b) place h s g =
+      only_if (agree gives owner) h (freeze_code at place (λ place. block_code around owner b place h (h + 1) s g) (block_after b (h + 1) s g) (i.ThawKeep h h ∷ []))
 
   -- a reference to a place
   pub borrow_code : Around → Expr → ℕ → ℕ → Scope → Gone → List Instr
@@ -490,13 +502,16 @@ abbrev mutual
       (then_code place (h + 1) (link_code op x.value at (λ place h g. expr_code around e place h s g) (λ h g. expr_after e h s g) place h s g)
       (link_after op (λ h g. expr_after e h s g) h g) (λ place g. links_code around ls place h s g))
 
-  pub form_code : Around → Gives → Form → ℕ → ℕ → Scope → Gone → List Instr
-  form_code around gives (branch at c b es) place h s g =
+  -- of this type
+  pub form_code : Around → y.Ty → Gives → Form → ℕ → ℕ → Scope → Gone → List Instr
+  form_code around x gives (branch at c b es) place h s g =
       only_if (is_value (gives_of (type c))) h
       (then_code place (h + 1) (expr_code around c place h s g) (expr_after c h s g) (λ place now.
       only_if (may_meet s (block_after b (h + 1) s now) (elses_after es g h s now)) h
       (sides place h (block_after b (h + 1) s now) (λ place. block_code around gives b place h (h + 1) s now) (λ place. elses_code around gives es g place h s now))))
-  form_code around gives _ place h s g = stuck h
+  form_code around x gives (pure at b) place h s g =
+      freeze_code at place (λ place. block_code around gives b place h (h + 1) s g) (block_after b (h + 1) s g) (thaw_code (y.is_owner x) gives h)
+  form_code around x gives _ place h s g = stuck h
 
   pub elses_code : Around → Gives → Elses → Gone → ℕ → ℕ → Scope → Gone → List Instr
   elses_code around gives no_else before place h s g = only_if (agree gives void) h []
@@ -535,7 +550,7 @@ abbrev mutual
   stmt_code around (return_value at e) place h s g =
       only_if (is_value (gives_of (type e)) && agree around.gives (gives_of (type e))) h
       (if_comes place (expr_code around e place h s g) (expr_after e h s g) (λ place g. drop_scope s g at ++ (i.Ret h ∷ [])))
-  stmt_code around (form_stmt f) place h s g = form_code around void f place h s g
+  stmt_code around (form_stmt f) place h s g = form_code around y.void void f place h s g
   -- neither the test nor the body moves what the next turn would find
   stmt_code around (while at c b) place h s g =
       only_if (is_value (gives_of (type c)) && (closes s g (expr_after c h s g) && closes s g (block_after b (h + 1) s g))) h
