@@ -2,6 +2,7 @@ mod BuiltIns
 mod Callees
 mod Calls
 mod Codes
+mod Counts
 mod Destruction
 mod Drops
 mod Freezes

@@ -280,7 +280,7 @@ module _ (code : Parts) (k : Where) (out : Gives) (n : ℕ) where
   -- ---- loops
 
   -- a tick, and what goes on with one less
-  ticks : {A : Type 0} (p q : ℕ) (post : Post A) (regs : Registers) (l : Locals) (w : State) (go : Run A) → fetch code k.function p ≡ Some i.Tick → w.left ≤ n → ((u : State) → u.left < n → Reaches q post (conf k (p + 1) regs u) (go (calls_in k) l u)) → Reaches q post (conf k p regs w) ((tick >>= (λ _. go)) (calls_in k) l w)
+  pub ticks : {A : Type 0} (p q : ℕ) (post : Post A) (regs : Registers) (l : Locals) (w : State) (go : Run A) → fetch code k.function p ≡ Some i.Tick → w.left ≤ n → ((u : State) → u.left < n → Reaches q post (conf k (p + 1) regs u) (go (calls_in k) l u)) → Reaches q post (conf k p regs w) ((tick >>= (λ _. go)) (calls_in k) l w)
   ticks p q post regs l w go e few rest = by_left w.left refl
     where
       ticks_of : Option State → Next
