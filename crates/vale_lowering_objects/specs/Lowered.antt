@@ -1,5 +1,6 @@
 -- The code of a program with owners; what has no code yet is lowered to an instruction that no step follows.
-use Rattle.std.specs.Prelude.{ℕ, ◌+◌, pos, codes, Bool, true, false, not, ◌&&◌, ◌||◌, List, [], ◌∷◌, ◌++◌, length, Option, Some, None, if◌then◌else◌}
+use Rattle.std.specs.Prelude.{ℕ, ◌+◌, nat_le, pos, codes, Bool, true, false, not, ◌&&◌, ◌||◌, List, [], ◌∷◌, ◌++◌, length, Option, Some, None, if◌then◌else◌}
+use Rattle.vale_base.specs.Limits.{width_limit}
 use Rattle.vale_base.specs.declared.spot.Spot.{Spot}
 use Rattle.vale_syntax.specs.declared.built_in.BuiltIn.{BuiltIn}
 use Rattle.vale_syntax.specs.declared.built_in.BuiltIn.TheVariants as b
@@ -384,9 +385,9 @@ built_in_code b.Pop x (r ∷ []) q at h = only_if (is_value q) h (i.Pop h h at �
 built_in_code b.Pop x _ q at h = stuck h
 built_in_code f x qs q at h = copies_code f qs q at h
 
--- an object of this type is made of values
+-- an object of this type is made of values, of no more than an array may have
 abbrev pub make_code : Parts → Gives → y.Ty → List Gives → ℕ → List Instr
-make_code p gives x values h = only_if (agree gives owner) h (i.Make h (kind_of p x) (registers_from h (length values)) ∷ [])
+make_code p gives x values h = only_if (agree gives owner && nat_le (length values) width_limit) h (i.Make h (kind_of p x) (registers_from h (length values)) ∷ [])
 
 abbrev pub callee_code : Around → Gives → NameAt → Callee → y.Ty → List Gives → ℕ → List Instr
 callee_code around gives n (built_in f) x values h = built_in_code f x values gives n.at h
