@@ -571,9 +571,10 @@ abbrev mutual
       only_if (is_value (gives_of (type a)) && is_value (gives_of (type e))) h
       (then_code place (h + 1) (expr_code around a place h s g) (expr_after a h s g) (λ place g.
       then_code place (h + 2) (expr_code around e place (h + 1) s g) (expr_after e (h + 1) s g) (λ place g.
-      let inner = entry n.name.0 (h + 2) copy ∷ s in
-      let after = block_after b (h + 3) inner (without (h + 2) g) in
-      only_if (closes s g after) h (count_code place h at after (λ place. block_code around void b place h (h + 3) inner (without (h + 2) g))))))
+      let r = h + 2 in
+      let inner = entry n.name.0 r copy ∷ s in
+      let after = block_after b (r + 1) inner (without r g) in
+      only_if (closes s g after) h (count_code place h at after (λ place. block_code around void b place h (r + 1) inner (without r g))))))
   -- a value that isn't used is dropped; so the old value of a local that is set
   stmt_code around (express (expr x (set at (expr y (name n is_outer moved)) e))) place h s g =
       only_if (is_value (gives_of (type e)) && agree (gives_of x.value) (gives_of (type e))) h
