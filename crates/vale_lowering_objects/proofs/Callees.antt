@@ -1,5 +1,6 @@
 -- Calls of functions, of built-in functions and of constructors.
-use Rattle.std.proofs.Common.{◌≡◌, ℕ, ◌+◌, ◌≤◌, List, [], ◌∷◌, length, Some, true, not, ◌&&◌, refl, sym, subst, arith}
+use Rattle.std.proofs.Common.{◌≡◌, ℕ, ◌+◌, ◌≤◌, List, [], ◌∷◌, length, Some, true, not, ◌&&◌, nat_le, refl, sym, subst, arith}
+use Rattle.vale_base.specs.Limits.{width_limit}
 use Rattle.vale_state_spec.specs.State.{State, make, len, push, pop}
 use Rattle.vale_state_spec.specs.World.{Value}
 use Rattle.vale_base.specs.declared.spot.Spot.{Spot}
@@ -22,18 +23,18 @@ use Rattle.vale_lowering.specs.Instructions.{only_if, unary_code, registers_from
 use Rattle.vale_lowering.proofs.Registers.{Base, with_at, with_all, with_all_below, one_above, Stand}
 use Rattle.vale_lowering.proofs.Reaches.{Where, conf, calls_in, Post}
 use Rattle.vale_lowering_objects.specs.Destruction.{SameKinds}
-use Rattle.vale_lowering_objects.specs.Scopes.{Gives, void, copy, owner, is_value, is_owner, Scope, Gone, comes, Around}
+use Rattle.vale_lowering_objects.specs.Scopes.{Gives, void, copy, owner, is_value, is_owner, agree, Scope, Gone, comes, Around}
 use Rattle.vale_lowering_objects.specs.Lowered.{len_code, built_in_code, make_code, copies_code, is_copied, are_copied, callee_code}
 use Rattle.vale_lowering_objects.proofs.Origins.{pops, pushes, lengths}
 use Rattle.vale_lowering_objects.proofs.Owes.{IsHere, Follows}
 use Rattle.vale_lowering_objects.proofs.BuiltIns.{built_ins as plain_built_ins}
 use Rattle.vale_lowering_objects.proofs.Calls.{call_runs}
 use Rattle.vale_lowering_objects.specs.Program.{IsCode}
-use Rattle.vale_lowering_objects.proofs.Registers.{Falls, Agrees, agrees_down, top_read, all_stand, and_second}
+use Rattle.vale_lowering_objects.proofs.Registers.{Falls, Agrees, agrees_down, top_read, all_stand, and_first, and_second}
 use Rattle.vale_lowering_objects.proofs.Reaches.{In, All, as_many, Runs, weaker, is_stuck, only_if_runs}
 use Rattle.vale_lowering_objects.proofs.Drops.{Without, destroys}
 use Rattle.vale_lowering_objects.proofs.Steps.{make_runs}
-use Rattle.vale_lowering_objects.proofs.Posts.{given_same, dropped, given}
+use Rattle.vale_lowering_objects.proofs.Posts.{agree_same, given_same, dropped, given}
 
 module _ (code : Code) (functions : List Function) (p0 : Parts) (is_code : IsCode code p0 functions) (k : Where) (out : Gives) (is : IsHere code k) (n : ℕ) (again : Again) (follows : Follows code functions p0 again n) where
   abbrev kinds : SameKinds code functions p0

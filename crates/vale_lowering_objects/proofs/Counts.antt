@@ -265,9 +265,9 @@ module _ (code : Parts) (k : Where) (out : Gives) (n : ℕ) where
 
       -- a number beyond int, which no run on lawful input holds
       beyond : (r : ℕ) (x : ℤ) → read regs r ≡ Some (Int x) → is_int x ≡ false → LawfulConfig (conf k p regs w) → ⊥
-      beyond r x e no held =
+      beyond r x e outside held =
           let is : is_int x ≡ true = subst LawfulHeld e (read_lawful regs r held.0) in
-          let both : true ≡ false = sym is ∙ no in
+          let both : true ≡ false = sym is ∙ outside in
           cc
 
       from_numbers : BodyRuns → (x y : ℤ) (b c : Bool) → is_int x ≡ b → is_int y ≡ c → Agrees top s g l (counted (Int x) (Int y)) regs → Owed (Int x) (Int y)

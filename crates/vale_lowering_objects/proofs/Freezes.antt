@@ -22,6 +22,7 @@ use Rattle.vale_lowering_objects.specs.Lowered.{freeze_code, thaw_code, if_comes
 use Rattle.vale_lowering_objects.proofs.Origins.{Yields, surely_yields}
 use Rattle.vale_lowering_objects.proofs.Posts.{agree_same}
 use Rattle.vale_lowering_objects.proofs.Reaches.{Then, In, Reaches, NextReaches, Runs, wrongs, by_next, ends_at, ended_by, only_if_runs}
+use Rattle.vale_lowering_objects.proofs.Ways.{moves}
 use Rattle.vale_lowering_objects.proofs.Registers.{Falls, Agrees, agrees_put, agrees_down, top_read}
 use Rattle.vale_lowering_objects.proofs.Steps.{keeping}
 

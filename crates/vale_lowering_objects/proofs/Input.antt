@@ -64,11 +64,11 @@ number_lawful before place (Ok z) (Ok zs) f h = let few = h.1 in (both (is_int z
 
 numbers_lawful : (before : ℕ) (ws : List Piece) → before ≤ width_limit → LawfulNumbers before (numbers_in before ws)
 numbers_lawful before [] le = (refl, omega (arith, le))
-numbers_lawful before (w ∷ ws) le = by (before == width_limit) refl
+numbers_lawful before (w ∷ ws) le = by (before == width_limit) refl (λ less. numbers_lawful (suc before) ws less)
   where
-    by : (b : Bool) → (before == width_limit) ≡ b → LawfulNumbers before (if b then Err w.place else number_at w.place (number w.bytes) (numbers_in (suc before) ws))
-    by true e = tt
-    by false e = number_lawful before w.place (number w.bytes) (numbers_in (suc before) ws) (number_gives w.bytes) (numbers_lawful (suc before) ws (grind (arith, e, le)))
+    by : (b : Bool) → (before == width_limit) ≡ b → (suc before ≤ width_limit → LawfulNumbers (suc before) (numbers_in (suc before) ws)) → LawfulNumbers before (if b then Err w.place else number_at w.place (number w.bytes) (numbers_in (suc before) ws))
+    by true e rest = tt
+    by false e rest = number_lawful before w.place (number w.bytes) (numbers_in (suc before) ws) (number_gives w.bytes) (rest (grind (arith, e, le)))
 
 -- ---- lines
 
@@ -87,14 +87,11 @@ onto_bytes place c (l ∷ ls) e h = (both (is_byte c) (list_all is_byte l.bytes)
 
 lines_bytes : (place : ℕ) (cs : List ℕ) → list_all is_byte cs ≡ true → OfBytes (lines_from place cs)
 lines_bytes place [] e = tt
-lines_bytes place (c ∷ cs) e = by (c == 10)
+lines_bytes place (c ∷ cs) e = by (c == 10) (lines_bytes (suc place) cs (and_second (is_byte c) (list_all is_byte cs) e))
   where
-    rest : OfBytes (lines_from (suc place) cs)
-    rest = lines_bytes (suc place) cs (and_second (is_byte c) (list_all is_byte cs) e)
-
-    by : (b : Bool) → OfBytes (if b then (record { place = place; bytes = [] } ∷ lines_from (suc place) cs) else onto_line place c (lines_from (suc place) cs))
-    by true = (refl, rest)
-    by false = onto_bytes place c (lines_from (suc place) cs) (and_first (is_byte c) (list_all is_byte cs) e) rest
+    by : (b : Bool) → OfBytes (lines_from (suc place) cs) → OfBytes (if b then (record { place = place; bytes = [] } ∷ lines_from (suc place) cs) else onto_line place c (lines_from (suc place) cs))
+    by true rest = (refl, rest)
+    by false rest = onto_bytes place c (lines_from (suc place) cs) (and_first (is_byte c) (list_all is_byte cs) e) rest
 
 line_lawful : (before : ℕ) (t : List ℕ) (rest : Result (List (List ℕ)) ℕ) → is_lawful_text t ≡ true → LawfulLines (suc before) rest → LawfulLines before (before_lines t rest)
 line_lawful before t (Err at) e h = tt
@@ -102,14 +99,14 @@ line_lawful before t (Ok ts) e h = let few = h.1 in (both (is_lawful_text t) (li
 
 lines_lawful : (before : ℕ) (ls : List Piece) → before ≤ width_limit → OfBytes ls → LawfulLines before (lines_in before ls)
 lines_lawful before [] le h = (refl, omega (arith, le))
-lines_lawful before (l ∷ ls) le h = by (before == width_limit) (nat_lt text_limit (length l.bytes)) refl refl
+lines_lawful before (l ∷ ls) le h = by (before == width_limit) (nat_lt text_limit (length l.bytes)) refl refl (λ less. lines_lawful (suc before) ls less h.1)
   where
-    by : (b c : Bool) → (before == width_limit) ≡ b → nat_lt text_limit (length l.bytes) ≡ c → LawfulLines before (if b || c then Err l.place else before_lines l.bytes (lines_in (suc before) ls))
-    by true c e f = tt
-    by false true e f = tt
-    by false false e f =
+    by : (b c : Bool) → (before == width_limit) ≡ b → nat_lt text_limit (length l.bytes) ≡ c → (suc before ≤ width_limit → LawfulLines (suc before) (lines_in (suc before) ls)) → LawfulLines before (if b || c then Err l.place else before_lines l.bytes (lines_in (suc before) ls))
+    by true c e f rest = tt
+    by false true e f rest = tt
+    by false false e f rest =
         line_lawful before l.bytes (lines_in (suc before) ls) (both (nat_le (length l.bytes) text_limit) (list_all is_byte l.bytes) (grind (arith, f)) h.0)
-        (lines_lawful (suc before) ls (grind (arith, e, le)) h.1)
+        (rest (grind (arith, e, le)))
 
 -- ---- the whole input
 

@@ -1,5 +1,5 @@
 -- From configuration to configuration: what is held stays lawful. What a run on lawful input can't come to is as good as going wrong.
-use Rattle.std.proofs.Common.{◌≡◌, ℕ, suc, ◌≤◌, List, ◌∷◌, Option, Some, None, refl, ap, ◌∙◌, subst, ◌⊎◌, inl, inr}
+use Rattle.std.proofs.Common.{◌≡◌, ℕ, suc, ◌≤◌, List, [], ◌∷◌, Option, Some, None, true, refl, ap, ◌∙◌, subst, ◌⊎◌, inl, inr}
 use Rattle.vale_state_spec.specs.Outcome.{End, Done, Wrong}
 use Rattle.vale_state_spec.specs.State.{State}
 use Rattle.vale_state_spec.specs.World.{Value}
@@ -32,12 +32,12 @@ Leaves code [] to c v w = Stops code c Done w
 Leaves code (f ∷ below) to c v w = Comes code c (record { top = resume to v f; below = below; state = w })
 
 -- what comes back of a call to the frame that goes on after it
-abbrev pub CameBack : Code → ℕ → Locals → Gives → Option ℕ → Frame → List Frame → Config → Result (Option Value) → Type 0
+abbrev pub CameBack : Parts → ℕ → Locals → Gives → Option ℕ → Frame → List Frame → Config → Result (Option Value) → Type 0
 CameBack code n l0 q to after below c (goes v l w) = Comes code c (record { top = resume to v after; below = below; state = w }) × (l ≡ l0) × Fits q v × (w.left ≤ n)
 CameBack code n l0 q to after below c (returned v w) = ⊥
 CameBack code n l0 q to after below c (ended e w) = Stops code c e w
 
-abbrev pub ComesBack : Code → ℕ → Locals → Gives → Option ℕ → Frame → List Frame → Config → Result (Option Value) → Type 0
+abbrev pub ComesBack : Parts → ℕ → Locals → Gives → Option ℕ → Frame → List Frame → Config → Result (Option Value) → Type 0
 ComesBack code n l0 q to after below c r = Fails code c ⊎ CameBack code n l0 q to after below c r
 
 pub comes_refl : (code : Parts) (c : Config) → Comes code c c
