@@ -1,5 +1,5 @@
 -- What `main` takes from bytes is lawful, and so is what lawful input gives.
-use Rattle.std.proofs.Common.{◌≡◌, ℕ, suc, ◌+◌, ◌≤◌, ℤ, List, [], ◌∷◌, length, Option, Some, None, Bool, true, false, ◌&&◌, ◌||◌, ◌==◌, nat_le, nat_lt, if◌then◌else◌, Result, Ok, Err, refl, ap, ◌∙◌, subst, arith}
+use Rattle.std.proofs.Common.{◌≡◌, ℕ, suc, ◌+◌, ◌≤◌, ℤ, List, [], ◌∷◌, length, Option, Some, None, Bool, true, false, ◌&&◌, ◌||◌, ◌==◌, nat_le, nat_lt, if◌then◌else◌, Result, Ok, Err, refl, ap, subst, arith}
 use Rattle.std.specs.List.{list_all}
 use Rattle.vale_base.specs.Limits.{width_limit, text_limit, input_limit}
 use Rattle.vale_base.specs.declared.trap.TrapKind.{TrapKind}
@@ -7,7 +7,7 @@ use Rattle.vale_state_spec.specs.State.{Given, no_input, numbers, lines, given, 
 use Rattle.vale_state_spec.specs.World.{Value}
 use Rattle.vale_syntax.specs.Bytes.{is_byte}
 use Rattle.vale_text.specs.Operations.{is_int, number}
-use Rattle.vale_model.specs.Input.{Form, takes_nothing, takes_numbers, takes_lines, Piece, taken, unless_long, as_numbers, before_numbers, number_at, numbers_in, words_from, as_lines, before_lines, onto_line, lines_from, lines_in}
+use Rattle.vale_model.specs.Input.{Form, takes_nothing, takes_numbers, takes_lines, Piece, taken, unless_long, as_numbers, number_at, numbers_in, words_from, as_lines, before_lines, onto_line, lines_from, lines_in}
 use Rattle.vale_lowering.specs.Texts.{is_lawful_text}
 use Rattle.vale_lowering.proofs.Ranges.{number_gives, lawful}
 use Rattle.vale_lowering_objects.specs.Input.{is_lawful_input, TakesLawfulInput}

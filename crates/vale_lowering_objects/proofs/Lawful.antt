@@ -1,18 +1,18 @@
 -- What a run on lawful input holds: its numbers are ints, its texts are such as a `str` may have, and its objects have no more
 -- values than an array may have. Single steps on registers, worlds and values keep it.
-use Rattle.std.proofs.Common.{◌≡◌, ℕ, zero, suc, ◌+◌, ◌-◌, ◌<◌, ◌≤◌, ℤ, pos, negsuc, List, [], ◌∷◌, ◌++◌, length, map, replicate, Option, Some, None, Bool, true, false, if◌then◌else◌, Result, Ok, Err, refl, ap, arith, length-append}
+use Rattle.std.proofs.Common.{◌≡◌, ℕ, zero, suc, ◌-◌, ◌<◌, ◌≤◌, ℤ, pos, negsuc, List, [], ◌∷◌, ◌++◌, length, map, replicate, Option, Some, None, Bool, true, false, if◌then◌else◌, Result, Ok, Err, refl, ap, arith, length-append}
 use Rattle.std.specs.Prelude.{slice_get, slice_set, nat_lt}
 use Rattle.std.proofs.lemmas.List.{length-set}
 use Rattle.vale_base.specs.Limits.{width_limit}
 use Rattle.vale_base.specs.declared.name.Kind.{Kind}
 use Rattle.vale_base.specs.declared.trap.TrapKind.{TrapKind}
 use Rattle.vale_base.specs.declared.trap.TrapKind.TheVariants.{DeadReference, ArrayTooLong}
-use Rattle.vale_state_spec.specs.State.{State, Answer, gives, traps, fails, Looked, found, dead, nowhere, on_object, look, look_up, found_or_dead, name_of, living, object_of, lent, field_in, load, swapped_in, swap, element_in, element_at, element, element_swapped_in, element_swapped_at, swap_element, changed, push, front_from, last_from, popped, pop, born, make, merge, print, print_text, shown, RegionEnd, merged, kept, cleared, world_after}
+use Rattle.vale_state_spec.specs.State.{State, Answer, gives, traps, fails, on_object, look_up, found_or_dead, name_of, living, object_of, lent, field_in, load, swapped_in, swap, element_in, element_at, element, element_swapped_in, element_swapped_at, swap_element, changed, push, front_from, last_from, popped, pop, born, make, merge, print, print_text, shown, RegionEnd, merged, kept, cleared, world_after}
 use Rattle.vale_state_spec.specs.World.{Value, Int, Truth, Text, Own, Ref, Iso, Region, Object, World, region_eq, relabelled}
 use Rattle.vale_state_spec.specs.World as world
 use Rattle.vale_text.specs.Operations as o
 use Rattle.vale_text.specs.Operations.{is_int}
-use Rattle.vale_text.specs.Steps.{on_int, on_truth, on_text, gives_int, gives_text, gives_truth, add, sub, mul, div, rem, Comparison, equal, not_equal, less, less_equal, greater, greater_equal, truths_compared, compare, opposite, join, slice, byte, text_of, is_number, number}
+use Rattle.vale_text.specs.Steps.{on_int, on_truth, on_text, gives_int, gives_text, add, sub, mul, div, rem, Comparison, equal, not_equal, less, less_equal, greater, greater_equal, truths_compared, compare, opposite, join, slice, byte, text_of, is_number, number}
 use Rattle.vale_code.specs.Instructions.{text_length, array_length, of_living}
 use Rattle.vale_code.specs.Registers.{Registers, Read, read, put, registers_for, with_result, kept as kept_from, and_then, after_keeping, read_all, as_frozen, named, given_value, after_giving, give_all, put_all}
 use Rattle.vale_code.specs.declared.ty.Ty.{Ty}

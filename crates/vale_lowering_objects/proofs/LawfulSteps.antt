@@ -1,23 +1,23 @@
 -- Each step of code keeps what is held lawful, where the instruction that it runs brings nothing else.
-use Rattle.std.proofs.Common.{◌≡◌, ℕ, zero, suc, ◌+◌, ◌≤◌, List, [], ◌∷◌, length, Option, Some, None, Bool, true, false, if◌then◌else◌, refl, subst, arith}
+use Rattle.std.proofs.Common.{◌≡◌, ℕ, zero, suc, ◌≤◌, List, [], ◌∷◌, length, Option, Some, None, Bool, true, false, if◌then◌else◌, refl, arith}
 use Rattle.std.specs.Prelude.{slice_get}
 use Rattle.vale_base.specs.Limits.{width_limit}
 use Rattle.vale_base.specs.declared.spot.Spot.{Spot}
 use Rattle.vale_base.specs.declared.trap.FrameAt.{FrameAt}
 use Rattle.vale_base.specs.declared.trap.TrapKind.TheVariants.{CallDepth, DeadReference}
-use Rattle.vale_state_spec.specs.State.{State, Answer, gives, traps, fails, Looked, found, dead, nowhere, look, name_of, spend_of, has_depth, object_of, dies, join_isolate, isolated, load, swap, element, swap_element, push, pop, make, merge, print, freeze, thaw, merged, kept, cleared, end_of_pure, end_of_isolate}
+use Rattle.vale_state_spec.specs.State.{State, Answer, gives, traps, fails, Looked, found, dead, nowhere, look, name_of, spend_of, has_depth, object_of, dies, join_isolate, isolated, load, swap, element, swap_element, push, pop, make, merge, print, merged, kept, cleared, end_of_pure, end_of_isolate}
 use Rattle.vale_state_spec.specs.World.{Value, Int, Truth, Text, Own, Ref, Iso, Object}
 use Rattle.vale_base.specs.declared.name.Kind.{Kind}
 use Rattle.vale_text.specs.Operations.{is_int}
 use Rattle.vale_text.specs.Steps as step
 use Rattle.vale_code.specs.Act.{act, on_looked, without_first}
-use Rattle.vale_code.specs.Destroy.{destroy, destroy_object, destroy_by, Owned, first_owned, drop_rest, drop_next}
+use Rattle.vale_code.specs.Destroy.{destroy, destroy_object, destroy_by, Owned, drop_rest}
 use Rattle.vale_code.specs.Enter.{Form, Plain, Pure, Iteration, Destructor, function, form_of, with_form, with_func, begun, ended, outgoing, enter, if_called, if_destructor, leave_function}
 use Rattle.vale_code.specs.Frames.{Active, Frame, Running, Dropping, Looping, Alone, Config, Next, On, Over, wrong, deeper, ticked, after_tick, trap, resume, leave, under}
 use Rattle.vale_code.specs.Instructions.{copied, moved, borrowed, leading, of_living, text_length, array_length, behind, onward, with_value, with_owner, with_read, with_registers, with_truth, with_choice, gets, answered, certain, is_free, jump_by, jump, jump_unless, truth_of, comparison_of}
-use Rattle.vale_code.specs.Kinds.{holds_values, kind_of, kind_text, destructor_of, method_in, text_at, result_to}
+use Rattle.vale_code.specs.Kinds.{holds_values, kind_of, destructor_of, method_in, text_at, result_to}
 use Rattle.vale_code.specs.Parts.{Parts}
-use Rattle.vale_code.specs.Registers.{Registers, Read, read, put, read_all, give_all, put_all, kept as kept_from, with_result, as_frozen, registers_for}
+use Rattle.vale_code.specs.Registers.{Registers, Read, read, put, read_all, give_all, put_all, kept as kept_from, as_frozen}
 use Rattle.vale_code.specs.declared.func.Func.{Func}
 use Rattle.vale_code.specs.declared.instr.Instr.{Instr}
 use Rattle.vale_code.specs.declared.instr.Instr.TheVariants as i

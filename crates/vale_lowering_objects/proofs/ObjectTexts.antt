@@ -1,6 +1,6 @@
 -- Programs with objects, by computation: their code does what they mean, and isn't stuck. A program stands here as its tree.
 use Rattle.std.proofs.Common.{◌≡◌, ℕ, List, [], ◌∷◌, ◌++◌, Option, Some, None, refl}
-use Rattle.std.specs.Prelude.{ℤ, true, false, codes, pos, negsuc}
+use Rattle.std.specs.Prelude.{ℤ, true, false, codes, pos}
 use Rattle.std.specs.Fmt.{signed_decimal}
 use Rattle.vale_state_spec.specs.Outcome.{Outcome, End, Done}
 use Rattle.vale_state_spec.specs.State.{Given, no_input, numbers}

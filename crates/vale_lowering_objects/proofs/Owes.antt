@@ -1,5 +1,5 @@
 -- What goes on after a tick owes the code that runs on to it; and how a function is left.
-use Rattle.std.proofs.Common.{◌≡◌, ℕ, ◌+◌, length, true, ◌<◌, ◌≤◌, List, [], ◌∷◌, Option, Some, None, refl, ap, ◌∙◌, ◌⊎◌, inl, inr}
+use Rattle.std.proofs.Common.{◌≡◌, ℕ, ◌+◌, length, true, ◌<◌, List, [], ◌∷◌, Option, Some, None, refl, ap, ◌∙◌, ◌⊎◌, inl, inr}
 use Rattle.std.specs.Prelude.{slice_get}
 use Rattle.vale_state_spec.specs.Outcome.{Done}
 use Rattle.vale_state_spec.specs.State.{State}
@@ -9,10 +9,10 @@ use Rattle.vale_rules_spec.specs.Typed.{Function, Expr, Block, type}
 use Rattle.vale_rules_spec.specs.Declarations.{head_params}
 use Rattle.vale_model.specs.Kinds.{head_of}
 use Rattle.vale_model.specs.Parts.{Parts}
-use Rattle.vale_model.specs.Runs.{Locals, Result, goes, returned, ended}
+use Rattle.vale_model.specs.Runs.{Locals}
 use Rattle.vale_model.specs.Destruction.{Again}
 use Rattle.vale_code.specs.Enter.{with_func, with_form, form_of, leave_function}
-use Rattle.vale_code.specs.Frames.{Frame, Running, Config, under, leave, resume}
+use Rattle.vale_code.specs.Frames.{Frame, Running, Config, under, leave}
 use Rattle.vale_code.specs.Instructions.{fetch, with_value}
 use Rattle.vale_code.specs.Parts.{Parts as Code}
 use Rattle.vale_code.specs.Registers.{Registers, read, registers_for}
@@ -21,13 +21,13 @@ use Rattle.vale_code.specs.declared.instr.Instr.{Instr}
 use Rattle.vale_code.specs.declared.instr.Instr.TheVariants as i
 use Rattle.vale_lowering.specs.Instructions.{loop_code}
 use Rattle.vale_lowering.proofs.Registers.{Base}
-use Rattle.vale_lowering.proofs.Reaches.{Where, conf, calls_in, HasAt, Stops, does, stops}
+use Rattle.vale_lowering.proofs.Reaches.{Where, conf, calls_in, HasAt, does, stops}
 use Rattle.vale_lowering_objects.specs.Program.{IsLowered}
 use Rattle.vale_lowering_objects.specs.Scopes.{Gives, void, gives_of, is_value, Scope, Gone, closes, Around}
 use Rattle.vale_lowering_objects.specs.Lowered.{param_gives, result_gives, expr_after, block_after, expr_code, block_code}
 use Rattle.vale_lowering_objects.proofs.Kept.{KeepsAll}
 use Rattle.vale_lowering_objects.proofs.Destruction.{FieldsRun, DestructorsRun}
-use Rattle.vale_lowering_objects.proofs.Registers.{Fits, Falls, Agrees}
+use Rattle.vale_lowering_objects.proofs.Registers.{Falls, Agrees}
 use Rattle.vale_lowering_objects.proofs.LawfulSteps.{LawfulInstr}
 use Rattle.vale_lowering_objects.proofs.Reaches.{FitAll, Keeps, Reaches}
 use Rattle.vale_lowering_objects.proofs.Ways.{ComesBack, Leaves, moves}

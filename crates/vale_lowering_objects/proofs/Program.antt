@@ -29,7 +29,7 @@ use Rattle.vale_lowering_objects.specs.Program.{IsLowered, IsCode, names_in, bod
 use Rattle.vale_lowering_objects.specs.Scopes.{Gives, void, copy, owner, gives_of, is_owner, agree, Scope, entry, Gone, never, parameters}
 use Rattle.vale_lowering_objects.specs.Lowered.{param_gives, param_gives_of, result_gives, drop_scope, expr_code, expr_after, block_code, block_after}
 use Rattle.vale_lowering_objects.proofs.Kept.{level_keeps}
-use Rattle.vale_lowering_objects.proofs.Destruction.{DestructorsRun, Back, entered, fields_more}
+use Rattle.vale_lowering_objects.proofs.Destruction.{DestructorsRun, fields_more}
 use Rattle.vale_lowering_objects.proofs.Registers.{Fits, Holds, Falls, falls_up, fresh_above, agrees_more, Ties, look, stands, owner_is}
 use Rattle.vale_lowering_objects.proofs.Reaches.{Then, Put, Keeps, FitAll, Reaches, Runs, returned_by, no_more, only_if_runs, then_reaches, closed, loop_tests}
 use Rattle.vale_lowering_objects.proofs.Owes.{begins, IsPlain, CallsRun, TurnsRun, Follows, IsHere, around}

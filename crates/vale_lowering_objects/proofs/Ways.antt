@@ -1,9 +1,9 @@
 -- From configuration to configuration: what is held stays lawful. What a run on lawful input can't come to is as good as going wrong.
-use Rattle.std.proofs.Common.{◌≡◌, ℕ, suc, ◌≤◌, List, [], ◌∷◌, Option, Some, None, true, refl, ap, ◌∙◌, subst, ◌⊎◌, inl, inr}
+use Rattle.std.proofs.Common.{◌≡◌, ℕ, suc, ◌≤◌, List, [], ◌∷◌, Option, Some, true, ap, subst, ◌⊎◌, inl, inr}
 use Rattle.vale_state_spec.specs.Outcome.{End, Done, Wrong}
 use Rattle.vale_state_spec.specs.State.{State}
 use Rattle.vale_state_spec.specs.World.{Value}
-use Rattle.vale_code.specs.Frames.{Frame, Config, Next, On, Over, resume}
+use Rattle.vale_code.specs.Frames.{Frame, Config, On, resume}
 use Rattle.vale_code.specs.Instructions.{fetch, is_free, jump_by}
 use Rattle.vale_code.specs.Parts.{Parts}
 use Rattle.vale_code.specs.Registers.{Registers}
