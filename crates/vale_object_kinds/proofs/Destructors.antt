@@ -6,7 +6,7 @@ use Rattle.std.specs.Option.{option_map_or}
 use Rattle.std.proofs.lemmas.Bool.Decides.{Decides-eqb}
 use Rattle.std.proofs.lemmas.Option.{slice_get-map}
 use Rattle.vale_syntax.specs.declared.tree.NameAt.{NameAt}
-use Rattle.vale_syntax.specs.Tree.{TypeExpr, named_type, Param, param, Head, head, Function, function, FieldDecl, Block, Item, struct_item, interface_item, impl_item, function_item}
+use Rattle.vale_syntax.specs.Tree.{named_type, param, Head, head, function, FieldDecl, Block, Item, struct_item, interface_item, impl_item, function_item}
 use Rattle.vale_rules_spec.specs.Declarations.{same_name, head_name, head_params, item_name, is_struct_of, is_called, is_function_with, is_lawful_main, is_drop, drops, is_built_in}
 use Rattle.vale_rules_spec.specs.DeclFaults.{item_faults, inside_head, field_faults, head_faults, in_block as in_block_body}
 use Rattle.vale_rules_spec.specs.DeclRules.{is_new_item, kind_rules, function_rules, is_new_function, is_first_main, has_room}
@@ -17,14 +17,11 @@ use Rattle.vale_rules_spec.specs.TypeRules.{head_gives, function_rules as type_r
 use Rattle.vale_rules_spec.specs.Typed as t
 use Rattle.vale_rules_spec.specs.Typing.{entry, void_block, in_function, in_functions, in_item, in_items}
 use Rattle.vale_model.specs.Kinds.{head_of}
-use Rattle.vale_model.specs.Parts.{Parts, functions_of, has_text, takes_struct, first_function, is_pure, destructor_of}
+use Rattle.vale_model.specs.Parts.{Parts, functions_of, has_text, takes_struct, first_function, destructor_of}
 use Rattle.vale_model.specs.Destruction as model
 use Rattle.vale_code.specs.Kinds as code_kinds
 use Rattle.vale_lowering_objects.specs.Code.{lowered_parts, functions_in, texts_of, lowered_function, kind_info, kind_of_name, is_destructor_of, function_with, methods_in}
 use Rattle.vale_lowering_objects.specs.Destruction.{IsDestructor, SameDestructor}
-use Rattle.vale_lowering_objects.specs.Lowered.{param_gives, result_gives, is_destructor}
-use Rattle.vale_lowering_objects.specs.Program.{form_number}
-use Rattle.vale_lowering_objects.specs.Scopes.{void as nothing_given, owner}
 use Rattle.vale_object_kinds.proofs.Holds.{Holds, Pair, holds_node, holds_plain, holds_both}
 use Rattle.vale_object_kinds.proofs.Items.{AllClean}
 use Rattle.vale_object_kinds.proofs.Known.{and_first, and_second, or_left, or_right, or_either}

@@ -1,5 +1,5 @@
 -- What holds of what a judged part is, where it has no fault: shown of a node from its parts.
-use Rattle.std.proofs.Common.{◌≡◌, ℕ, Bool, true, false, [], ◌∷◌, Option, Some, None, refl}
+use Rattle.std.proofs.Common.{◌≡◌, ℕ, Option, Some, None, refl}
 use Rattle.vale_base.specs.declared.spot.Spot.{Spot}
 use Rattle.vale_rules_spec.specs.Judged.{Rules, broken, fault_of, Judged, fine, faulty, unless, both, node, leaf, plain, scoped}
 

@@ -1,27 +1,25 @@
 -- The kinds of a program that is declared and typed: what the elements of an array lead to stands before it.
-use Rattle.std.proofs.Common.{◌≡◌, ℕ, Bool, true, false, ◌&&◌, ◌||◌, ◌==◌, List, [], ◌∷◌, ◌++◌, map, Option, Some, None, if◌then◌else◌, refl, sym, ap, ◌∙◌, subst}
+use Rattle.std.proofs.Common.{◌≡◌, ℕ, Bool, true, false, ◌==◌, List, [], ◌∷◌, ◌++◌, map, Some, None, if◌then◌else◌, refl, sym, subst}
 use Rattle.std.specs.Prelude.{flat_map}
 use Rattle.std.specs.List.{list_any}
 use Rattle.std.proofs.lemmas.Bool.Decides.{Decides-eqb}
 use Rattle.std.proofs.lemmas.List.{append_assoc}
-use Rattle.vale_base.specs.declared.spot.Spot.{Spot}
 use Rattle.vale_syntax.specs.declared.fault.Fault.{Fault}
-use Rattle.vale_syntax.specs.declared.position.Position.TheVariants.{Value, Field, Element}
+use Rattle.vale_syntax.specs.declared.position.Position.TheVariants.{Value, Field}
 use Rattle.vale_syntax.specs.declared.tree.NameAt.{NameAt}
 use Rattle.vale_syntax.specs.Tree.{Param, param, Head, head, Function, function, FieldDecl, field_decl, Item, struct_item, interface_item, impl_item, function_item}
 use Rattle.vale_rules_spec.specs.Declarations.{field_type, param_type, head_params, head_name, function_head}
 use Rattle.vale_rules_spec.specs.DeclFaults.{type_faults, field_faults, param_faults, result_faults, inside_head, head_faults, method_faults, item_faults, in_block as in_block_body}
 use Rattle.vale_rules_spec.specs.DeclRules.{field_rules, param_rules, head_rules, method_head_rules, method_rules, kind_rules, interface_name_rules, struct_name_rules, impl_rules, function_rules}
 use Rattle.vale_rules_spec.specs.Judged.{Judged, fine, faulty, own, one_by_one}
-use Rattle.vale_rules_spec.specs.Types.{Ty, void, kind, array, same, type_of, result_of, fields_of, methods_of, function_named}
-use Rattle.vale_rules_spec.specs.Types as y
+use Rattle.vale_rules_spec.specs.Types.{Ty, kind, same, type_of, result_of, fields_of, methods_of, function_named}
 use Rattle.vale_rules_spec.specs.Returns.{block_returns}
 use Rattle.vale_rules_spec.specs.Typed as t
 use Rattle.vale_rules_spec.specs.TypeRules.{head_gives, function_rules as type_rules}
 use Rattle.vale_rules_spec.specs.Typing.{Env, with_params, with_local, entry, void_block, in_function, in_functions, in_item, in_items}
 use Rattle.vale_model.specs.Kinds.{arrays_in, head_of, body_of, block_arrays, head_arrays, declared_arrays, made_arrays, named_kinds, once, kinds_of}
 use Rattle.vale_object_kinds.proofs.Holds.{Holds, Pair, holds_node, holds_plain, holds_both}
-use Rattle.vale_object_kinds.proofs.Known.{or_left, or_right, or_either, names_kind, is_declared, Known, has, Root, Grounded, Covers, Arrays, HasNamed, onto, same_itself, same_is, no_arrays, both_arrays, arrays_known, grounded_both, grounded_more, covers_onto}
+use Rattle.vale_object_kinds.proofs.Known.{or_left, or_right, or_either, names_kind, is_declared, Known, has, Grounded, Covers, Arrays, onto, same_is, no_arrays, both_arrays, arrays_known, grounded_both, grounded_more, covers_onto}
 use Rattle.vale_object_kinds.proofs.KnownParts.{none_in, written_known, KnownScope, KnownBlock, AllFields, AllHeads, KnownFields, KnownMethods, KnownHead, Facts}
 use Rattle.vale_object_kinds.proofs.KnownTree.{void_known}
 

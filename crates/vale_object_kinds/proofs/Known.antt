@@ -1,8 +1,8 @@
 -- Known types: the structs and interfaces in them are declared, and references and isolates lead to owners' types.
-use Rattle.std.proofs.Common.{◌≡◌, ℕ, Bool, true, false, ◌&&◌, ◌||◌, ◌==◌, List, [], ◌∷◌, ◌++◌, Option, Some, None, if◌then◌else◌, refl, sym, ap, ◌∙◌, subst}
+use Rattle.std.proofs.Common.{◌≡◌, ℕ, Bool, true, false, ◌&&◌, ◌||◌, ◌==◌, List, [], ◌∷◌, ◌++◌, Some, refl, sym, ap, subst}
 use Rattle.std.proofs.lemmas.Bool.Decides.{Decides-eqb}
 use Rattle.std.specs.List.{list_any}
-use Rattle.vale_syntax.specs.Tree.{Item, struct_item, interface_item, impl_item, function_item}
+use Rattle.vale_syntax.specs.Tree.{Item, struct_item, interface_item}
 use Rattle.vale_rules_spec.specs.Types.{Ty, void, int, bool, str, kind, array, ref, imm, iso, same, is_owner, object_of}
 use Rattle.vale_model.specs.Kinds.{arrays_in}
 

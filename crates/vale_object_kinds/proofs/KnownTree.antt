@@ -1,35 +1,20 @@
 -- What the phase of types accepts has known types alone: by induction on the tree.
-use Rattle.std.proofs.Common.{◌≡◌, ℕ, Bool, true, false, ◌&&◌, ◌||◌, ◌==◌, List, [], ◌∷◌, ◌++◌, Option, Some, None, if◌then◌else◌, refl, sym, ap, subst}
-use Rattle.std.specs.Option.{option_and_then, option_map, option_map_or}
-use Rattle.vale_base.specs.declared.spot.Spot.{Spot}
-use Rattle.vale_base.specs.declared.name.Name.{Name}
-use Rattle.vale_syntax.specs.declared.built_in.BuiltIn.{BuiltIn}
-use Rattle.vale_syntax.specs.declared.built_in.BuiltIn.TheVariants as b
-use Rattle.vale_syntax.specs.declared.fault.Fault.{Fault}
-use Rattle.vale_syntax.specs.declared.position.Position.{Position}
+use Rattle.std.proofs.Common.{◌≡◌, ℕ, Bool, true, false, List, [], ◌∷◌, ◌++◌, Option, None, refl}
+use Rattle.std.specs.Option.{option_and_then, option_map_or}
 use Rattle.vale_syntax.specs.declared.position.Position.TheVariants.{Element}
-use Rattle.vale_syntax.specs.declared.tree.NameAt.{NameAt}
-use Rattle.vale_syntax.specs.declared.tree.BinaryOp.{BinaryOp}
-use Rattle.vale_syntax.specs.declared.tree.BinaryOp.TheVariants as o
-use Rattle.vale_syntax.specs.declared.tree.UnaryOp.{UnaryOp}
-use Rattle.vale_syntax.specs.declared.tree.UnaryOp.TheVariants as u
-use Rattle.vale_syntax.specs.Tree.{TypeExpr, int_type, bool_type, str_type, named_type, array_type, ref_type, imm_ref_type, iso_type, Expr, set, chain, unary, steps, number, quote, truth, name, call, paren, array, iso, form, Exprs, no_exprs, more_exprs, Link, link, Links, no_links, more_links, Step, field, method, index, Steps, no_steps, more_steps, Form, branch, pure, parallel_range, parallel_each, ElseIf, else_if, Elses, no_else, otherwise, more_elses, Block, block, Stmt, declare, destructure, return_nothing, return_value, while, foreach, form_stmt, express, Stmts, no_stmts, last, more_stmts, Param, param, Head, head, FieldDecl, field_decl, Item}
-use Rattle.vale_rules_spec.specs.Declarations.{field_type, is_struct_of, is_interface_of, is_object}
-use Rattle.vale_rules_spec.specs.DeclFaults.{Body, type_faults, in_expr, in_exprs, in_link, in_links, in_step, in_steps, in_form as in_form_body, in_else_if as in_else_if_body, in_elses, in_block as in_block_body, in_stmts, in_stmt}
-use Rattle.vale_rules_spec.specs.DeclRules.{is_kind, named_rules, ref_rules, imm_ref_rules, iso_rules as iso_type_rules, array_rules as array_type_rules}
-use Rattle.vale_rules_spec.specs.Judged.{both as both_judged, node, leaf, plain, scoped, Judged, fine, faulty, broken, Rules, own, fault_of, ◌⇒◌}
+use Rattle.vale_syntax.specs.Tree.{Expr, set, chain, unary, steps, number, quote, truth, name, call, paren, array, iso, form, Exprs, no_exprs, more_exprs, Link, link, Links, no_links, more_links, Step, field, method, index, Steps, no_steps, more_steps, Form, branch, pure, parallel_range, parallel_each, ElseIf, else_if, Elses, no_else, otherwise, more_elses, Block, block, Stmt, declare, destructure, return_nothing, return_value, while, foreach, form_stmt, express, Stmts, no_stmts, last, more_stmts, Item}
+use Rattle.vale_rules_spec.specs.DeclFaults.{Body, in_expr, in_exprs, in_link, in_links, in_step, in_steps, in_form as in_form_body, in_else_if as in_else_if_body, in_elses, in_block as in_block_body, in_stmts, in_stmt}
+use Rattle.vale_rules_spec.specs.Judged.{both as both_judged, node, plain, scoped, Judged, fine, faulty}
 use Rattle.vale_rules_spec.specs.Types.{Ty, void, int, bool, str, is_owner, type_of, View, blind, direct, shared, frozen, seen_object, Seen, a_value, value_view, view_here, as_frozen, as_shared, part_seen, object_of, Local, local_of, local_seen, fields_of, field_named, methods_of, method_named, function_named, may_be_isolated, is_copy}
 use Rattle.vale_rules_spec.specs.Types as y
 use Rattle.vale_rules_spec.specs.Typed as t
 use Rattle.vale_rules_spec.specs.Typed.{chain_seen, steps_seen, stmts_type, may_be_set, condition_types, block_types, has_else}
-use Rattle.vale_rules_spec.specs.TypeRules.{link_gives, link_rules, borrow_gives, merge_gives, unary_gives, unary_rules, Called, nothing, language, struct, program, built_in_among, built_ins, called_else, called, callee, called_rules, called_gives, built_in_gives, popped, field_types, head_gives, kind_in_view, array_in, elements_seen, fields_seen, methods_seen, part_of, method_gives, set_gives, set_rules, parallel_gives, isolate_in, struct_fields, name_rules, array_rules, iso_rules, method_rules, field_rules, index_rules, branch_rules, bounds_rules, consumed_rules, void_rules, declare_rules, destructure_rules, return_nothing_rules, return_value_rules, condition_rules, new_name_rules}
+use Rattle.vale_rules_spec.specs.TypeRules.{link_gives, link_rules, unary_gives, unary_rules, built_in_among, built_ins, called, callee, called_rules, called_gives, field_types, kind_in_view, elements_seen, fields_seen, methods_seen, part_of, method_gives, set_gives, set_rules, parallel_gives, isolate_in, struct_fields, name_rules, array_rules, iso_rules, method_rules, field_rules, index_rules, branch_rules, bounds_rules, consumed_rules, void_rules, declare_rules, destructure_rules, return_nothing_rules, return_value_rules, condition_rules}
 use Rattle.vale_rules_spec.specs.Takes.{is_value_under}
-use Rattle.vale_rules_spec.specs.Typing.{Env, with_local, with_locals, deeper, after, new_name, new_names, named, name_in, index_view, is_used, form_spot, isolate_of, type_in, is_settable, field_step, method_step, expr, exprs, operand, links, step, steps_from, in_form, in_else_if, elses, in_block, void_block, stmts, stmt}
-use Rattle.vale_model.specs.Kinds.{arrays_in, expr_arrays, node_arrays, exprs_arrays, link_arrays, links_arrays, step_arrays, steps_arrays, form_arrays, else_if_arrays, elses_arrays, block_arrays, stmts_arrays, stmt_arrays}
-use Rattle.vale_object_kinds.proofs.Holds.{Holds, Pair, holds_more, holds_leaf, holds_node, holds_plain, holds_both, holds_scoped, holds_over}
-use Rattle.vale_object_kinds.proofs.Known.{and_first, and_second, is_declared, names_kind, Known, KnownOwner, owner_known, Arrays, no_arrays, both_arrays, arrays_known, object_known}
-
-use Rattle.vale_object_kinds.proofs.KnownParts.{none_in, written_known, KnownTypes, KnownPlace, KnownSeen, KnownScope, KnownExpr, KnownExprs, KnownLink, KnownLinks, KnownStep, KnownSteps, KnownForm, KnownElseIf, KnownElses, KnownBlock, KnownStmts, KnownStmt, Facts, value_known, part_of_known, object_seen, array_known, named_known, after_known, link_known, unary_known, called_known, parallel_known, isolate_known, iso_known, place_known, field_known, method_known, given_known, taken_known}
+use Rattle.vale_rules_spec.specs.Typing.{Env, with_local, deeper, after, new_name, new_names, named, name_in, index_view, is_used, form_spot, isolate_of, type_in, is_settable, expr, exprs, operand, links, step, steps_from, in_form, in_else_if, elses, in_block, void_block, stmts, stmt}
+use Rattle.vale_object_kinds.proofs.Holds.{Holds, Pair, holds_leaf, holds_node, holds_plain, holds_both, holds_scoped, holds_over}
+use Rattle.vale_object_kinds.proofs.Known.{Arrays, no_arrays, both_arrays, arrays_known}
+use Rattle.vale_object_kinds.proofs.KnownParts.{none_in, written_known, KnownSeen, KnownScope, KnownExpr, KnownExprs, KnownLink, KnownLinks, KnownStep, KnownSteps, KnownForm, KnownElseIf, KnownElses, KnownBlock, KnownStmts, KnownStmt, Facts, value_known, part_of_known, object_seen, array_known, named_known, after_known, link_known, unary_known, called_known, parallel_known, isolate_known, iso_known, place_known, field_known, method_known, given_known, taken_known}
 
 abbrev Clean : Body → Type 0
 Clean body = body.faults ≡ []

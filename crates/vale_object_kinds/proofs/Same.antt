@@ -1,19 +1,18 @@
 -- The code of a program that is declared and typed has its kinds.
-use Rattle.std.proofs.Common.{◌≡◌, ℕ, List, [], ◌∷◌, ◌++◌, Option, Some, None, refl, sym, ap, ◌∙◌, subst}
+use Rattle.std.proofs.Common.{◌≡◌, ℕ, List, [], ◌∷◌, Option, Some, None, refl, sym, subst}
 use Rattle.std.specs.Prelude.{slice_get, option_map}
 use Rattle.std.proofs.lemmas.Option.{slice_get-map}
 use Rattle.vale_base.specs.declared.name.Kind.{Kind}
-use Rattle.vale_syntax.specs.Tree.{Item, Tree, tree}
-use Rattle.vale_syntax.specs.declared.decls.Decls.{Decls}
+use Rattle.vale_syntax.specs.Tree.{Item, tree}
 use Rattle.vale_syntax.specs.declared.fault.Fault.{Fault}
-use Rattle.vale_rules_spec.specs.DeclFaults.{declaration_faults, declared, item_faults, program_spot}
+use Rattle.vale_rules_spec.specs.DeclFaults.{declaration_faults, item_faults, program_spot}
 use Rattle.vale_rules_spec.specs.DeclRules.{program_rules}
 use Rattle.vale_rules_spec.specs.Declarations.{declarations}
-use Rattle.vale_rules_spec.specs.Judged.{Judged, fine, faulty, IsFine, unless, plain, own, one_by_one}
+use Rattle.vale_rules_spec.specs.Judged.{Judged, fine, faulty, unless, plain, own, one_by_one}
 use Rattle.vale_rules_spec.specs.Types.{Ty}
 use Rattle.vale_rules_spec.specs.Typed as t
 use Rattle.vale_rules_spec.specs.Typed.{Typed}
-use Rattle.vale_rules_spec.specs.Typing.{typed, in_items}
+use Rattle.vale_rules_spec.specs.Typing.{in_items}
 use Rattle.vale_model.specs.Destruction as model
 use Rattle.vale_model.specs.Kinds.{kinds_of}
 use Rattle.vale_model.specs.Parts.{Parts, parts_of}

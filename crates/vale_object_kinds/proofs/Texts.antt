@@ -1,24 +1,23 @@
 -- The kinds of the code are written as the program writes them.
-use Rattle.std.proofs.Common.{◌≡◌, ℕ, zero, suc, ◌+◌, ◌<◌, ◌≤◌, Bool, true, false, ◌&&◌, ◌||◌, List, [], ◌∷◌, ◌++◌, length, map, take, Option, Some, None, if◌then◌else◌, refl, sym, ap, ◌∙◌, subst, arith}
+use Rattle.std.proofs.Common.{◌≡◌, ℕ, zero, suc, ◌<◌, Bool, true, false, ◌||◌, List, [], ◌∷◌, ◌++◌, length, map, take, Option, Some, None, if◌then◌else◌, refl, sym, ap, ◌∙◌, subst, arith}
 use Rattle.std.specs.Prelude.{slice_get, option_map, flat_map, codes}
 use Rattle.std.proofs.lemmas.List.{length-map}
 use Rattle.std.proofs.lemmas.Option.{slice_get-map}
 use Rattle.vale_base.specs.declared.name.Kind.{Kind}
 use Rattle.vale_syntax.specs.Tree.{Head}
 use Rattle.vale_rules_spec.specs.Types.{Ty, void, int, bool, str, kind, array, ref, imm, iso, same, is_owner}
-use Rattle.vale_rules_spec.specs.Typed.{Function, Typed}
+use Rattle.vale_rules_spec.specs.Typed.{Function}
 use Rattle.vale_model.specs.Parts as model
 use Rattle.vale_model.specs.Parts.{Parts, name_text, name_of, place_of_kind, kind_text_of}
 use Rattle.vale_code.specs.Kinds as code_kinds
 use Rattle.vale_code.specs.Kinds.{nested_text, info_text, kind_text, text_or_none}
 use Rattle.vale_code.specs.Parts.{Parts as Code}
-use Rattle.vale_code.specs.declared.kind.KindInfo.{KindInfo}
 use Rattle.vale_lowering.proofs.Lookups.{found_text, in_front}
 use Rattle.vale_lowering.specs.Scopes.{number_of_text}
 use Rattle.vale_lowering_objects.specs.Code.{lowered_parts, functions_in, texts_of, kind_info, kind_of_name, kind_names, method_names, methods_in}
 use Rattle.vale_lowering_objects.specs.Program.{code_type}
 use Rattle.vale_lowering_objects.specs.Quotes.{function_quotes}
-use Rattle.vale_object_kinds.proofs.Known.{and_first, and_second, or_left, or_right, or_either, has, Inside, Root, Grounded, onto, same_is}
+use Rattle.vale_object_kinds.proofs.Known.{and_second, or_left, or_right, or_either, has, Inside, Root, Grounded, onto, same_is}
 
 -- ---- texts
 
