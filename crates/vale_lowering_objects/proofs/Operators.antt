@@ -31,9 +31,9 @@ use Rattle.vale_lowering_objects.proofs.Operations as fit
 use Rattle.vale_lowering_objects.proofs.Reaches.{Then, In, Val, Reaches, Runs, wrongs, comes_reaches, ends_at, stays_at, is_stuck, only_if_runs, joined_last, values, chooses, sides_run, brought_back, closes_meet}
 use Rattle.vale_lowering_objects.proofs.Registers.{Falls, falls_up, Agrees, agrees_down, agrees_met, top_read, next_read}
 use Rattle.vale_lowering_objects.proofs.Steps.{Answers, answers, surely}
-use Rattle.vale_lowering_objects.proofs.Ways.{moves}
+use Rattle.vale_lowering_objects.proofs.Ways.{Leaving, moves}
 
-module _ (code : Parts) (k : Where) (out : Gives) (n : ℕ) where
+module _ (code : Parts) (k : Where) (out : Leaving) (n : ℕ) where
   -- ---- an instruction between two registers
 
   module _ (p h : ℕ) (s : Scope) (g : Gone) (base : Base) (l : Locals) (regs : Registers) (w : State) (at : Spot) (v u : Value) (fa : Falls h s) (ag : Agrees h s g l base regs) (few : w.left ≤ n) (first : read regs h ≡ Some v) (second : read regs (h + 1) ≡ Some u) where
