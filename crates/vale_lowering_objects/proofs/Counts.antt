@@ -22,7 +22,7 @@ use Rattle.vale_lowering.proofs.Registers.{Held, Base, with_at, one_above, two_a
 use Rattle.vale_lowering.proofs.Reaches.{Where, active, conf, calls_in, Post, HasAt, does, has_front, has_back, free_on, free_back}
 use Rattle.vale_lowering.proofs.Shapes.{loop_body, loop_test, loop_end}
 use Rattle.vale_lowering.proofs.Operators.{reads_two}
-use Rattle.vale_lowering_objects.specs.Scopes.{Gives, Scope, Gone, After, comes, never, closes}
+use Rattle.vale_lowering_objects.specs.Scopes.{Scope, Gone, After, comes, never, closes}
 use Rattle.vale_lowering_objects.specs.Lowered.{if_comes, count_code}
 use Rattle.vale_lowering_objects.proofs.Registers.{Falls, falls_up, fresh_above, Agrees, agrees_put, agrees_down, agrees_dest, agrees_met, top_read, next_read}
 use Rattle.vale_lowering_objects.proofs.Lawful.{LawfulHeld, read_lawful}

@@ -17,7 +17,7 @@ use Rattle.vale_code.specs.declared.instr.Instr.TheVariants as i
 use Rattle.vale_lowering.proofs.Registers.{Held, pick_other, read_put}
 use Rattle.vale_lowering.proofs.Reaches.{Where, active, conf, calls_in, Post, does}
 use Rattle.vale_lowering_objects.specs.Destruction.{SameKinds}
-use Rattle.vale_lowering_objects.specs.Scopes.{Gives, Entry, Scope, Gone, is_gone, never}
+use Rattle.vale_lowering_objects.specs.Scopes.{Entry, Scope, Gone, is_gone, never}
 use Rattle.vale_lowering_objects.specs.Lowered.{drop_entry, drop_scope}
 use Rattle.vale_lowering_objects.proofs.Destruction.{IsOwned, Back, NextBack, drop_runs}
 use Rattle.vale_lowering_objects.proofs.Owes.{IsHere, Follows, leaves, leaves_void}

@@ -24,7 +24,7 @@ use Rattle.vale_lowering.specs.Instructions.{operator, unary_code, and_code}
 use Rattle.vale_lowering.proofs.Operators.{reads_two, reads_one}
 use Rattle.vale_lowering.proofs.Reaches.{Where, active, conf, calls_in, does}
 use Rattle.vale_lowering.proofs.Registers.{Base, with_at, one_above, two_above, pick_same, pick_other, read_put}
-use Rattle.vale_lowering_objects.specs.Scopes.{Gives, copy, Scope, Gone, After, comes, closes, same_gone}
+use Rattle.vale_lowering_objects.specs.Scopes.{copy, Scope, Gone, After, comes, closes, same_gone}
 use Rattle.vale_lowering_objects.specs.Lowered.{link_after, link_code, then_code, sides}
 use Rattle.vale_lowering_objects.proofs.LawfulSteps.{LawfulInstr}
 use Rattle.vale_lowering_objects.proofs.Operations as fit
