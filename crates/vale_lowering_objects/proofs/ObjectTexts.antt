@@ -10,6 +10,7 @@ use Rattle.vale_syntax.specs.declared.tree.NameAt.{NameAt}
 use Rattle.vale_syntax.specs.declared.tree.BinaryOp.TheVariants.{Add, And, Equal, Less, Greater, Mul}
 use Rattle.vale_syntax.specs.declared.tree.UnaryOp.TheVariants.{Borrow, Merge, Minus, Not}
 use Rattle.vale_rules_spec.specs.Judged.{Judged, fine, faulty}
+use Rattle.vale_rules_spec.specs.Sites.{sites}
 use Rattle.vale_rules_spec.specs.Typed.{Typed}
 use Rattle.vale_rules_spec.specs.Typing.{typed}
 use Rattle.vale_syntax.specs.Tree.{pure, iso, str_type, quote, while, foreach, more_elses, else_if, paren, no_else, int_type, bool_type, named_type, array_type, number, truth, name, call, steps, field, index, no_steps, more_steps, no_exprs, more_exprs, chain, link, no_links, more_links, unary, array, branch, otherwise, form, block, declare, return_value, destructure, set, form_stmt, express, no_stmts, last, more_stmts, param, head, function, function_item, struct_item, field_decl, imm_ref_type, Tree, tree}
@@ -17,6 +18,7 @@ use Rattle.vale_model.specs.Meaning.{meaning}
 use Rattle.vale_code.specs.Run.{run_code}
 use Rattle.vale_code.specs.Parts.{Parts as Code}
 use Rattle.vale_lowering.specs.Lowered as plain
+use Rattle.vale_lowering_objects.specs.Checks.{checked}
 use Rattle.vale_lowering_objects.specs.Code.{lowered}
 
 abbrev pub run_typed : Judged Typed → Given → ℕ → Option Outcome
@@ -269,3 +271,46 @@ pure_calls_run = refl
 
 pure_calls_are_cut : run pure_calls 7 ≡ mean pure_calls 7
 pure_calls_are_cut = refl
+
+-- ---- each site has one instruction that asks whether its object is alive
+
+abbrev asks : Judged Typed → Option ℕ
+asks (fine program) = Some (checked (lowered program))
+asks (faulty f fs) = None
+
+abbrev has_sites : Judged Typed → Option ℕ
+has_sites (fine program) = Some (sites program)
+has_sites (faulty f fs) = None
+
+owners_ask : asks (typed owners) ≡ has_sites (typed owners)
+owners_ask = refl
+
+waiting_owners_ask : asks (typed waiting_owners) ≡ has_sites (typed waiting_owners)
+waiting_owners_ask = refl
+
+destructors_ask : asks (typed destructors) ≡ has_sites (typed destructors)
+destructors_ask = refl
+
+places_ask : asks (typed places) ≡ has_sites (typed places)
+places_ask = refl
+
+an_index_takes_its_array_away_ask : asks (typed an_index_takes_its_array_away) ≡ has_sites (typed an_index_takes_its_array_away)
+an_index_takes_its_array_away_ask = refl
+
+with_input_ask : asks (typed with_input) ≡ has_sites (typed with_input)
+with_input_ask = refl
+
+without_owners_ask : asks (typed without_owners) ≡ has_sites (typed without_owners)
+without_owners_ask = refl
+
+regions_ask : asks (typed regions) ≡ has_sites (typed regions)
+regions_ask = refl
+
+counts_ask : asks (typed counts) ≡ has_sites (typed counts)
+counts_ask = refl
+
+counts_input_ask : asks (typed counts_input) ≡ has_sites (typed counts_input)
+counts_input_ask = refl
+
+pure_calls_ask : asks (typed pure_calls) ≡ has_sites (typed pure_calls)
+pure_calls_ask = refl
