@@ -27,14 +27,14 @@ use Rattle.vale_lowering_objects.proofs.Operations as fit
 use Rattle.vale_lowering_objects.proofs.Reaches.{In, Reaches, wrongs, is_stuck}
 use Rattle.vale_lowering_objects.proofs.Registers.{Falls, Agrees}
 use Rattle.vale_lowering_objects.proofs.Steps.{Answers, answers, surely}
-use Rattle.vale_lowering_objects.proofs.Ways.{moves}
+use Rattle.vale_lowering_objects.proofs.Ways.{Leaving, moves}
 
 -- what comes of a call that gives a copied value or none
 abbrev pub given_by : Bool → Gives
 given_by true = copy
 given_by false = void
 
-module _ (code : Parts) (k : Where) (out : Gives) (n : ℕ) (again : Again) (p h : ℕ) (s : Scope) (g : Gone) (base : Base) (l : Locals) (regs : Registers) (w : State) (at : Spot) (fa : Falls h s) (ag : Agrees h s g l base regs) (few : w.left ≤ n) where
+module _ (code : Parts) (k : Where) (out : Leaving) (n : ℕ) (again : Again) (p h : ℕ) (s : Scope) (g : Gone) (base : Base) (l : Locals) (regs : Registers) (w : State) (at : Spot) (fa : Falls h s) (ag : Agrees h s g l base regs) (few : w.left ≤ n) where
   -- what a call of the function owes
   abbrev Owed : BuiltIn → List Value → Bool → Type 0
   Owed f vs gives =

@@ -35,13 +35,14 @@ use Rattle.vale_lowering_objects.proofs.Reaches.{In, All, as_many, Runs, weaker,
 use Rattle.vale_lowering_objects.proofs.Drops.{Without, destroys}
 use Rattle.vale_lowering_objects.proofs.Steps.{make_runs}
 use Rattle.vale_lowering_objects.proofs.Posts.{agree_same, given_same, dropped, given}
+use Rattle.vale_lowering_objects.proofs.Ways.{Leaving}
 
-module _ (code : Code) (functions : List Function) (p0 : Parts) (is_code : IsCode code p0 functions) (k : Where) (out : Gives) (is : IsHere code k) (n : ℕ) (again : Again) (follows : Follows code functions p0 again n) where
+module _ (code : Code) (functions : List Function) (p0 : Parts) (is_code : IsCode code p0 functions) (k : Where) (out : Leaving) (is : IsHere code k out.pure) (n : ℕ) (again : Again) (follows : Follows code functions p0 again n) where
   abbrev kinds : SameKinds code functions p0
   kinds = is_code.kinds
 
   abbrev a : Around
-  a = record { parts = p0; texts = code.texts; functions = functions; gives = out }
+  a = record { parts = p0; texts = code.texts; functions = functions; gives = out.gives }
 
   abbrev Ran : {A : Type 0} → List Instr → Post A → ℕ → Registers → State → Result A → Type 0
   Ran cs post p regs w r = Runs code k out n cs post p regs w r

@@ -2,7 +2,7 @@
 use Rattle.std.proofs.Common.{◌≡◌, ◌≢◌, ℕ, zero, suc, ◌+◌, ◌<◌, ◌≤◌, List, [], ◌∷◌, length, map, Option, Some, None, Bool, true, false, ◌&&◌, if◌then◌else◌, refl, sym, ap, ◌∙◌, subst, ◌⊎◌, inl, inr, arith}
 use Rattle.std.proofs.lemmas.Bool.Decides.{Decides-eqb}
 use Rattle.vale_state_spec.specs.Outcome.{Wrong}
-use Rattle.vale_state_spec.specs.State.{State, spend, spend_of, has_depth, function_frame}
+use Rattle.vale_state_spec.specs.State.{State, spend, spend_of, has_depth, function_frame, freeze, thaw, end_of_pure}
 use Rattle.vale_state_spec.specs.World.{Value, Int, Truth, Text, Own, Ref, Iso}
 use Rattle.vale_base.specs.declared.trap.FrameAt.{FrameAt}
 use Rattle.vale_base.specs.declared.trap.TrapKind.TheVariants.{CallDepth}
@@ -15,11 +15,11 @@ use Rattle.vale_rules_spec.specs.Typed.{Function}
 use Rattle.vale_model.specs.Kinds.{head_of}
 use Rattle.vale_model.specs.Parts.{Parts, name_text, name_of, has_name, first_function, is_pure, function_named}
 use Rattle.vale_model.specs.Runs as model
-use Rattle.vale_model.specs.Runs.{Locals, Result, goes, returned, ended, then_do, ◌>>=◌, tick}
+use Rattle.vale_model.specs.Runs.{Locals, Result, goes, returned, ended, Run, then_do, ◌>>=◌, tick, change, give}
 use Rattle.vale_model.specs.Destruction.{Again}
 use Rattle.vale_model.specs.Expressions.{called, called_by}
 use Rattle.vale_model.specs.Meaning.{given_to}
-use Rattle.vale_code.specs.Enter.{Form, Plain, with_func, with_form, form_of as form_in, if_called, enter}
+use Rattle.vale_code.specs.Enter.{Form, Plain, Pure, begun, with_func, with_form, form_of as form_in, if_called, enter}
 use Rattle.vale_code.specs.Frames as frames
 use Rattle.vale_code.specs.Frames.{Frame, Running, Config, Next, On, Over, resume}
 use Rattle.vale_code.specs.Instructions.{fetch, with_read, behind}
@@ -39,9 +39,9 @@ use Rattle.vale_lowering_objects.specs.Scopes.{Gives, void, copy, owner, gives_o
 use Rattle.vale_lowering_objects.specs.Lowered.{param_gives, param_gives_of, result_gives, may_be_called, is_destructor}
 use Rattle.vale_lowering_objects.proofs.Registers.{Fits, Falls, Agrees, agrees_put, agrees_down, all_stand, and_first, and_second}
 use Rattle.vale_lowering_objects.proofs.Reaches.{In, FitAll, as_many, All, Reaches, NextReaches, Runs, by_next, is_stuck, only_if_runs}
-use Rattle.vale_lowering_objects.proofs.Owes.{begins, Follows}
+use Rattle.vale_lowering_objects.proofs.Owes.{begins, HasForm, Follows}
 use Rattle.vale_lowering_objects.proofs.Steps.{stand_kept, keeping}
-use Rattle.vale_lowering_objects.proofs.Ways.{Comes, ComesBack}
+use Rattle.vale_lowering_objects.proofs.Ways.{Leaving, left_with, Comes, ComesBack}
 
 pub agree_same : (q r : Gives) → agree q r ≡ true → q ≡ r
 agree_same void void e = refl
@@ -151,31 +151,58 @@ goes_nowhere p (y.imm x) h f = absurd f
 pub plain_form : (p : Parts) (f : Function) → is_pure f ≡ false → is_destructor p f ≡ false → form_number p f ≡ 0
 plain_form p f e d = ap (λ b. if b then 1 else (if is_destructor p f then 3 else 0)) e ∙ ap (λ b. if b then 3 else 0) d
 
-module _ (code : Code) (functions : List Function) (p0 : Parts) (k : Where) (out : Gives) (n : ℕ) (again : Again) (follows : Follows code functions p0 again n) (is_code : IsCode code p0 functions) where
+-- a function's form by whether it is pure, where it is no destructor
+abbrev number_for : Bool → ℕ
+number_for true = 1
+number_for false = 0
+
+abbrev form_for : Bool → Form
+form_for true = Pure
+form_for false = Plain
+
+number_is : (p : Parts) (f : Function) (b : Bool) → is_pure f ≡ b → is_destructor p f ≡ false → form_number p f ≡ number_for b
+number_is p f true e d = ap (λ b. if b then 1 else (if is_destructor p f then 3 else 0)) e
+number_is p f false e d = plain_form p f e d
+
+has_form : (b : Bool) (func : Func) → func.form ≡ number_for b → HasForm b func
+has_form true func e = e
+has_form false func e = inl e
+
+few_after : (pure : Bool) (v : Option Value) (w : State) {n : ℕ} → w.left ≤ n → (left_with pure v w).left ≤ n
+few_after false v w few = few
+few_after true v w few = few
+
+-- a call's value goes on as it comes back
+called_plainly : (r : Result (Option Value)) → then_do r (λ v l w. goes v l (left_with false v w)) ≡ r
+called_plainly (goes v l w) = refl
+called_plainly (returned v w) = refl
+called_plainly (ended e w) = refl
+
+module _ (code : Code) (functions : List Function) (p0 : Parts) (k : Where) (out : Leaving) (n : ℕ) (again : Again) (follows : Follows code functions p0 again n) (is_code : IsCode code p0 functions) where
   module _ (p h : ℕ) (s : Scope) (g : Gone) (base : Base) (l : Locals) (regs : Registers) (w : State) (fa : Falls h s) (few : w.left ≤ n) where
     -- what comes back goes to its register
-    comes_back : (x : Ty) (after : Registers) (to : Option ℕ) (c : Config) (r : Result (Option Value)) → to ≡ result_to (code_type p0 x) h → Agrees h s g l base after → ComesBack code n l (gives_of x) to (Running (active k (p + 1) after)) k.below c r → Reaches code k out n (p + 1) (In (gives_of x) h s base g) c r
-    comes_back x after to c r e ag (inl a) = inl a
-    comes_back x after to c (returned v w) e ag (inr a) = absurd a
-    comes_back x after to c (ended o w) e ag (inr a) = inr a
-    comes_back x after to c (goes None l' w') e ag (inr a) = inr (
+    comes_back : (x : Ty) (pure : Bool) (after : Registers) (to : Option ℕ) (c : Config) (r : Result (Option Value)) → to ≡ result_to (code_type p0 x) h → Agrees h s g l base after → ComesBack code n l (record { gives = gives_of x; pure = pure }) to (Running (active k (p + 1) after)) k.below c r → Reaches code k out n (p + 1) (In (gives_of x) h s base g) c (then_do r (λ v l w. goes v l (left_with pure v w)))
+    comes_back x pure after to c r e ag (inl a) = inl a
+    comes_back x pure after to c (returned v w) e ag (inr a) = absurd a
+    comes_back x pure after to c (ended o w) e ag (inr a) = inr a
+    comes_back x pure after to c (goes None l' w') e ag (inr a) = inr (
       after,
       subst (λ o. Comes' o) (e ∙ goes_nowhere p0 x h a.2) a.0,
       (a.2, subst (λ z. Agrees h s g z base after) (sym a.1) ag),
-      a.3,
+      few_after pure None w' a.3,
     )
       where
         Comes' : Option ℕ → Type 0
-        Comes' o = Comes code c (record { top = resume o None (Running (active k (p + 1) after)); below = k.below; state = w' })
-    comes_back x after to c (goes (Some v) l' w') e ag (inr a) = inr (
+        Comes' o = Comes code c (record { top = resume o None (Running (active k (p + 1) after)); below = k.below; state = left_with pure None w' })
+    comes_back x pure after to c (goes (Some v) l' w') e ag (inr a) = inr (
       put after h (Some v),
       subst (λ o. Comes' o) (e ∙ goes_to p0 x h v a.2) a.0,
       (a.2, subst (λ z. Agrees (h + 1) s g z (with_at h (Some v) base) (put after h (Some v))) (sym a.1) (agrees_put s g l base base h h (Some v) after fa (omega arith) (λ r lt. refl) ag)),
-      a.3,
+      few_after pure (Some v) w' a.3,
     )
       where
         Comes' : Option ℕ → Type 0
-        Comes' o = Comes code c (record { top = resume o (Some v) (Running (active k (p + 1) after)); below = k.below; state = w' })
+        Comes' o = Comes code c (record { top = resume o (Some v) (Running (active k (p + 1) after)); below = k.below; state = left_with pure (Some v) w' })
 
     module _ (m : NameAt) (qs : List Gives) (vs : List Value) (ag : All qs h s base g vs l regs) where
       abbrev number : ℕ
@@ -193,12 +220,12 @@ module _ (code : Code) (functions : List Function) (p0 : Parts) (k : Where) (out
       here : Agrees (h + length vs) s g l (with_all h vs base) regs
       here = subst (λ z. Agrees (h + z) s g l (with_all h vs base) regs) (sym many) ag.1
 
-      module _ (f : Function) (e : first_function (has_name m.name.0) functions ≡ Some f) (pure : is_pure f ≡ false) (plain : is_destructor p0 f ≡ false) (fit : FitAll (param_gives f) vs) where
+      module _ (f : Function) (e : first_function (has_name m.name.0) functions ≡ Some f) (b : Bool) (pure : is_pure f ≡ b) (plain : is_destructor p0 f ≡ false) (fit : FitAll (param_gives f) vs) where
         abbrev low : IsLowered code p0 functions number f
         low = is_code.at number f (found_function (has_name m.name.0) functions f e)
 
-        form : low.func.form ≡ 0
-        form = low.form ∙ plain_form p0 f pure plain
+        form : low.func.form ≡ number_for b
+        form = low.form ∙ number_is p0 f b pure plain
 
         abbrev called_with : Form → Func → List Value → Registers → Next
         called_with form func us rs =
@@ -207,58 +234,106 @@ module _ (code : Code) (functions : List Function) (p0 : Parts) (k : Where) (out
         abbrev on_function : Form → Func → Next
         on_function form func = if_called form w (with_read (give_all func.params (registers_from h (length vs)) regs) w (called_with form func))
 
-        instruction : does code k n p regs w instr ≡ with_read (give_all (map (λ q. code_type p0 (type_of (param_type q))) (head_params (head_of f))) (registers_from h (length vs)) regs) w (called_with Plain low.func)
+        by_number : (b : Bool) → with_form (form_in (number_for b)) low.func w on_function ≡ with_read (give_all low.func.params (registers_from h (length vs)) regs) w (called_with (form_for b) low.func)
+        by_number true = refl
+        by_number false = refl
+
+        instruction : does code k n p regs w instr ≡ with_read (give_all (map (λ q. code_type p0 (type_of (param_type q))) (head_params (head_of f))) (registers_from h (length vs)) regs) w (called_with (form_for b) low.func)
         instruction =
-            ap (λ o. with_func o w on_function) low.here ∙ ap (λ z. with_form (form_in z) low.func w on_function) form
-            ∙ ap (λ z. with_read (give_all z (registers_from h (length vs)) regs) w (called_with Plain low.func)) low.params
+            ap (λ o. with_func o w on_function) low.here ∙ ap (λ z. with_form (form_in z) low.func w on_function) form ∙ by_number b
+            ∙ ap (λ z. with_read (give_all z (registers_from h (length vs)) regs) w (called_with (form_for b) low.func)) low.params
 
         named : text_at code low.func.name ≡ name_text p0 m.name.0
         named = low.name ∙ ap (name_text p0) ((Decides-eqb (name_of f) m.name.0).0 (passes (has_name m.name.0) functions f e))
 
         -- a function is entered, with its depth and its tick
-        enters : (after : Registers) → ((r : ℕ) → r < h → read after r ≡ read regs r) → NextReaches code k out n (p + 1) (In (result_gives f) h s base g) (enter number Plain low.func frame (result_to low.func.result h) (given_all (head_params (head_of f)) vs) (Running (active k (p + 1) after) ∷ k.below) w) (called_by false again f vs frame (calls_in k) l w)
-        enters after same = by_depth (has_depth 1 (calls_in k) w)
-          where
-            fs : List Frame
-            fs = Running (active k (p + 1) after) ∷ k.below
+        module _ (after : Registers) (same : (r : ℕ) → r < h → read after r ≡ read regs r) where
+          abbrev fs : List Frame
+          fs = Running (active k (p + 1) after) ∷ k.below
 
-            to : Option ℕ
-            to = result_to low.func.result h
+          abbrev to : Option ℕ
+          to = result_to low.func.result h
 
-            post : Post (Option Value)
-            post = In (result_gives f) h s base g
+          abbrev post : Post (Option Value)
+          post = In (result_gives f) h s base g
 
-            next : Option State → Next
-            next o = frames.ticked o w (λ t. On (begins number low.func (given_all (head_params (head_of f)) vs) frame to fs t))
+          abbrev entering : Form → Next
+          entering form = enter number form low.func frame to (given_all (head_params (head_of f)) vs) fs w
 
-            result : Option State → Result (Option Value)
-            result o = then_do (model.ticked o (calls_in k) l w) (λ u. again.call f vs frame (calls_in k))
+          -- a function that has begun comes back
+          runs_from : (u : State) → u.left < n → Reaches code k out n (p + 1) post (begins number low.func (given_all (head_params (head_of f)) vs) frame to fs u) (then_do (again.call f vs frame (calls_in k) l u) (λ v l w. goes v l (left_with b v w)))
+          runs_from u less =
+              comes_back (result_type f) b after to (begins number low.func (given_all (head_params (head_of f)) vs) frame to fs u) (again.call f vs frame (calls_in k) l u)
+              (ap (λ z. result_to z h) low.result)
+              (agrees_down s g l base (with_all h vs base) h (h + length vs) regs after fa (omega arith) (λ r lt. with_all_below h vs base r lt) same here)
+              (subst (λ z. ComesBack code n l (record { gives = result_gives f; pure = z }) to (Running (active k (p + 1) after)) k.below (begins number low.func (given_all (head_params (head_of f)) vs) frame to fs u) (again.call f vs frame (calls_in k) l u)) pure
+              (follows.calls number f low vs frame to (Running (active k (p + 1) after)) k.below l u less (subst (λ z. HasForm z low.func) (sym pure) (has_form b low.func form)) fit))
 
-            by_left : (q : ℕ) → w.left ≡ q → NextReaches code k out n (p + 1) post (next (spend_of q w)) (result (spend_of q w))
-            by_left zero e = inr refl
-            by_left (suc q) e =
-                let u : State = record w { left = q; spent = w.spent + 1 } in
-                comes_back (result_type f) after to (begins number low.func (given_all (head_params (head_of f)) vs) frame to fs u) (again.call f vs frame (calls_in k) l u)
-                (ap (λ z. result_to z h) low.result)
-                (agrees_down s g l base (with_all h vs base) h (h + length vs) regs after fa (omega arith) (λ r lt. with_all_below h vs base r lt) same here)
-                (follows.calls number f low vs frame to (Running (active k (p + 1) after)) k.below l u (omega (arith, few, e)) (inl form) fit)
+          -- what begins after the tick
+          abbrev started : Bool → State → Next
+          started form u = On (begins number low.func (given_all (head_params (head_of f)) vs) frame to fs (begun (form_for form) u))
 
-            by_depth : (b : Bool) → NextReaches code k out n (p + 1) post (if b then next (spend w) else frames.trap CallDepth frame.at fs w) (then_do (if b then goes (tt {0}) l w else model.trap CallDepth frame.at (calls_in k) l w) (λ v l w. (tick >>= (λ u. again.call f vs frame)) (calls_in k) l w))
-            by_depth true = by_left w.left refl
-            by_depth false = inr refl
+          enters_plain : b ≡ false → NextReaches code k out n (p + 1) post (entering Plain) (called_by false again f vs frame (calls_in k) l w)
+          enters_plain is = by_depth (has_depth 1 (calls_in k) w)
+            where
+              next : Option State → Next
+              next o = frames.ticked o w (started false)
 
-        calls_function : fetch code k.function p ≡ Some instr → Reaches code k out n (p + 1) (In (result_gives f) h s base g) (conf k p regs w) (called_by false again f vs frame (calls_in k) l w)
+              result : Option State → Result (Option Value)
+              result o = then_do (model.ticked o (calls_in k) l w) (λ u. again.call f vs frame (calls_in k))
+
+              by_left : (q : ℕ) → w.left ≡ q → NextReaches code k out n (p + 1) post (next (spend_of q w)) (result (spend_of q w))
+              by_left zero e = inr refl
+              by_left (suc q) e =
+                  let u : State = record w { left = q; spent = w.spent + 1 } in
+                  let r = again.call f vs frame (calls_in k) l u in
+                  let c = begins number low.func (given_all (head_params (head_of f)) vs) frame to fs u in
+                  subst (λ r. Reaches code k out n (p + 1) post c r) (called_plainly r)
+                  (subst (λ z. Reaches code k out n (p + 1) post c (then_do r (λ v l w. goes v l (left_with z v w)))) is (runs_from u (omega (arith, few, e))))
+
+              by_depth : (x : Bool) → NextReaches code k out n (p + 1) post (if x then next (spend w) else frames.trap CallDepth frame.at fs w) (then_do (if x then goes (tt {0}) l w else model.trap CallDepth frame.at (calls_in k) l w) (λ v l w. (tick >>= (λ u. again.call f vs frame)) (calls_in k) l w))
+              by_depth true = by_left w.left refl
+              by_depth false = inr refl
+
+          -- a pure one in a freeze of its own
+          enters_pure : b ≡ true → NextReaches code k out n (p + 1) post (entering Pure) (called_by true again f vs frame (calls_in k) l w)
+          enters_pure is = by_depth (has_depth 2 (calls_in k) w)
+            where
+              in_freeze : Run (Option Value)
+              in_freeze = change freeze >>= (λ u. again.call f vs frame >>= (λ v. change (thaw (end_of_pure v)) >>= (λ u. give v)))
+
+              next : Option State → Next
+              next o = frames.ticked o w (started true)
+
+              result : Option State → Result (Option Value)
+              result o = then_do (model.ticked o (calls_in k) l w) (λ u. in_freeze (calls_in k))
+
+              by_left : (q : ℕ) → w.left ≡ q → NextReaches code k out n (p + 1) post (next (spend_of q w)) (result (spend_of q w))
+              by_left zero e = inr refl
+              by_left (suc q) e =
+                  let u : State = freeze (record w { left = q; spent = w.spent + 1 }) in
+                  subst (λ z. Reaches code k out n (p + 1) post (begins number low.func (given_all (head_params (head_of f)) vs) frame to fs u) (then_do (again.call f vs frame (calls_in k) l u) (λ v l w. goes v l (left_with z v w)))) is (runs_from u (omega (arith, few, e)))
+
+              by_depth : (x : Bool) → NextReaches code k out n (p + 1) post (if x then next (spend w) else frames.trap CallDepth frame.at fs w) (then_do (if x then goes (tt {0}) l w else model.trap CallDepth frame.at (calls_in k) l w) (λ v l w. (tick >>= (λ u. in_freeze)) (calls_in k) l w))
+              by_depth true = by_left w.left refl
+              by_depth false = inr refl
+
+          enters : (z : Bool) → b ≡ z → NextReaches code k out n (p + 1) post (entering (form_for z)) (called_by z again f vs frame (calls_in k) l w)
+          enters true is = enters_pure is
+          enters false is = enters_plain is
+
+        calls_function : fetch code k.function p ≡ Some instr → Reaches code k out n (p + 1) (In (result_gives f) h s base g) (conf k p regs w) (called_by b again f vs frame (calls_in k) l w)
         calls_function at = by (all_given p0 (head_params (head_of f)) h vs regs fit (all_stand s g l vs h h (h + length vs) base regs fa (omega arith) (omega arith) here))
           where
-            by : GivenAll p0 (head_params (head_of f)) h vs regs → Reaches code k out n (p + 1) (In (result_gives f) h s base g) (conf k p regs w) (called_by false again f vs frame (calls_in k) l w)
+            by : GivenAll p0 (head_params (head_of f)) h vs regs → Reaches code k out n (p + 1) (In (result_gives f) h s base g) (conf k p regs w) (called_by b again f vs frame (calls_in k) l w)
             by (inl (after, is, same)) =
-                by_next code k out n p (p + 1) _ regs w instr _ (called_by false again f vs frame (calls_in k) l w) tt at
-                (instruction ∙ ap (λ o. with_read o w (called_with Plain low.func)) is
-                ∙ ap (λ t. enter number Plain low.func (record { what = t; at = m.at }) (result_to low.func.result h) (given_all (head_params (head_of f)) vs) (Running (active k (p + 1) after) ∷ k.below) w) named)
-                (enters after same)
+                by_next code k out n p (p + 1) _ regs w instr _ (called_by b again f vs frame (calls_in k) l w) tt at
+                (instruction ∙ ap (λ o. with_read o w (called_with (form_for b) low.func)) is
+                ∙ ap (λ t. enter number (form_for b) low.func (record { what = t; at = m.at }) (result_to low.func.result h) (given_all (head_params (head_of f)) vs) (Running (active k (p + 1) after) ∷ k.below) w) named)
+                (enters after same b refl)
             by (inr is) =
-                by_next code k out n p (p + 1) _ regs w instr (Over Wrong None w) (called_by false again f vs frame (calls_in k) l w) tt at
-                (instruction ∙ ap (λ o. with_read o w (called_with Plain low.func)) is) (inl refl)
+                by_next code k out n p (p + 1) _ regs w instr (Over Wrong None w) (called_by b again f vs frame (calls_in k) l w) tt at
+                (instruction ∙ ap (λ o. with_read o w (called_with (form_for b) low.func)) is) (inl refl)
 
       by_function : (q : Gives) (o : Option Function) → first_function (has_name m.name.0) functions ≡ o → Runs code k out n (only_if (may_be_called p0 q qs o) h (instr ∷ [])) (In q h s base g) p regs w (called again o vs frame (calls_in k) l w)
       by_function q None e has = is_stuck code k out n p (p + 1) h (In q h s base g) regs w (called again None vs frame (calls_in k) l w) has
@@ -266,12 +341,11 @@ module _ (code : Code) (functions : List Function) (p0 : Parts) (k : Where) (out
           only_if_runs code k out n (may_be_called p0 q qs (Some f)) h p _ (In q h s base g) regs w (called again (Some f) vs frame (calls_in k) l w)
           (λ may has. by_purity (is_pure f) (is_destructor p0 f) refl refl may has.0) has
         where
-          by_purity : (b d : Bool) → is_pure f ≡ b → is_destructor p0 f ≡ d → (if b then false else (if d then false else agree q (result_gives f) && all_agree qs (param_gives f))) ≡ true → fetch code k.function p ≡ Some instr → Reaches code k out n (p + 1) (In q h s base g) (conf k p regs w) (called_by b again f vs frame (calls_in k) l w)
-          by_purity true d pure de may at = absurd (cc)
-          by_purity false true pure de may at = absurd (cc)
-          by_purity false false pure de may at =
-              subst (λ z. Reaches code k out n (p + 1) (In z h s base g) (conf k p regs w) (called_by false again f vs frame (calls_in k) l w)) (sym (agree_same q (result_gives f) (and_first (agree q (result_gives f)) (all_agree qs (param_gives f)) may)))
-              (calls_function f e pure de (fit_as qs (param_gives f) vs (and_second (agree q (result_gives f)) (all_agree qs (param_gives f)) may) ag.0) at)
+          by_purity : (b d : Bool) → is_pure f ≡ b → is_destructor p0 f ≡ d → (if d then false else agree q (result_gives f) && all_agree qs (param_gives f)) ≡ true → fetch code k.function p ≡ Some instr → Reaches code k out n (p + 1) (In q h s base g) (conf k p regs w) (called_by b again f vs frame (calls_in k) l w)
+          by_purity b true pure de may at = absurd (cc)
+          by_purity b false pure de may at =
+              subst (λ z. Reaches code k out n (p + 1) (In z h s base g) (conf k p regs w) (called_by b again f vs frame (calls_in k) l w)) (sym (agree_same q (result_gives f) (and_first (agree q (result_gives f)) (all_agree qs (param_gives f)) may)))
+              (calls_function f e b pure de (fit_as qs (param_gives f) vs (and_second (agree q (result_gives f)) (all_agree qs (param_gives f)) may) ag.0) at)
 
     -- a call of the function of a name
     pub call_runs : (m : NameAt) (q : Gives) (qs : List Gives) (vs : List Value) → All qs h s base g vs l regs → Runs code k out n (only_if (may_be_called p0 q qs (first_function (has_name m.name.0) functions)) h (i.Call h (number_of_function (has_name m.name.0) functions) (registers_from h (length qs)) m.at ∷ [])) (In q h s base g) p regs w (called again (function_named again.parts m.name.0) vs (function_frame (name_text again.parts m.name.0) m.at) (calls_in k) l w)

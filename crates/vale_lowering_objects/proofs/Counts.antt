@@ -22,13 +22,13 @@ use Rattle.vale_lowering.proofs.Registers.{Held, Base, with_at, one_above, two_a
 use Rattle.vale_lowering.proofs.Reaches.{Where, active, conf, calls_in, Post, HasAt, does, has_front, has_back, free_on, free_back}
 use Rattle.vale_lowering.proofs.Shapes.{loop_body, loop_test, loop_end}
 use Rattle.vale_lowering.proofs.Operators.{reads_two}
-use Rattle.vale_lowering_objects.specs.Scopes.{Gives, Scope, Gone, After, comes, never, closes}
+use Rattle.vale_lowering_objects.specs.Scopes.{Scope, Gone, After, comes, never, closes}
 use Rattle.vale_lowering_objects.specs.Lowered.{if_comes, count_code}
 use Rattle.vale_lowering_objects.proofs.Registers.{Falls, falls_up, fresh_above, Agrees, agrees_put, agrees_down, agrees_dest, agrees_met, top_read, next_read}
 use Rattle.vale_lowering_objects.proofs.Lawful.{LawfulHeld, read_lawful}
 use Rattle.vale_lowering_objects.proofs.LawfulSteps.{LawfulConfig}
 use Rattle.vale_lowering_objects.proofs.Reaches.{Then, Keeps, Reaches, wrongs, comes_reaches, then_reaches, stays, chooses, ticks}
-use Rattle.vale_lowering_objects.proofs.Ways.{Comes, comes_on, moves, jumps}
+use Rattle.vale_lowering_objects.proofs.Ways.{Leaving, Comes, comes_on, moves, jumps}
 
 -- ---- the numbers of the turns
 
@@ -58,7 +58,7 @@ next_is_int x y more hx hy e = let h = is_some (y -ℤ x) more e in grind (arith
 no_difference : (x : ℤ) → x -ℤ x ≡ pos 0
 no_difference x = omega (arith, ints)
 
-module _ (code : Parts) (k : Where) (out : Gives) (n : ℕ) where
+module _ (code : Parts) (k : Where) (out : Leaving) (n : ℕ) where
   -- ---- after the body of a turn, where a run comes there
 
   after_body : {A B : Type 0} (o : After) (p q h : ℕ) (s : Scope) (g : Gone) (base : Base) (cs ds : List Instr) (c : Config) (r : Result A) (go : A → Locals → State → Result B) (post : Post B) → closes s g o ≡ true → HasAt code k.function p (if_comes p cs o (λ place g. ds)) → Reaches code k out n (p + length cs) (Then o (Keeps {A = A} h s base)) c r → ((v : A) (l : Locals) (w : State) (regs : Registers) → Agrees h s g l base regs → w.left ≤ n → HasAt code k.function (p + length cs) ds → p + length cs + length ds ≡ p + length (if_comes p cs o (λ place g. ds)) → Reaches code k out n q post (conf k (p + length cs) regs w) (go v l w)) → Reaches code k out n q post c (then_do r go)

@@ -26,7 +26,7 @@ use Rattle.vale_code.specs.declared.func.Func.{Func}
 use Rattle.vale_lowering_objects.specs.Destruction.{IsDestructor, SameDestructor, SameKinds}
 use Rattle.vale_lowering_objects.specs.Scopes.{void}
 use Rattle.vale_lowering_objects.proofs.LawfulSteps.{LawfulConfig, LawfulNext, destroy_next}
-use Rattle.vale_lowering_objects.proofs.Ways.{Comes, CameBack, ComesBack, comes_refl, comes_on, comes_stops, comes_fails, steps_to}
+use Rattle.vale_lowering_objects.proofs.Ways.{Leaving, Comes, CameBack, ComesBack, comes_refl, comes_on, comes_stops, comes_fails, steps_to}
 
 -- an owner or an isolate
 abbrev pub IsOwned : Value → Type 0
@@ -37,10 +37,14 @@ IsOwned (Truth b) = ⊥
 IsOwned (Text t) = ⊥
 IsOwned (Ref n) = ⊥
 
+-- of a destructor or the drop of values: nothing
+abbrev pub nothing_out : Leaving
+nothing_out = record { gives = void; pure = false }
+
 module _ (code : Code) (functions : List Function) where
   -- what is under way comes back to the frame `after`, with nothing
   abbrev pub Back : ℕ → Locals → Frame → List Frame → Config → Result (Option Value) → Type 0
-  Back n l after below c r = ComesBack code n l void None after below c r
+  Back n l after below c r = ComesBack code n l nothing_out None after below c r
 
   -- the same, of what a step leads to
   abbrev pub NextBack : ℕ → Locals → Frame → List Frame → Next → Result (Option Value) → Type 0
@@ -152,7 +156,7 @@ module _ (code : Code) (functions : List Function) where
         d : Config
         d = record { top = after'; below = below'; state = w }
 
-        came_back : (q : Result (Option Value)) → CameBack code n l void None after below d q → CameBack code n l void None after below c q
+        came_back : (q : Result (Option Value)) → CameBack code n l nothing_out None after below d q → CameBack code n l nothing_out None after below c q
         came_back (goes v k u) b = (comes_on code c d _ a.0 b.0, b.1, b.2, b.3)
         came_back (returned v u) b = absurd b
         came_back (ended e u) b = comes_stops code c d e u a.0 b
@@ -170,7 +174,7 @@ module _ (code : Code) (functions : List Function) where
         comes : Comes code c d
         comes = steps_to code c d e h
 
-        came : (q : Result (Option Value)) → CameBack code n l void None after below d q → CameBack code n l void None after below c q
+        came : (q : Result (Option Value)) → CameBack code n l nothing_out None after below d q → CameBack code n l nothing_out None after below c q
         came (goes v k u) b = (comes_on code c d _ comes b.0, b.1, b.2, b.3)
         came (returned v u) b = absurd b
         came (ended o u) b = comes_stops code c d o u comes b

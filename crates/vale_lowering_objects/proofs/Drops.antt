@@ -17,12 +17,13 @@ use Rattle.vale_code.specs.declared.instr.Instr.TheVariants as i
 use Rattle.vale_lowering.proofs.Registers.{Held, pick_other, read_put}
 use Rattle.vale_lowering.proofs.Reaches.{Where, active, conf, calls_in, Post, does}
 use Rattle.vale_lowering_objects.specs.Destruction.{SameKinds}
-use Rattle.vale_lowering_objects.specs.Scopes.{Gives, Entry, Scope, Gone, is_gone, never}
+use Rattle.vale_lowering_objects.specs.Scopes.{Entry, Scope, Gone, is_gone, never}
 use Rattle.vale_lowering_objects.specs.Lowered.{drop_entry, drop_scope}
 use Rattle.vale_lowering_objects.proofs.Destruction.{IsOwned, Back, NextBack, drop_runs}
 use Rattle.vale_lowering_objects.proofs.Owes.{IsHere, Follows, leaves, leaves_void}
 use Rattle.vale_lowering_objects.proofs.Registers.{Fits, Holds, Falls, Stands, stands_kept}
 use Rattle.vale_lowering_objects.proofs.Reaches.{Then, Reaches, NextReaches, Runs, by_next, weaker, stays_at, one_after}
+use Rattle.vale_lowering_objects.proofs.Ways.{Leaving}
 
 -- nothing comes, the locals are as before, and so are the registers but for r
 abbrev pub Without : ℕ → Locals → Registers → Post (Option Value)
@@ -32,7 +33,7 @@ Without r l0 regs0 v l regs = (v ≡ None) × (l ≡ l0) × ((q : ℕ) → q ≢
 abbrev pub From : {A : Type 0} → ℕ → Locals → Registers → Post A
 From h l0 regs0 v l regs = (l ≡ l0) × ((q : ℕ) → h ≤ q → read regs q ≡ read regs0 q)
 
-module _ (code : Code) (functions : List Function) (p : Parts) (kinds : SameKinds code functions p) (k : Where) (out : Gives) (n : ℕ) (again : Again) (follows : Follows code functions p again n) where
+module _ (code : Code) (functions : List Function) (p : Parts) (kinds : SameKinds code functions p) (k : Where) (out : Leaving) (n : ℕ) (again : Again) (follows : Follows code functions p again n) where
   -- ---- one value
 
   back_reaches : (q : ℕ) (r : ℕ) (l : Locals) (regs0 : Registers) (regs : Registers) (c : Config) (x : Result (Option Value)) → ((z : ℕ) → z ≢ r → read regs z ≡ read regs0 z) → Back code functions n l (Running (active k q regs)) k.below c x → Reaches code k out n q (Without r l regs0) c x
@@ -113,14 +114,14 @@ module _ (code : Code) (functions : List Function) (p : Parts) (kinds : SameKind
   -- ---- the end of a function
 
   -- `return` over locals and values that wait: they are dropped, the innermost first, and then the value goes out
-  pub leave_runs : {A : Type 0} (g0 : Gone) (post : Gone → Post A) (s : Scope) (g : Gone) (q h : ℕ) (at : Spot) (v : Value) (l : Locals) (regs : Registers) (w : State) → IsHere code k → Falls h s → Stands s g l regs → read regs h ≡ Some v → Fits out (Some v) → w.left ≤ n → Runs code k out n (drop_scope s g at ++ (i.Ret h ∷ [])) (Then {A = A} (never g0) post) q regs w (leave again at (Some v) (calls_in k) l w)
+  pub leave_runs : {A : Type 0} (g0 : Gone) (post : Gone → Post A) (s : Scope) (g : Gone) (q h : ℕ) (at : Spot) (v : Value) (l : Locals) (regs : Registers) (w : State) → IsHere code k out.pure → Falls h s → Stands s g l regs → read regs h ≡ Some v → Fits out.gives (Some v) → w.left ≤ n → Runs code k out n (drop_scope s g at ++ (i.Ret h ∷ [])) (Then {A = A} (never g0) post) q regs w (leave again at (Some v) (calls_in k) l w)
   leave_runs g0 post s g q h at v l regs w is fa st top fit few =
       one_after code k out n (drop_scope s g at) (i.Ret h ∷ []) (From {A = Option Value} h [] regs) (Then (never g0) post) q regs w (drop_locals again at l (calls_in k) [] w) (λ u l w. returned (Some v) w)
       (scope_runs s g q h at l [] regs w fa st few)
-      (λ u l1 w1 regs1 a few1 has1. inr (leaves code k n is (q + length (drop_scope s g at)) h regs1 w1 v has1.0 (a.1 h (omega arith) ∙ top), fit, few1))
+      (λ u l1 w1 regs1 a few1 has1. inr (leaves code k n out.pure is (q + length (drop_scope s g at)) h regs1 w1 v has1.0 (a.1 h (omega arith) ∙ top), fit, few1))
 
-  pub leave_void_runs : {A : Type 0} (g0 : Gone) (post : Gone → Post A) (s : Scope) (g : Gone) (q h : ℕ) (at : Spot) (l : Locals) (regs : Registers) (w : State) → IsHere code k → Falls h s → Stands s g l regs → Fits out None → w.left ≤ n → Runs code k out n (drop_scope s g at ++ (i.RetVoid ∷ [])) (Then {A = A} (never g0) post) q regs w (leave again at None (calls_in k) l w)
+  pub leave_void_runs : {A : Type 0} (g0 : Gone) (post : Gone → Post A) (s : Scope) (g : Gone) (q h : ℕ) (at : Spot) (l : Locals) (regs : Registers) (w : State) → IsHere code k out.pure → Falls h s → Stands s g l regs → Fits out.gives None → w.left ≤ n → Runs code k out n (drop_scope s g at ++ (i.RetVoid ∷ [])) (Then {A = A} (never g0) post) q regs w (leave again at None (calls_in k) l w)
   leave_void_runs g0 post s g q h at l regs w is fa st fit few =
       one_after code k out n (drop_scope s g at) (i.RetVoid ∷ []) (From {A = Option Value} h [] regs) (Then (never g0) post) q regs w (drop_locals again at l (calls_in k) [] w) (λ u l w. returned None w)
       (scope_runs s g q h at l [] regs w fa st few)
-      (λ u l1 w1 regs1 a few1 has1. inr (leaves_void code k n is (q + length (drop_scope s g at)) regs1 w1 has1.0, fit, few1))
+      (λ u l1 w1 regs1 a few1 has1. inr (leaves_void code k n out.pure is (q + length (drop_scope s g at)) regs1 w1 has1.0, fit, few1))

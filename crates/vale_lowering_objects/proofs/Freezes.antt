@@ -22,7 +22,7 @@ use Rattle.vale_lowering_objects.specs.Lowered.{freeze_code, thaw_code, if_comes
 use Rattle.vale_lowering_objects.proofs.Origins.{Yields, surely_yields}
 use Rattle.vale_lowering_objects.proofs.Posts.{agree_same}
 use Rattle.vale_lowering_objects.proofs.Reaches.{Then, In, Reaches, NextReaches, Runs, wrongs, by_next, ends_at, ended_by, only_if_runs}
-use Rattle.vale_lowering_objects.proofs.Ways.{moves}
+use Rattle.vale_lowering_objects.proofs.Ways.{Leaving, moves}
 use Rattle.vale_lowering_objects.proofs.Registers.{Falls, Agrees, agrees_put, agrees_down, top_read}
 use Rattle.vale_lowering_objects.proofs.Steps.{keeping}
 
@@ -34,7 +34,7 @@ merge_yields (Text t) w = tt
 merge_yields (Own m) w = tt
 merge_yields (Ref m) w = tt
 
-module _ (code : Code) (k : Where) (out : Gives) (n : ℕ) where
+module _ (code : Code) (k : Where) (out : Leaving) (n : ℕ) where
   -- the region is opened, where the depth allows it
   pub freezes : (q1 q : Gives) (at : Spot) (p h : ℕ) (s : Scope) (base : Base) (l : Locals) (regs : Registers) (w : State) (part : ℕ → List Instr) (o : After) (ends : List Instr) (r : Result (Option Value)) (finish : Option Value → Locals → State → Result (Option Value)) (rest : Locals → State → Result (Option Value)) → rest l w ≡ then_do r finish → Runs code k out n (part (p + 1)) (Then o (In q1 h s base)) (p + 1) regs (freeze w) r → ((g : Gone) (v : Option Value) (l : Locals) (w : State) (regs : Registers) (z : ℕ) → In q1 h s base g v l regs → w.left ≤ n → Runs code k out n ends (In q h s base g) z regs w (finish v l w)) → Runs code k out n (freeze_code at p part o ends) (Then o (In q h s base)) p regs w (then_do (deep 1 at (calls_in k) l w) (λ u. rest))
   freezes q1 q at p h s base l regs w part o ends r finish rest is run thaws has =

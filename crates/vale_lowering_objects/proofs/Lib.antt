@@ -5,6 +5,7 @@ mod Codes
 mod Counts
 mod Destruction
 mod Drops
+mod Elided
 mod Freezes
 mod Input
 mod Lawful

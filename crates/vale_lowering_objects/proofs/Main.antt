@@ -13,7 +13,7 @@ use Rattle.vale_rules_spec.specs.Types.{Ty, type_of}
 use Rattle.vale_rules_spec.specs.Types as y
 use Rattle.vale_rules_spec.specs.Typed.{Function, function_body}
 use Rattle.vale_model.specs.Kinds.{head_of}
-use Rattle.vale_model.specs.Parts.{Parts, parts_of, kind_of, name_of, has_text, first_function}
+use Rattle.vale_model.specs.Parts.{Parts, parts_of, kind_of, name_of, has_text, first_function, is_pure}
 use Rattle.vale_model.specs.Runs as model
 use Rattle.vale_model.specs.Runs.{Locals, Result, goes, returned, ended, then_do, ◌>>=◌, tick}
 use Rattle.vale_model.specs.Expressions.{called, called_by}
@@ -45,6 +45,7 @@ use Rattle.vale_lowering_objects.proofs.Lawful.{LawfulValue, LawfulValues, Lawfu
 use Rattle.vale_lowering_objects.proofs.LawfulSteps.{LawfulConfig}
 use Rattle.vale_lowering_objects.proofs.Reaches.{Then, Keeps, FitAll, Reaches}
 use Rattle.vale_lowering_objects.proofs.Calls.{plain_form}
+use Rattle.vale_lowering_objects.proofs.Owes.{HasForm}
 use Rattle.vale_lowering_objects.proofs.Steps.{born_left}
 use Rattle.vale_lowering_objects.proofs.Program.{one_given, never_none, body_runs, all_follow}
 
@@ -90,7 +91,7 @@ module _ (code : Code) (p : Parts) (functions : List Function) (is_code : IsCode
   abbrev root : Where
   root = record { call = main_frame; function = number; dest = None; below = []; gives = false }
 
-  stopped : (q : Gives) (n z : ℕ) (base : ℕ → Option Value) (c : Config) (r : Result (Option Value)) → LawfulConfig c → Reaches code root q n z (Then (never []) (Keeps {A = Option Value} 0 [] base)) c r → Matches code (On c) (back_to [] r)
+  stopped : (q : Gives) (n z : ℕ) (base : ℕ → Option Value) (c : Config) (r : Result (Option Value)) → LawfulConfig c → Reaches code root (record { gives = q; pure = false }) n z (Then (never []) (Keeps {A = Option Value} 0 [] base)) c r → Matches code (On c) (back_to [] r)
   stopped q n z base c r h (inl (inl (w, x))) = inl (w, x)
   stopped q n z base c r h (inl (inr f)) = absurd (f h)
   stopped q n z base c (goes v l w) h (inr a) = absurd a.2
@@ -98,8 +99,8 @@ module _ (code : Code) (p : Parts) (functions : List Function) (is_code : IsCode
   stopped q n z base c (ended e w) h (inr a) = inr (e, w, a, refl, refl)
 
   -- a function is entered with these values, from a state of no great depth
-  main_entered : (n : ℕ) (g : Function) (low : IsLowered code p functions number g) → low.func.form ≡ 0 → (vs : List Value) → FitAll (param_gives g) vs → LawfulValues vs → (w : State) → w.left ≤ suc n → LawfulWorld w.world → has_depth 1 [] w ≡ true → Matches code (enter number Plain low.func main_frame None (given_all (head_params (head_of g)) vs) [] w) (called_by false (level p (suc n)) g vs main_frame [] [] w)
-  main_entered n (function_body h b) low form vs fit hv w few hw deep = by_depth (has_depth 1 [] w) deep
+  main_entered : (n : ℕ) (g : Function) (low : IsLowered code p functions number g) → low.func.form ≡ 0 → is_pure g ≡ false → (vs : List Value) → FitAll (param_gives g) vs → LawfulValues vs → (w : State) → w.left ≤ suc n → LawfulWorld w.world → has_depth 1 [] w ≡ true → Matches code (enter number Plain low.func main_frame None (given_all (head_params (head_of g)) vs) [] w) (called_by false (level p (suc n)) g vs main_frame [] [] w)
+  main_entered n (function_body h b) low form pure vs fit hv w few hw deep = by_depth (has_depth 1 [] w) deep
     where
       g : Function
       g = function_body h b
@@ -121,7 +122,8 @@ module _ (code : Code) (p : Parts) (functions : List Function) (is_code : IsCode
       by_bound (Some l) e u less hu =
           stopped (result_gives g) n (0 + length cs) (read (registers_for low.func.registers us)) (conf root 0 (registers_for low.func.registers us) u) (body_run (level p n) b (main_frame ∷ []) l u)
           (registers_for_lawful low.func.registers us (all_given_lawful (head_params h) vs hv), tt, hu)
-          (body_runs code functions p is_code n (all_follow code functions p is_code n) root g low (inl form) vs fit b l u refl e less (has_all code number low.func cs [] low.here low.body))
+          (subst (λ z. Reaches code root (record { gives = result_gives g; pure = z }) n (0 + length cs) (Then (never []) (Keeps {A = Option Value} 0 [] (read (registers_for low.func.registers us)))) (conf root 0 (registers_for low.func.registers us) u) (body_run (level p n) b (main_frame ∷ []) l u)) pure
+          (body_runs code functions p is_code n (all_follow code functions p is_code n) root g low (subst (λ z. HasForm z low.func) (sym pure) (inl form)) vs fit b l u refl e less (has_all code number low.func cs [] low.here low.body)))
 
       by_left : (q : ℕ) → w.left ≡ q → Matches code (next (spend_of q w)) (result (spend_of q w))
       by_left zero e = inr (Cut, w, (0, None, refl), refl, refl)
@@ -145,7 +147,7 @@ module _ (code : Code) (p : Parts) (functions : List Function) (is_code : IsCode
   none_taken zero ps is none = inr (Cut, begin 0, (0, None, refl), refl, refl)
   none_taken (suc n) ps is none =
       subst (λ us. Matches code (enters us (begin (suc n))) (called_by false (level p (suc n)) f [] main_frame [] [] (begin (suc n)))) (ap (λ qs. given_all qs []) (is ∙ none))
-      (main_entered n f low form [] (no_values f (is ∙ none)) tt (begin (suc n)) (omega arith) tt refl)
+      (main_entered n f low form has.pure [] (no_values f (is ∙ none)) tt (begin (suc n)) (omega arith) tt refl)
     where
       no_values : (g : Function) → head_params (head_of g) ≡ [] → FitAll (param_gives g) []
       no_values (function_body h b) e = subst (λ ps. FitAll (param_gives_of ps) []) (sym e) tt
@@ -155,7 +157,7 @@ module _ (code : Code) (p : Parts) (functions : List Function) (is_code : IsCode
   array_taken zero q x us hu is e = inr (Cut, begin 0, (0, None, refl), refl, refl)
   array_taken (suc n) q x us hu is e =
       subst (λ args. Matches code (enters args w) (called_by false (level p (suc n)) f (v ∷ []) main_frame [] [] w)) same
-      (main_entered n f low form (v ∷ []) fits (tt, tt) w (let less = born_left (kind_of p (y.array x)) us u in omega (arith, less)) (born_lawful (kind_of p (y.array x)) us u tt hu.0 hu.1) refl)
+      (main_entered n f low form has.pure (v ∷ []) fits (tt, tt) w (let less = born_left (kind_of p (y.array x)) us u in omega (arith, less)) (born_lawful (kind_of p (y.array x)) us u tt hu.0 hu.1) refl)
     where
       u : State
       u = record (begin (suc n)) { left = n; spent = 0 + 1 }

@@ -10,13 +10,15 @@ use Rattle.vale_syntax.specs.declared.tree.NameAt.{NameAt}
 use Rattle.vale_syntax.specs.declared.tree.BinaryOp.TheVariants.{Add, And, Equal, Less, Greater, Mul}
 use Rattle.vale_syntax.specs.declared.tree.UnaryOp.TheVariants.{Borrow, Merge, Minus, Not}
 use Rattle.vale_rules_spec.specs.Judged.{Judged, fine, faulty}
+use Rattle.vale_rules_spec.specs.Sites.{sites}
 use Rattle.vale_rules_spec.specs.Typed.{Typed}
 use Rattle.vale_rules_spec.specs.Typing.{typed}
-use Rattle.vale_syntax.specs.Tree.{pure, iso, str_type, quote, while, foreach, more_elses, else_if, paren, no_else, int_type, bool_type, named_type, array_type, number, truth, name, call, steps, field, index, no_steps, more_steps, no_exprs, more_exprs, chain, link, no_links, more_links, unary, array, branch, otherwise, form, block, declare, return_value, destructure, set, form_stmt, express, no_stmts, last, more_stmts, param, head, function, function_item, struct_item, field_decl, Tree, tree}
+use Rattle.vale_syntax.specs.Tree.{pure, iso, str_type, quote, while, foreach, more_elses, else_if, paren, no_else, int_type, bool_type, named_type, array_type, number, truth, name, call, steps, field, index, no_steps, more_steps, no_exprs, more_exprs, chain, link, no_links, more_links, unary, array, branch, otherwise, form, block, declare, return_value, destructure, set, form_stmt, express, no_stmts, last, more_stmts, param, head, function, function_item, struct_item, field_decl, imm_ref_type, Tree, tree}
 use Rattle.vale_model.specs.Meaning.{meaning}
 use Rattle.vale_code.specs.Run.{run_code}
 use Rattle.vale_code.specs.Parts.{Parts as Code}
 use Rattle.vale_lowering.specs.Lowered as plain
+use Rattle.vale_lowering_objects.specs.Checks.{checked}
 use Rattle.vale_lowering_objects.specs.Code.{lowered}
 
 abbrev pub run_typed : Judged Typed → Given → ℕ → Option Outcome
@@ -239,3 +241,76 @@ of_input zs ticks = run_typed (typed counts_input) (numbers zs) ticks
 -- up to the greatest int
 counts_up : of_input (pos 9223372036854775806 ∷ pos 9223372036854775807 ∷ []) 1000 ≡ mean_typed (typed counts_input) (numbers (pos 9223372036854775806 ∷ pos 9223372036854775807 ∷ [])) 1000
 counts_up = refl
+
+-- ---- pure functions
+
+-- struct S { a int; }
+-- pure func more(s &imm S, k int) int {
+--   t = S(k);
+--   return s.a + t.a;
+-- }
+-- pure func made(k int) S {
+--   t = S(k);
+--   return S(t.a + 1);
+-- }
+-- func main() {
+--   s = S(4);
+--   println(more(&s, 3));
+--   u = made(s.a);
+--   println(u.a);
+-- }
+abbrev pure_calls : Tree
+pure_calls = tree (codes "S" ∷ codes "a" ∷ codes "more" ∷ codes "s" ∷ codes "k" ∷ codes "t" ∷ codes "made" ∷ codes "main" ∷ codes "println" ∷ codes "u" ∷ []) (struct_item (n 0 1 8) (field_decl (n 1 1 12) false (int_type (at 1 14)) ∷ []) ∷ function_item (function (head true (n 2 2 11) (param (n 3 2 16) (imm_ref_type (at 2 18) (named_type (n 0 2 23))) ∷ param (n 4 2 26) (int_type (at 2 28)) ∷ []) (Some (int_type (at 2 33)))) (block (at 2 37) (at 5 1) (more_stmts (declare (n 5 3 3) (call (n 0 3 7) (more_exprs (name (n 4 3 9)) no_exprs))) (more_stmts (return_value (at 4 3) (chain (steps (name (n 3 4 10)) (more_steps (field (at 4 11) (record { 0 = 1 })) no_steps)) (more_links (link (at 4 14) Add (steps (name (n 5 4 16)) (more_steps (field (at 4 17) (record { 0 = 1 })) no_steps))) no_links))) no_stmts)))) ∷ function_item (function (head true (n 6 6 11) (param (n 4 6 16) (int_type (at 6 18)) ∷ []) (Some (named_type (n 0 6 23)))) (block (at 6 25) (at 9 1) (more_stmts (declare (n 5 7 3) (call (n 0 7 7) (more_exprs (name (n 4 7 9)) no_exprs))) (more_stmts (return_value (at 8 3) (call (n 0 8 10) (more_exprs (chain (steps (name (n 5 8 12)) (more_steps (field (at 8 13) (record { 0 = 1 })) no_steps)) (more_links (link (at 8 16) Add (number (at 8 18) (pos 1))) no_links)) no_exprs))) no_stmts)))) ∷ function_item (function (head false (n 7 10 6) [] None) (block (at 10 13) (at 15 1) (more_stmts (declare (n 3 11 3) (call (n 0 11 7) (more_exprs (number (at 11 9) (pos 4)) no_exprs))) (more_stmts (express (call (n 8 12 3) (more_exprs (call (n 2 12 11) (more_exprs (unary (at 12 16) Borrow (name (n 3 12 17))) (more_exprs (number (at 12 20) (pos 3)) no_exprs))) no_exprs))) (more_stmts (declare (n 9 13 3) (call (n 6 13 7) (more_exprs (steps (name (n 3 13 12)) (more_steps (field (at 13 13) (record { 0 = 1 })) no_steps)) no_exprs))) (more_stmts (express (call (n 8 14 3) (more_exprs (steps (name (n 9 14 11)) (more_steps (field (at 14 12) (record { 0 = 1 })) no_steps)) no_exprs))) no_stmts)))))) ∷ [])
+
+-- what a pure function's own objects are dies with it, but for what it gives
+pure_calls_mean : mean pure_calls 1000 ≡ gives (piece 5 (line 7) ∷ piece 9 (line 5) ∷ []) Done 11
+pure_calls_mean = refl
+
+pure_calls_run : run pure_calls 1000 ≡ mean pure_calls 1000
+pure_calls_run = refl
+
+pure_calls_are_cut : run pure_calls 7 ≡ mean pure_calls 7
+pure_calls_are_cut = refl
+
+-- ---- each site has one instruction that asks whether its object is alive
+
+abbrev asks : Judged Typed → Option ℕ
+asks (fine program) = Some (checked (lowered program))
+asks (faulty f fs) = None
+
+abbrev has_sites : Judged Typed → Option ℕ
+has_sites (fine program) = Some (sites program)
+has_sites (faulty f fs) = None
+
+owners_ask : asks (typed owners) ≡ has_sites (typed owners)
+owners_ask = refl
+
+waiting_owners_ask : asks (typed waiting_owners) ≡ has_sites (typed waiting_owners)
+waiting_owners_ask = refl
+
+destructors_ask : asks (typed destructors) ≡ has_sites (typed destructors)
+destructors_ask = refl
+
+places_ask : asks (typed places) ≡ has_sites (typed places)
+places_ask = refl
+
+an_index_takes_its_array_away_ask : asks (typed an_index_takes_its_array_away) ≡ has_sites (typed an_index_takes_its_array_away)
+an_index_takes_its_array_away_ask = refl
+
+with_input_ask : asks (typed with_input) ≡ has_sites (typed with_input)
+with_input_ask = refl
+
+without_owners_ask : asks (typed without_owners) ≡ has_sites (typed without_owners)
+without_owners_ask = refl
+
+regions_ask : asks (typed regions) ≡ has_sites (typed regions)
+regions_ask = refl
+
+counts_ask : asks (typed counts) ≡ has_sites (typed counts)
+counts_ask = refl
+
+counts_input_ask : asks (typed counts_input) ≡ has_sites (typed counts_input)
+counts_input_ask = refl
+
+pure_calls_ask : asks (typed pure_calls) ≡ has_sites (typed pure_calls)
+pure_calls_ask = refl

@@ -24,16 +24,16 @@ use Rattle.vale_lowering.specs.Instructions.{operator, unary_code, and_code}
 use Rattle.vale_lowering.proofs.Operators.{reads_two, reads_one}
 use Rattle.vale_lowering.proofs.Reaches.{Where, active, conf, calls_in, does}
 use Rattle.vale_lowering.proofs.Registers.{Base, with_at, one_above, two_above, pick_same, pick_other, read_put}
-use Rattle.vale_lowering_objects.specs.Scopes.{Gives, copy, Scope, Gone, After, comes, closes, same_gone}
+use Rattle.vale_lowering_objects.specs.Scopes.{copy, Scope, Gone, After, comes, closes, same_gone}
 use Rattle.vale_lowering_objects.specs.Lowered.{link_after, link_code, then_code, sides}
 use Rattle.vale_lowering_objects.proofs.LawfulSteps.{LawfulInstr}
 use Rattle.vale_lowering_objects.proofs.Operations as fit
 use Rattle.vale_lowering_objects.proofs.Reaches.{Then, In, Val, Reaches, Runs, wrongs, comes_reaches, ends_at, stays_at, is_stuck, only_if_runs, joined_last, values, chooses, sides_run, brought_back, closes_meet}
 use Rattle.vale_lowering_objects.proofs.Registers.{Falls, falls_up, Agrees, agrees_down, agrees_met, top_read, next_read}
 use Rattle.vale_lowering_objects.proofs.Steps.{Answers, answers, surely}
-use Rattle.vale_lowering_objects.proofs.Ways.{moves}
+use Rattle.vale_lowering_objects.proofs.Ways.{Leaving, moves}
 
-module _ (code : Parts) (k : Where) (out : Gives) (n : ℕ) where
+module _ (code : Parts) (k : Where) (out : Leaving) (n : ℕ) where
   -- ---- an instruction between two registers
 
   module _ (p h : ℕ) (s : Scope) (g : Gone) (base : Base) (l : Locals) (regs : Registers) (w : State) (at : Spot) (v u : Value) (fa : Falls h s) (ag : Agrees h s g l base regs) (few : w.left ≤ n) (first : read regs h ≡ Some v) (second : read regs (h + 1) ≡ Some u) where

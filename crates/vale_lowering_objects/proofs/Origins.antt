@@ -27,7 +27,7 @@ use Rattle.vale_lowering_objects.proofs.LawfulSteps.{LawfulInstr}
 use Rattle.vale_lowering_objects.proofs.Registers.{Fits, Holds, Falls, Agrees, agrees_put, agrees_down, look_above, Meets, meets, and_first}
 use Rattle.vale_lowering_objects.proofs.Reaches.{Then, In, Val, Reaches, Runs, wrongs, is_stuck, only_if_runs, one_after, joined, values}
 use Rattle.vale_lowering_objects.proofs.Steps.{keeping, sets}
-use Rattle.vale_lowering_objects.proofs.Ways.{moves}
+use Rattle.vale_lowering_objects.proofs.Ways.{Leaving, moves}
 
 pub some_fits : (q : Gives) (v : Value) → is_value q ≡ true → Fits q (Some v)
 some_fits void v e = absurd (cc)
@@ -182,7 +182,7 @@ still_reference v changes h s base l fa = record {
 abbrev pub Out : Gives → ℕ → Scope → Base → Gone → Post (Option Value)
 Out q h s base g v l regs = In q h s base g v (outer l) regs
 
-module _ (code : Code) (k : Where) (out : Gives) (n : ℕ) where
+module _ (code : Code) (k : Where) (out : Leaving) (n : ℕ) where
   module _ (post : Post (Option Value)) (p h : ℕ) (l : Locals) (regs regs' : Registers) (w : State) (x : Instr) (at : Spot) (few : w.left ≤ n) (has : fetch code k.function p ≡ Some x) (lawful : LawfulInstr code x) (puts : (v : Value) → post (Some v) l (put regs' h (Some v))) where
     pub yields : (a : Answer) → Yields w a → does code k n p regs w x ≡ answered (active k p regs) (Some h) regs' at k.below w a → Reaches code k out n (p + 1) post (conf k p regs w) (model.answered at a (calls_in k) l w)
     yields (gives None u) y e = absurd y

@@ -20,7 +20,7 @@ use Rattle.vale_code.specs.Frames.{Config}
 use Rattle.vale_lowering_objects.proofs.BuiltIns.{given_by}
 use Rattle.vale_lowering_objects.proofs.Destruction.{IsOwned}
 use Rattle.vale_lowering_objects.proofs.Steps.{IsCopied, copied_same, moved_same, copied_or_not, moved_or_not, copy_wrongs, move_wrongs}
-use Rattle.vale_lowering_objects.proofs.Ways.{moves}
+use Rattle.vale_lowering_objects.proofs.Ways.{Leaving, moves}
 
 pub agree_same : (q r : Gives) → agree q r ≡ true → q ≡ r
 agree_same void void e = refl
@@ -76,7 +76,7 @@ dropped s g base base' h k l regs fa le same ag (Some v) l' regs' a = absurd (le
 dropped s g base base' h k l regs fa le same ag None l' regs' a =
     (tt, subst (λ x. Agrees h s g x base regs') (sym a.1) (agrees_down s g l base base' h k regs regs' fa le same (λ r lt. let ne : r ≢ h = omega arith in a.2 r ne) ag))
 
-module _ (code : Code) (k : Where) (out : Gives) (n : ℕ) where
+module _ (code : Code) (k : Where) (out : Leaving) (n : ℕ) where
   -- a part that gives as much as is wanted
   pub given : (q r : Gives) (o : After) (cs : List Instr) (p h : ℕ) (s : Scope) (base : Base) (regs : Registers) (w : State) (x : Result (Option Value)) → Runs code k out n cs (Then o (In r h s base)) p regs w x → Runs code k out n (only_if (agree q r) h cs) (Then o (In q h s base)) p regs w x
   given q r o cs p h s base regs w x run =

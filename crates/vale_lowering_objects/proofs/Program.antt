@@ -1,5 +1,5 @@
 -- The code of functions does what they mean, destructors too, with any number of ticks: by induction on the ticks.
-use Rattle.std.proofs.Common.{◌≡◌, ◌≢◌, ℕ, zero, suc, ◌+◌, ◌<◌, ◌≤◌, List, [], ◌∷◌, ◌++◌, length, Option, Some, None, Bool, false, refl, sym, ap, ◌∙◌, subst, ◌⊎◌, inl, inr, arith}
+use Rattle.std.proofs.Common.{◌≡◌, ◌≢◌, ℕ, zero, suc, ◌+◌, ◌<◌, ◌≤◌, List, [], ◌∷◌, ◌++◌, length, Option, Some, None, Bool, true, false, if◌then◌else◌, refl, sym, ap, ◌∙◌, subst, ◌⊎◌, inl, inr, arith}
 use Rattle.std.specs.Prelude.{slice_get}
 use Rattle.vale_state_spec.specs.State.{State}
 use Rattle.vale_state_spec.specs.World.{Value, Own}
@@ -11,7 +11,7 @@ use Rattle.vale_rules_spec.specs.Types.{Ty, type_of}
 use Rattle.vale_rules_spec.specs.Types as y
 use Rattle.vale_rules_spec.specs.Typed.{Function, function_body, Block, block, type}
 use Rattle.vale_model.specs.Kinds.{head_of, body_of}
-use Rattle.vale_model.specs.Parts.{Parts, param_names}
+use Rattle.vale_model.specs.Parts.{Parts, param_names, is_pure}
 use Rattle.vale_model.specs.Runs.{Locals, Result, goes, returned, ended, valued}
 use Rattle.vale_model.specs.Destruction.{Again, leave}
 use Rattle.vale_model.specs.Expressions.{block_run, expr_run}
@@ -25,19 +25,19 @@ use Rattle.vale_lowering.specs.Instructions.{only_if}
 use Rattle.vale_lowering.proofs.Entry.{has_all, arguments_stand}
 use Rattle.vale_lowering.proofs.Registers.{Held, with_at, pick, pick_same, pick_other, Stand}
 use Rattle.vale_lowering.proofs.Reaches.{Where, conf, calls_in, Post, HasAt}
-use Rattle.vale_lowering_objects.specs.Program.{IsLowered, IsCode, names_in, body_code, given_all}
+use Rattle.vale_lowering_objects.specs.Program.{IsLowered, IsCode, form_number, names_in, body_code, given_all}
 use Rattle.vale_lowering_objects.specs.Scopes.{Gives, void, copy, owner, gives_of, is_owner, agree, Scope, entry, Gone, never, parameters}
-use Rattle.vale_lowering_objects.specs.Lowered.{param_gives, param_gives_of, result_gives, drop_scope, expr_code, expr_after, block_code, block_after}
+use Rattle.vale_lowering_objects.specs.Lowered.{param_gives, param_gives_of, result_gives, is_destructor, drop_scope, expr_code, expr_after, block_code, block_after}
 use Rattle.vale_lowering_objects.proofs.Kept.{level_keeps}
-use Rattle.vale_lowering_objects.proofs.Destruction.{DestructorsRun, fields_more}
+use Rattle.vale_lowering_objects.proofs.Destruction.{DestructorsRun, nothing_out, fields_more}
 use Rattle.vale_lowering_objects.proofs.Registers.{Fits, Holds, Falls, falls_up, fresh_above, agrees_more, Ties, look, stands, owner_is}
 use Rattle.vale_lowering_objects.proofs.Reaches.{Then, Put, Keeps, FitAll, Reaches, Runs, returned_by, no_more, only_if_runs, then_reaches, closed, loop_tests}
-use Rattle.vale_lowering_objects.proofs.Owes.{begins, IsPlain, CallsRun, TurnsRun, Follows, IsHere, around}
+use Rattle.vale_lowering_objects.proofs.Owes.{begins, HasForm, out_of, CallsRun, TurnsRun, Follows, IsHere, around}
 use Rattle.vale_lowering_objects.proofs.Drops.{leave_void_runs}
 use Rattle.vale_lowering_objects.proofs.Calls.{agree_same}
 use Rattle.vale_lowering_objects.proofs.Posts.{in_keeps, put_in}
 use Rattle.vale_lowering_objects.proofs.Tree.{block_runs, value_runs, then_weaker}
-use Rattle.vale_lowering_objects.proofs.Ways.{ComesBack}
+use Rattle.vale_lowering_objects.proofs.Ways.{Leaving, ComesBack}
 use Rattle.vale_lowering.proofs.Shapes.{loop_body, loop_test}
 
 -- ---- where a function begins
@@ -121,7 +121,7 @@ module _ (code : Code) (functions : List Function) (p : Parts) (is_code : IsCode
     abbrev again : Again
     again = level p n
 
-    module _ (k : Where) (f : Function) (low : IsLowered code p functions k.function f) (plain : IsPlain low.func) (vs : List Value) (fit : FitAll (param_gives f) vs) where
+    module _ (k : Where) (f : Function) (low : IsLowered code p functions k.function f) (plain : HasForm (is_pure f) low.func) (vs : List Value) (fit : FitAll (param_gives f) vs) where
       abbrev names : List ℕ
       names = names_in f
 
@@ -131,42 +131,42 @@ module _ (code : Code) (functions : List Function) (p : Parts) (is_code : IsCode
       abbrev regs0 : Registers
       regs0 = registers_for low.func.registers (given_all (head_params (head_of f)) vs)
 
-      abbrev out : Gives
-      out = result_gives f
+      abbrev out : Leaving
+      out = out_of f
 
-      is_here : IsHere code k
-      is_here = record { func = low.func; here = low.here; plain = plain }
+      is_here : IsHere code k out.pure
+      is_here = record { func = low.func; here = low.here; form = plain }
 
       falls : Falls (length names) scope
       falls = falls_parameters names (param_gives f)
 
       -- the end of the body
-      at_end : (end : Spot) (g : Gone) (v : Option Value) (l : Locals) (w : State) (regs : Registers) (q : ℕ) → Put void (length names) (length names + 1) scope (read regs0) g v l regs → w.left ≤ n → Runs code k out n (only_if (agree out void) (length names) (drop_scope scope g end ++ (i.RetVoid ∷ []))) (Then (never []) (Keeps {A = Option Value} 0 [] (read regs0))) q regs w (leave again end v (calls_in k) l w)
+      at_end : (end : Spot) (g : Gone) (v : Option Value) (l : Locals) (w : State) (regs : Registers) (q : ℕ) → Put void (length names) (length names + 1) scope (read regs0) g v l regs → w.left ≤ n → Runs code k out n (only_if (agree out.gives void) (length names) (drop_scope scope g end ++ (i.RetVoid ∷ []))) (Then (never []) (Keeps {A = Option Value} 0 [] (read regs0))) q regs w (leave again end v (calls_in k) l w)
       at_end end g (Some v) l w regs q ag few has = absurd ag.0
       at_end end g None l w regs q ag few has =
-          only_if_runs code k out n (agree out void) (length names) q _ (Then (never []) (Keeps {A = Option Value} 0 [] (read regs0))) regs w (leave again end None (calls_in k) l w)
+          only_if_runs code k out n (agree out.gives void) (length names) q _ (Then (never []) (Keeps {A = Option Value} 0 [] (read regs0))) regs w (leave again end None (calls_in k) l w)
           (λ e. leave_void_runs code functions p is_code.kinds k out n again follows [] (Keeps {A = Option Value} 0 [] (read regs0)) scope g q (length names) end l regs w is_here falls
-          (stands scope g l (read regs0) (length names) (length names + 1) regs falls (omega arith) ag.1) (subst (λ z. Fits z None) (sym (agree_same out void e)) tt) few) has
+          (stands scope g l (read regs0) (length names) (length names + 1) regs falls (omega arith) ag.1) (subst (λ z. Fits z None) (sym (agree_same out.gives void e)) tt) few) has
 
       -- a function's body from its entry
-      pub body_runs : (b : Block) (l : Locals) (w : State) → body_of f ≡ b → bound (head_params (head_of f)) vs [] ≡ Some l → w.left ≤ n → HasAt code k.function 0 (body_code (record { parts = p; texts = code.texts; functions = functions; gives = out }) names (param_gives f) b) → Reaches code k out n (0 + length (body_code (record { parts = p; texts = code.texts; functions = functions; gives = out }) names (param_gives f) b)) (Then (never []) (Keeps {A = Option Value} 0 [] (read regs0))) (conf k 0 regs0 w) (body_run again b (calls_in k) l w)
+      pub body_runs : (b : Block) (l : Locals) (w : State) → body_of f ≡ b → bound (head_params (head_of f)) vs [] ≡ Some l → w.left ≤ n → HasAt code k.function 0 (body_code (record { parts = p; texts = code.texts; functions = functions; gives = out.gives }) names (param_gives f) b) → Reaches code k out n (0 + length (body_code (record { parts = p; texts = code.texts; functions = functions; gives = out.gives }) names (param_gives f) b)) (Then (never []) (Keeps {A = Option Value} 0 [] (read regs0))) (conf k 0 regs0 w) (body_run again b (calls_in k) l w)
       body_runs (block at end x ss) l w same b few has =
           let en = bound_enters (head_params (head_of f)) vs 0 [] [] l regs0 fit (arguments_stand low.func.registers (given_all (head_params (head_of f)) vs)) (record { ties = tt; all = λ z. refl }) b in
           no_more code k out n (block_after (block at end x ss) (length names + 1) scope []) [] _ (Keeps {A = Option Value} 0 [] (read regs0)) (conf k 0 regs0 w) (body_run again (block at end x ss) (calls_in k) l w)
-          (returned_by code k out n (block_after (block at end x ss) (length names + 1) scope []) (block_code (record { parts = p; texts = code.texts; functions = functions; gives = out }) void (block at end x ss) 0 (length names) (length names + 1) scope []) _ (Put void (length names) (length names + 1) scope (read regs0)) (Keeps {A = Option Value} 0 [] (read regs0)) 0 regs0 w (block_run again (block at end x ss) (calls_in k) l w) (λ v. leave again end v (calls_in k))
+          (returned_by code k out n (block_after (block at end x ss) (length names + 1) scope []) (block_code (record { parts = p; texts = code.texts; functions = functions; gives = out.gives }) void (block at end x ss) 0 (length names) (length names + 1) scope []) _ (Put void (length names) (length names + 1) scope (read regs0)) (Keeps {A = Option Value} 0 [] (read regs0)) 0 regs0 w (block_run again (block at end x ss) (calls_in k) l w) (λ v. leave again end v (calls_in k))
           (block_runs code functions p is_code k out is_here n again follows (block at end x ss) void 0 (length names) (length names + 1) scope [] (read regs0) l regs0 w
           (falls_up scope (length names) (length names + 1) (omega arith) falls) (omega arith) (fresh_above scope (length names) (length names) falls (omega arith)) (record { ties = en.ties; each = λ r lt. en.all r }) few)
           (λ g v l w regs ag few. at_end end g v l w regs _ ag few) has)
 
     -- ---- calls
 
-    returns_to : (q : Gives) (to : Option ℕ) (after : Frame) (below : List Frame) (call : FrameAt) (j z : ℕ) (base : ℕ → Held) (b : Bool) (l : Locals) (c : Config) (r : Result (Option Value)) → Reaches code (record { call = call; function = j; dest = to; below = after ∷ below; gives = b }) q n z (Then (never []) (Keeps {A = Option Value} 0 [] base)) c r → ComesBack code (suc n) l q to after below c (back_to l r)
+    returns_to : (q : Leaving) (to : Option ℕ) (after : Frame) (below : List Frame) (call : FrameAt) (j z : ℕ) (base : ℕ → Held) (b : Bool) (l : Locals) (c : Config) (r : Result (Option Value)) → Reaches code (record { call = call; function = j; dest = to; below = after ∷ below; gives = b }) q n z (Then (never []) (Keeps {A = Option Value} 0 [] base)) c r → ComesBack code (suc n) l q to after below c (back_to l r)
     returns_to q to after below call j z base b l c r (inl x) = inl x
     returns_to q to after below call j z base b l c (goes v k w) (inr a) = absurd a.2
     returns_to q to after below call j z base b l c (returned v w) (inr a) = inr (a.0, refl, a.1, omega (arith, a.2))
     returns_to q to after below call j z base b l c (ended e w) (inr a) = inr a
 
-    by_bound : (q : Gives) (to : Option ℕ) (after : Frame) (below : List Frame) (call : FrameAt) (j z : ℕ) (base : ℕ → Held) (b : Block) (l : Locals) (c : Config) (w : State) (o : Option Locals) → ((m : Locals) → o ≡ Some m → Reaches code (record { call = call; function = j; dest = to; below = after ∷ below; gives = false }) q n z (Then (never []) (Keeps {A = Option Value} 0 [] base)) c (body_run again b (call ∷ under (after ∷ below)) m w)) → ((o ≡ None) → ⊥) → ComesBack code (suc n) l q to after below c (with_bound o (λ calls. body_run again b (call ∷ calls)) (under (after ∷ below)) l w)
+    by_bound : (q : Leaving) (to : Option ℕ) (after : Frame) (below : List Frame) (call : FrameAt) (j z : ℕ) (base : ℕ → Held) (b : Block) (l : Locals) (c : Config) (w : State) (o : Option Locals) → ((m : Locals) → o ≡ Some m → Reaches code (record { call = call; function = j; dest = to; below = after ∷ below; gives = false }) q n z (Then (never []) (Keeps {A = Option Value} 0 [] base)) c (body_run again b (call ∷ under (after ∷ below)) m w)) → ((o ≡ None) → ⊥) → ComesBack code (suc n) l q to after below c (with_bound o (λ calls. body_run again b (call ∷ calls)) (under (after ∷ below)) l w)
     by_bound q to after below call j z base b l c w None go some = absurd (some refl)
     by_bound q to after below call j z base b l c w (Some m) go some = returns_to q to after below call j z base false l c (body_run again b (call ∷ under (after ∷ below)) m w) (go m refl)
 
@@ -175,13 +175,13 @@ module _ (code : Code) (functions : List Function) (p : Parts) (is_code : IsCode
         let f = function_body h b in
         let k : Where = record { call = frame; function = j; dest = to; below = after ∷ below; gives = false } in
         let cs = body_code (record { parts = p; texts = code.texts; functions = functions; gives = result_gives f }) (names_in f) (param_gives f) b in
-        by_bound (result_gives f) to after below frame j (0 + length cs) (read (registers_for low.func.registers (given_all (head_params h) vs))) b l (begins j low.func (given_all (head_params h) vs) frame to (after ∷ below) w) w (bound (head_params h) vs [])
+        by_bound (out_of f) to after below frame j (0 + length cs) (read (registers_for low.func.registers (given_all (head_params h) vs))) b l (begins j low.func (given_all (head_params h) vs) frame to (after ∷ below) w) w (bound (head_params h) vs [])
         (λ m e. body_runs k f low plain vs fit b m w refl e (omega (arith, less)) (has_all code j low.func cs [] low.here low.body))
         (never_none (head_params h) vs [] fit)
 
     -- ---- turns
 
-    reaches_more : {A : Type 0} (k : Where) (out : Gives) (z : ℕ) (post : Post A) (c : Config) (r : Result A) → Reaches code k out n z post c r → Reaches code k out (suc n) z post c r
+    reaches_more : {A : Type 0} (k : Where) (out : Leaving) (z : ℕ) (post : Post A) (c : Config) (r : Result A) → Reaches code k out n z post c r → Reaches code k out (suc n) z post c r
     reaches_more k out z post c r (inl x) = inl x
     reaches_more k out z post c (goes v l w) (inr a) = inr (a.0, a.1, a.2, omega (arith, a.3))
     reaches_more k out z post c (returned v w) (inr a) = inr (a.0, a.1, omega (arith, a.2))
@@ -189,7 +189,7 @@ module _ (code : Code) (functions : List Function) (p : Parts) (is_code : IsCode
 
     pub turns_more : TurnsRun code p functions (level p (suc n)) (suc n)
     turns_more k out c b q h s g base l regs w is less fa ag some test body has =
-        let a = around p code.texts functions out in
+        let a = around p code.texts functions out.gives in
         let tc = λ (z : ℕ). expr_code a c z h s g in
         let bc = λ (z : ℕ). block_code a void b z h (h + 1) s g in
         let start = q + 2 + length (bc (q + 2)) in
@@ -209,14 +209,22 @@ module _ (code : Code) (functions : List Function) (p : Parts) (is_code : IsCode
   same_func : (j : ℕ) (a b : Func) → slice_get code.funcs j ≡ Some a → slice_get code.funcs j ≡ Some b → a ≡ b
   same_func j a b e f = let same : Some a ≡ Some b = sym e ∙ f in cc
 
+  -- a function of a destructor's form isn't pure
+  by_purity : (f : Function) (b : Bool) → is_pure f ≡ b → form_number p f ≡ 3 → is_pure f ≡ false
+  by_purity f false e form = e
+  by_purity f true e form = let one : 1 ≡ 3 = sym (ap (λ b. if b then 1 else (if is_destructor p f then 3 else 0)) e) ∙ form in absurd (cc)
+
   destructors_by : (again : Again) (n : ℕ) → CallsRun code p functions again n → DestructorsRun code functions again n
   destructors_by again n calls j f d m frame after below l w less =
       let low = is_code.at j f d.meant in
       let same = same_func j low.func d.func low.here d.here in
-      subst (λ x. ComesBack code n l void None after below (begins j x (Own m ∷ []) frame None (after ∷ below) w) (again.call f (Own m ∷ []) frame (under (after ∷ below)) l w)) same
-      (subst (λ us. ComesBack code n l void None after below (begins j low.func us frame None (after ∷ below) w) (again.call f (Own m ∷ []) frame (under (after ∷ below)) l w)) (one_given (head_params (head_of f)) (Own m) d.takes)
-      (subst (λ q. ComesBack code n l q None after below (begins j low.func (given_all (head_params (head_of f)) (Own m ∷ [])) frame None (after ∷ below) w) (again.call f (Own m ∷ []) frame (under (after ∷ below)) l w)) d.gives
-      (calls j f low (Own m ∷ []) frame None after below l w less (inr (ap (λ x. x.form) same ∙ d.form)) (subst (λ qs. FitAll qs (Own m ∷ [])) (sym d.takes) (tt, tt)))))
+      let form = ap (λ x. x.form) same ∙ d.form in
+      let not_pure = by_purity f (is_pure f) refl (sym low.form ∙ form) in
+      subst (λ x. ComesBack code n l nothing_out None after below (begins j x (Own m ∷ []) frame None (after ∷ below) w) (again.call f (Own m ∷ []) frame (under (after ∷ below)) l w)) same
+      (subst (λ us. ComesBack code n l nothing_out None after below (begins j low.func us frame None (after ∷ below) w) (again.call f (Own m ∷ []) frame (under (after ∷ below)) l w)) (one_given (head_params (head_of f)) (Own m) d.takes)
+      (subst (λ q. ComesBack code n l (record { gives = q; pure = false }) None after below (begins j low.func (given_all (head_params (head_of f)) (Own m ∷ [])) frame None (after ∷ below) w) (again.call f (Own m ∷ []) frame (under (after ∷ below)) l w)) d.gives
+      (subst (λ b. ComesBack code n l (record { gives = result_gives f; pure = b }) None after below (begins j low.func (given_all (head_params (head_of f)) (Own m ∷ [])) frame None (after ∷ below) w) (again.call f (Own m ∷ []) frame (under (after ∷ below)) l w)) not_pure
+      (calls j f low (Own m ∷ []) frame None after below l w less (subst (λ b. HasForm b low.func) (sym not_pure) (inr form)) (subst (λ qs. FitAll qs (Own m ∷ [])) (sym d.takes) (tt, tt))))))
 
   -- ---- by induction on the ticks
 

@@ -20,7 +20,7 @@ use Rattle.vale_lowering_objects.specs.Scopes.{Gives, Scope, Gone, After, comes,
 use Rattle.vale_lowering_objects.specs.Lowered.{then_code, if_comes, jump_over, sides}
 use Rattle.vale_lowering_objects.proofs.LawfulSteps.{LawfulInstr}
 use Rattle.vale_lowering_objects.proofs.Registers.{Fits, Falls, Agrees, agrees_met, agrees_down, top_read}
-use Rattle.vale_lowering_objects.proofs.Ways.{Comes, Fails, Leaves, comes_refl, comes_on, comes_stops, comes_fails, comes_leaves, moves, jumps}
+use Rattle.vale_lowering_objects.proofs.Ways.{Leaving, left_with, Comes, Fails, Leaves, comes_refl, comes_on, comes_stops, comes_fails, comes_leaves, moves, jumps}
 
 -- ---- what holds after a part
 
@@ -61,11 +61,11 @@ as_many (q ∷ qs) (v ∷ vs) f = ap suc (as_many qs vs f.1)
 abbrev pub All : List Gives → ℕ → Scope → Base → Gone → Post (List Value)
 All qs h s base g vs l regs = FitAll qs vs × Agrees (h + length qs) s g l (with_all h vs base) regs
 
-module _ (code : Parts) (k : Where) (out : Gives) (n : ℕ) where
+module _ (code : Parts) (k : Where) (out : Leaving) (n : ℕ) where
   -- the run of a part from c follows a result of the meaning, and where that goes on it comes to the place p
   abbrev pub Reached : {A : Type 0} → ℕ → Post A → Config → Result A → Type 0
   Reached p post c (goes v l w) = (regs : Registers) × Comes code c (conf k p regs w) × post v l regs × (w.left ≤ n)
-  Reached p post c (returned v w) = Leaves code k.below k.dest c v w × Fits out v × (w.left ≤ n)
+  Reached p post c (returned v w) = Leaves code k.below k.dest c v (left_with out.pure v w) × Fits out.gives v × (w.left ≤ n)
   Reached p post c (ended e w) = Stops code c e w
 
   abbrev pub Reaches : {A : Type 0} → ℕ → Post A → Config → Result A → Type 0
@@ -81,7 +81,7 @@ module _ (code : Parts) (k : Where) (out : Gives) (n : ℕ) where
 
   comes_reached : {A : Type 0} (p : ℕ) (post : Post A) (c d : Config) (r : Result A) → Comes code c d → Reached p post d r → Reached p post c r
   comes_reached p post c d (goes v l w) a b = (b.0, comes_on code c d _ a b.1, b.2, b.3)
-  comes_reached p post c d (returned v w) a b = (comes_leaves code k.below k.dest c d v w a b.0, b.1, b.2)
+  comes_reached p post c d (returned v w) a b = (comes_leaves code k.below k.dest c d v (left_with out.pure v w) a b.0, b.1, b.2)
   comes_reached p post c d (ended e w) a b = comes_stops code c d e w a b
 
   pub comes_reaches : {A : Type 0} (p : ℕ) (post : Post A) (c d : Config) (r : Result A) → Comes code c d → Reaches p post d r → Reaches p post c r

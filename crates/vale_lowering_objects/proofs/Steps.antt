@@ -26,7 +26,7 @@ use Rattle.vale_lowering_objects.proofs.Destruction.{IsOwned}
 use Rattle.vale_lowering_objects.proofs.LawfulSteps.{LawfulInstr}
 use Rattle.vale_lowering_objects.proofs.Registers.{Fits, Holds, Falls, Agrees, agrees_put, agrees_down, Meets, Empties, agrees_emptied, Takes, agrees_taken, agrees_all, top_read, same_truths}
 use Rattle.vale_lowering_objects.proofs.Reaches.{In, Reaches, Runs, wrongs, is_stuck, comes_reaches}
-use Rattle.vale_lowering_objects.proofs.Ways.{Comes, comes_on, moves}
+use Rattle.vale_lowering_objects.proofs.Ways.{Leaving, Comes, comes_on, moves}
 
 -- ---- registers of a list
 
@@ -121,7 +121,7 @@ left_if false s t e = e
 pub born_left : (kind : Kind) (vs : List Value) (s : State) → (born kind vs s).left ≡ s.left
 born_left kind vs s = left_if s.quiet _ _ refl
 
-module _ (code : Code) (k : Where) (out : Gives) (n : ℕ) where
+module _ (code : Code) (k : Where) (out : Leaving) (n : ℕ) where
   -- an instruction that goes on with a value in h
   pub sets : (q : Gives) (p h : ℕ) (s : Scope) (g : Gone) (base : Base) (l : Locals) (regs regs' : Registers) (w : State) (x : Instr) (v : Value) → LawfulInstr code x → Falls h s → Fits q (Some v) → Agrees h s g l base regs' → w.left ≤ n → fetch code k.function p ≡ Some x → does code k n p regs w x ≡ onward (active k p regs) (put regs' h (Some v)) k.below w → Reaches code k out n (p + 1) (In q h s base g) (conf k p regs w) (goes (Some v) l w)
   sets q p h s g base l regs regs' w x v lawful fa fit ag few e a =

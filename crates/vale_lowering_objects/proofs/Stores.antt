@@ -24,8 +24,9 @@ use Rattle.vale_lowering_objects.proofs.Reaches.{Keeps, Reaches, Runs, is_stuck,
 use Rattle.vale_lowering_objects.proofs.Posts.{as_it_is}
 use Rattle.vale_lowering_objects.proofs.Drops.{Without, destroys}
 use Rattle.vale_lowering_objects.proofs.Steps.{IsCopied, copied_or_not, moved_or_not, copy_wrongs, move_wrongs, copies, shifts, put_here, put_other}
+use Rattle.vale_lowering_objects.proofs.Ways.{Leaving}
 
-module _ (code : Code) (functions : List Function) (p0 : Parts) (kinds : SameKinds code functions p0) (k : Where) (out : Gives) (n : ℕ) (again : Again) (follows : Follows code functions p0 again n) where
+module _ (code : Code) (functions : List Function) (p0 : Parts) (kinds : SameKinds code functions p0) (k : Where) (out : Leaving) (n : ℕ) (again : Again) (follows : Follows code functions p0 again n) where
   module _ (at : Spot) (p h : ℕ) (s : Scope) (g : Gone) (base : Base) (l l' : Locals) (regs : Registers) (w : State) (new : Value) (fa : Falls h s) (ag : Agrees (h + 1) s g l (with_at h (Some new) base) regs) (few : w.left ≤ n) where
     abbrev post : Post (Option Value)
     post = Keeps {A = Option Value} h s base g

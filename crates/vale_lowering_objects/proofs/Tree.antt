@@ -50,15 +50,15 @@ use Rattle.vale_lowering_objects.proofs.Posts.{agree_same, value_some, in_met, i
 use Rattle.vale_lowering_objects.proofs.Callees.{callee_runs, makes}
 use Rattle.vale_lowering_objects.proofs.Counts.{count_runs}
 use Rattle.vale_lowering_objects.proofs.LawfulSteps.{LawfulInstr}
-use Rattle.vale_lowering_objects.proofs.Ways.{jumps}
+use Rattle.vale_lowering_objects.proofs.Ways.{Leaving, jumps}
 use Rattle.vale_lowering.proofs.Ranges.{IsLawful, lawful}
 
-module _ (code : Code) (functions : List Function) (p0 : Parts) (is_code : IsCode code p0 functions) (k : Where) (out : Gives) (is : IsHere code k) (n : ℕ) (again : Again) (follows : Follows code functions p0 again n) where
+module _ (code : Code) (functions : List Function) (p0 : Parts) (is_code : IsCode code p0 functions) (k : Where) (out : Leaving) (is : IsHere code k out.pure) (n : ℕ) (again : Again) (follows : Follows code functions p0 again n) where
   abbrev kinds : SameKinds code functions p0
   kinds = is_code.kinds
 
   abbrev a : Around
-  a = record { parts = p0; texts = code.texts; functions = functions; gives = out }
+  a = record { parts = p0; texts = code.texts; functions = functions; gives = out.gives }
 
   abbrev Ran : {A : Type 0} → List Instr → Post A → ℕ → Registers → State → Result A → Type 0
   Ran cs post p regs w r = Runs code k out n cs post p regs w r
@@ -229,12 +229,12 @@ module _ (code : Code) (functions : List Function) (p0 : Parts) (is_code : IsCod
       (agrees_push_first s g l base h (h + 1 + length vs) x r v vs regs (some_fits r v some) fa here) few go)
       (λ g u l w regs ag few. ends q r end x d _ h s base g u l regs w fa ag few))) has
 
-  returns : (qe : Gives) (v : Option Value) → is_value qe ≡ true → agree out qe ≡ true → (at : Spot) (p h : ℕ) (s : Scope) (g : Gone) (base : Base) (l : Locals) (regs : Registers) (w : State) → Falls h s → In qe h s base g v l regs → w.left ≤ n → Ran (drop_scope s g at ++ (i.Ret h ∷ [])) (Then (never g) (Keeps {A = Option Value} h s base)) p regs w (leave again at v (calls_in k) l w)
+  returns : (qe : Gives) (v : Option Value) → is_value qe ≡ true → agree out.gives qe ≡ true → (at : Spot) (p h : ℕ) (s : Scope) (g : Gone) (base : Base) (l : Locals) (regs : Registers) (w : State) → Falls h s → In qe h s base g v l regs → w.left ≤ n → Ran (drop_scope s g at ++ (i.Ret h ∷ [])) (Then (never g) (Keeps {A = Option Value} h s base)) p regs w (leave again at v (calls_in k) l w)
   returns qe None some same at p h s g base l regs w fa ag few has = absurd (value_some qe some ag.0)
   returns qe (Some v) some same at p h s g base l regs w fa ag few has =
       leave_runs code functions p0 kinds k out n again follows g (Keeps {A = Option Value} h s base) s g p h at v l regs w is fa
       (stands s g l (with_at h (Some v) base) h (h + 1) regs fa (omega arith) ag.1) (top_read s g l base h (h + 1) (Some v) regs fa (omega arith) ag.1)
-      (subst (λ z. Fits z (Some v)) (sym (agree_same out qe same)) ag.0) few has
+      (subst (λ z. Fits z (Some v)) (sym (agree_same out.gives qe same)) ag.0) few has
 
   -- ---- the turns of a loop, by its test
 
@@ -736,15 +736,15 @@ module _ (code : Code) (functions : List Function) (p0 : Parts) (is_code : IsCod
         (λ g u l w regs ag few. stays code k out n (q + length (body q)) (Keeps {A = Option Value} r s base g) u (outer l) regs w (put_keeps h r s base g u (outer l) regs (put_pop void copy h r m.name.0 s base g u l regs regs (λ r lt. refl) ag)) few))
         v u l regs w ag.1 few)))) has
     stmt_runs (return_nothing at) p h s g base l regs w fa ag few has =
-        only_if_runs code k out n (agree out void) h p _ (Then (never g) (Keeps {A = Option Value} h s base)) regs w (leave again at None (calls_in k) l w)
-        (λ e. leave_void_runs code functions p0 kinds k out n again follows g (Keeps {A = Option Value} h s base) s g p h at l regs w is fa (stands s g l base h h regs fa (omega arith) ag) (subst (λ z. Fits z None) (sym (agree_same out void e)) tt) few) has
+        only_if_runs code k out n (agree out.gives void) h p _ (Then (never g) (Keeps {A = Option Value} h s base)) regs w (leave again at None (calls_in k) l w)
+        (λ e. leave_void_runs code functions p0 kinds k out n again follows g (Keeps {A = Option Value} h s base) s g p h at l regs w is fa (stands s g l base h h regs fa (omega arith) ag) (subst (λ z. Fits z None) (sym (agree_same out.gives void e)) tt) few) has
     stmt_runs (return_value at e) p h s g base l regs w fa ag few has =
         let qe = gives_of (type e) in
-        only_if_runs code k out n (is_value qe && agree out qe) h p _ (Then (no_run (expr_after e h s g)) (Keeps {A = Option Value} h s base)) regs w (stmt_run again (return_value at e) (calls_in k) l w)
+        only_if_runs code k out n (is_value qe && agree out.gives qe) h p _ (Then (no_run (expr_after e h s g)) (Keeps {A = Option Value} h s base)) regs w (stmt_run again (return_value at e) (calls_in k) l w)
         (λ both.
         returned_by code k out n (expr_after e h s g) (expr_code a e p h s g) (λ place g. drop_scope s g at ++ (i.Ret h ∷ [])) (In qe h s base) (Keeps {A = Option Value} h s base) p regs w (expr_run again e (calls_in k) l w) (λ v. leave again at v (calls_in k))
         (expr_runs e p h s g base l regs w fa ag few)
-        (λ g v l w regs ag few. returns qe v (and_first (is_value qe) (agree out qe) both) (and_second (is_value qe) (agree out qe) both) at _ h s g base l regs w fa ag few)) has
+        (λ g v l w regs ag few. returns qe v (and_first (is_value qe) (agree out.gives qe) both) (and_second (is_value qe) (agree out.gives qe) both) at _ h s g base l regs w fa ag few)) has
     stmt_runs (form_stmt f) p h s g base l regs w fa ag few has =
         then_weaker (form_after f h s g) _ (In void h s base) (Keeps {A = Option Value} h s base) (conf k p regs w) (form_run again y.void f (calls_in k) l w) (λ g v l regs x. in_keeps void h s base g v l regs fa x)
         (form_runs f y.void void p h s g base l regs w fa ag few has)

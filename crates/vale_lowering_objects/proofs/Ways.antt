@@ -1,7 +1,7 @@
 -- From configuration to configuration: what is held stays lawful. What a run on lawful input can't come to is as good as going wrong.
-use Rattle.std.proofs.Common.{◌≡◌, ℕ, suc, ◌≤◌, List, [], ◌∷◌, Option, Some, true, ap, subst, ◌⊎◌, inl, inr}
+use Rattle.std.proofs.Common.{◌≡◌, ℕ, suc, ◌≤◌, List, [], ◌∷◌, Option, Some, Bool, true, false, ap, subst, ◌⊎◌, inl, inr}
 use Rattle.vale_state_spec.specs.Outcome.{End, Done, Wrong}
-use Rattle.vale_state_spec.specs.State.{State}
+use Rattle.vale_state_spec.specs.State.{State, thaw, end_of_pure}
 use Rattle.vale_state_spec.specs.World.{Value}
 use Rattle.vale_code.specs.Frames.{Frame, Config, On, resume}
 use Rattle.vale_code.specs.Instructions.{fetch, is_free, jump_by}
@@ -31,13 +31,23 @@ abbrev pub Leaves : Parts → List Frame → Option ℕ → Config → Option Va
 Leaves code [] to c v w = Stops code c Done w
 Leaves code (f ∷ below) to c v w = Comes code c (record { top = resume to v f; below = below; state = w })
 
+-- what a function that runs gives, and whether it is pure
+pub record Leaving : Type 0 where
+  pub gives : Gives
+  pub pure : Bool
+
+-- The state when it is left with this value: the freeze of a pure one ends with it.
+abbrev pub left_with : Bool → Option Value → State → State
+left_with false v w = w
+left_with true v w = thaw (end_of_pure v) w
+
 -- what comes back of a call to the frame that goes on after it
-abbrev pub CameBack : Parts → ℕ → Locals → Gives → Option ℕ → Frame → List Frame → Config → Result (Option Value) → Type 0
-CameBack code n l0 q to after below c (goes v l w) = Comes code c (record { top = resume to v after; below = below; state = w }) × (l ≡ l0) × Fits q v × (w.left ≤ n)
+abbrev pub CameBack : Parts → ℕ → Locals → Leaving → Option ℕ → Frame → List Frame → Config → Result (Option Value) → Type 0
+CameBack code n l0 q to after below c (goes v l w) = Comes code c (record { top = resume to v after; below = below; state = left_with q.pure v w }) × (l ≡ l0) × Fits q.gives v × (w.left ≤ n)
 CameBack code n l0 q to after below c (returned v w) = ⊥
 CameBack code n l0 q to after below c (ended e w) = Stops code c e w
 
-abbrev pub ComesBack : Parts → ℕ → Locals → Gives → Option ℕ → Frame → List Frame → Config → Result (Option Value) → Type 0
+abbrev pub ComesBack : Parts → ℕ → Locals → Leaving → Option ℕ → Frame → List Frame → Config → Result (Option Value) → Type 0
 ComesBack code n l0 q to after below c r = Fails code c ⊎ CameBack code n l0 q to after below c r
 
 pub comes_refl : (code : Parts) (c : Config) → Comes code c c

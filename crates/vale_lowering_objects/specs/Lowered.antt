@@ -348,7 +348,7 @@ is_destructor p f = has_text p (codes "drop") f
 abbrev pub may_be_called : Parts → Gives → List Gives → Option Function → Bool
 may_be_called p gives qs None = false
 may_be_called p gives qs (Some f) =
-    if is_pure f then false else (if is_destructor p f then false else agree gives (result_gives f) && all_agree qs (param_gives f))
+    if is_destructor p f then false else agree gives (result_gives f) && all_agree qs (param_gives f)
 
 abbrev pub truth_number : Bool → ℕ
 truth_number true = 1

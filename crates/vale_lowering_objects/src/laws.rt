@@ -1,5 +1,6 @@
 //! Laws of the definitions, the contract of a function that does nothing.
 
+ghost use Rattle.vale_lowering_objects.specs.Checks.{NoneElided};
 ghost use Rattle.vale_lowering_objects.specs.Code.{CodeOfProgram};
 ghost use Rattle.vale_lowering_objects.specs.Input.{TakesLawfulInput};
 ghost use Rattle.vale_lowering_objects.specs.Program.{CodeMeans, CodeNeeds};
@@ -11,4 +12,5 @@ pub fn lowered_code_with_owners_does_what_is_meant()
     ensures needs { CodeNeeds }
     ensures code { CodeOfProgram }
     ensures input { TakesLawfulInput }
+    ensures asks { NoneElided }
 {}

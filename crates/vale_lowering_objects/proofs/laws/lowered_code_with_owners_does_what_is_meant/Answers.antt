@@ -1,4 +1,5 @@
 use Rattle.vale_lowering_objects.proofs.Codes.{code_of_program}
+use Rattle.vale_lowering_objects.proofs.Elided.{none_elided}
 use Rattle.vale_lowering_objects.proofs.Input.{takes_lawful_input}
 use Rattle.vale_lowering_objects.proofs.Main.{code_means, code_needs}
 use Rattle.vale_lowering_objects.proofs.laws.lowered_code_with_owners_does_what_is_meant.Goals as goal
@@ -14,3 +15,6 @@ returns-clause-code c = code_of_program
 
 pub returns-clause-input : goal.returns-clause-input
 returns-clause-input c = takes_lawful_input
+
+pub returns-clause-asks : goal.returns-clause-asks
+returns-clause-asks c = none_elided
