@@ -1,7 +1,7 @@
 use Rattle.std.proofs.Common.{List, ◌∙◌, ap, subst}
 use Rattle.vale_base.specs.declared.piece.Piece.{Piece}
 use Rattle.vale_code.specs.Frames.{Config}
-use Rattle.vale_machine.specs.UnderWay.{IsSafe}
+use Rattle.vale_turn.specs.View.{IsSafe}
 use Rattle.vale_machine.specs.View.{config_of}
 use Rattle.vale_machine.proofs.Beginning.{all_taken}
 use Rattle.vale_machine.proofs.machine.Machine.take_pieces.Goals as goal

@@ -1,0 +1,52 @@
+use Rattle.std.proofs.Common.{ap, sym, ◌∙◌, subst}
+use Rattle.vale_machine.proofs.Getting.{frames_kept, goes_on}
+use Rattle.vale_machine.proofs.Reading.{comparing, held, joined, measured, numbered, picked, printed, quoted, sliced, spelled, tested}
+use Rattle.vale_machine.proofs.machine.Machine.aside.Goals as goal
+
+pub quote-requires-clause-there : goal.quote-requires-clause-there
+quote-requires-clause-there c = quoted c.args.code.now c.args.self.now c.args.instr.now c.requires.right c.in-Text.to c.in-Text.text c.in-Text.is
+
+pub copy-requires-clause-value : goal.copy-requires-clause-value
+copy-requires-clause-value c = held c.args.code.now c.args.self.now c.args.instr.now c.requires.right c.in-Copy.to c.in-Copy.from c.in-Copy.is
+
+pub compared-truth-requires-clause-right : goal.compared-truth-requires-clause-right
+compared-truth-requires-clause-right c = comparing c.args.code.now c.args.self.now c.args.instr.now c.requires.right c.in-Cmp.to c.in-Cmp.choice c.in-Cmp.left c.in-Cmp.right c.in-Cmp.is
+
+pub text-requires-clause-holds : goal.text-requires-clause-holds
+text-requires-clause-holds c = (joined c.args.code.now c.args.self.now c.args.instr.now c.requires.right c.in-Join.to c.in-Join.left c.in-Join.right c.in-Join.at c.in-Join.is).0
+
+pub text-requires-clause-holds-in-Join : goal.text-requires-clause-holds-in-Join
+text-requires-clause-holds-in-Join c = (joined c.args.code.now c.args.self.now c.args.instr.now c.requires.right c.in-Join.to c.in-Join.left c.in-Join.right c.in-Join.at c.in-Join.is).1
+
+pub text-requires-clause-holds-in-TextLen : goal.text-requires-clause-holds-in-TextLen
+text-requires-clause-holds-in-TextLen c = measured c.args.code.now c.args.self.now c.args.instr.now c.requires.right c.in-TextLen.to c.in-TextLen.from c.in-TextLen.is
+
+pub int-requires-clause-holds : goal.int-requires-clause-holds
+int-requires-clause-holds c = (sliced c.args.code.now c.args.self.now c.args.instr.now c.requires.right c.in-Slice.to c.in-Slice.from c.in-Slice.first c.in-Slice.end c.in-Slice.at c.in-Slice.is).1.0
+
+pub int-requires-clause-holds-in-Slice : goal.int-requires-clause-holds-in-Slice
+int-requires-clause-holds-in-Slice c = (sliced c.args.code.now c.args.self.now c.args.instr.now c.requires.right c.in-Slice.to c.in-Slice.from c.in-Slice.first c.in-Slice.end c.in-Slice.at c.in-Slice.is).1.1
+
+pub text-requires-clause-holds-in-Slice : goal.text-requires-clause-holds-in-Slice
+text-requires-clause-holds-in-Slice c = (sliced c.args.code.now c.args.self.now c.args.instr.now c.requires.right c.in-Slice.to c.in-Slice.from c.in-Slice.first c.in-Slice.end c.in-Slice.at c.in-Slice.is).0
+
+pub text-requires-clause-holds-in-Byte : goal.text-requires-clause-holds-in-Byte
+text-requires-clause-holds-in-Byte c = (picked c.args.code.now c.args.self.now c.args.instr.now c.requires.right c.in-Byte.to c.in-Byte.from c.in-Byte.index c.in-Byte.at c.in-Byte.is).0
+
+pub int-requires-clause-holds-in-Byte : goal.int-requires-clause-holds-in-Byte
+int-requires-clause-holds-in-Byte c = (picked c.args.code.now c.args.self.now c.args.instr.now c.requires.right c.in-Byte.to c.in-Byte.from c.in-Byte.index c.in-Byte.at c.in-Byte.is).1
+
+pub int-requires-clause-holds-in-TextOf : goal.int-requires-clause-holds-in-TextOf
+int-requires-clause-holds-in-TextOf c = spelled c.args.code.now c.args.self.now c.args.instr.now c.requires.right c.in-TextOf.to c.in-TextOf.from c.in-TextOf.is
+
+pub text-requires-clause-holds-in-IsNum : goal.text-requires-clause-holds-in-IsNum
+text-requires-clause-holds-in-IsNum c = tested c.args.code.now c.args.self.now c.args.instr.now c.requires.right c.in-IsNum.to c.in-IsNum.from c.in-IsNum.is
+
+pub text-requires-clause-holds-in-Num : goal.text-requires-clause-holds-in-Num
+text-requires-clause-holds-in-Num c = numbered c.args.code.now c.args.self.now c.args.instr.now c.requires.right c.in-Num.to c.in-Num.from c.in-Num.at c.in-Num.is
+
+pub print-requires-clause-shown : goal.print-requires-clause-shown
+print-requires-clause-shown c = (printed c.args.code.now c.args.self.now c.args.instr.now c.requires.right c.in-Print.from c.in-Print.choice c.in-Print.is).0
+
+pub print-requires-clause-choice : goal.print-requires-clause-choice
+print-requires-clause-choice c = (printed c.args.code.now c.args.self.now c.args.instr.now c.requires.right c.in-Print.from c.in-Print.choice c.in-Print.is).1
