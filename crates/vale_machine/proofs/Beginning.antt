@@ -3,7 +3,7 @@ use Rattle.std.proofs.Common.{◌≡◌, ℕ, zero, suc, ◌+◌, ◌-◌, ◌<�
 use Rattle.std.specs.Prelude.{slice_get, IfOk, Result, Ok, Err}
 use Rattle.std.proofs.Math.Logic.{∥∥₁_elim}
 use Rattle.std.proofs.lemmas.Bool.{and_parts}
-use Rattle.std.proofs.lemmas.List.{length-replicate}
+use Rattle.std.proofs.lemmas.List.{length-replicate, take_all}
 use Rattle.std.proofs.lemmas.Bool.Decides.{nat_tests}
 use Rattle.vale_base.specs.Limits.{ticks_limit}
 use Rattle.vale_state_spec.specs.State.{State, Given, no_input, begin, function_frame}
@@ -27,10 +27,11 @@ use Rattle.vale_cert.proofs.Standing.{ConfigFits, NextFits}
 use Rattle.vale_cert.proofs.Start.{start_fits}
 use Rattle.vale_cert.proofs.Walks.{main_is_there, main_lawful}
 use Rattle.vale_registers.specs.Cells.{empty, values_in}
+use Rattle.vale_registers.specs.Passing.{from_base}
 use Rattle.vale_registers.specs.declared.cell.Cell.{Cell}
 use Rattle.vale_machine.specs.Given.{IsStartable}
 use Rattle.vale_machine.specs.UnderWay.{IsUnderWay}
-use Rattle.vale_machine.specs.View.{IsLaid, Lie, active_of, all_texts, config_of, frames_in, from_base, name_in, registers_of, state_of, state_with}
+use Rattle.vale_machine.specs.View.{IsLaid, Lie, active_of, all_texts, config_of, frames_in, name_in, registers_of, row_of, state_of, state_with}
 use Rattle.vale_machine.specs.declared.machine.Frame.{Frame}
 use Rattle.vale_machine.specs.declared.machine.Machine.{Machine}
 use Rattle.vale_machine.proofs.Certified.{runnable, safe}
@@ -99,8 +100,10 @@ module _ (code : Parts) (func : Func) (found : slice_get code.funcs code.main �
       ∙ ap (λ n. with_form (form_of n) func (begin ticks) begins_it) plain
       ∙ ap (λ ps. with_input ps None (begin ticks) enters_main) params
 
-  no_registers : (n : ℕ) (t : ℕ → List ℕ) (cells : List Cell) → cells ≡ replicate n empty → registers_for n [] ≡ values_in t (drop 0 cells)
-  no_registers n t cells e = let m : n - 0 ≡ n = omega arith in ap (λ k. replicate k None) m ∙ sym (empties t n) ∙ ap (values_in t) (sym e)
+  no_registers : (n : ℕ) (t : ℕ → List ℕ) (cells : List Cell) → cells ≡ replicate n empty → registers_for n [] ≡ values_in t (drop 0 (take n cells))
+  no_registers n t cells e =
+      let m : n - 0 ≡ n = omega arith in
+      ap (λ k. replicate k None) m ∙ sym (empties t n) ∙ ap (values_in t) (sym e ∙ sym (take_all n cells (omega (arith, ap length e, length-replicate n empty))))
 
   abbrev main_frame : Frame
   main_frame = record { function = code.main; at = first_spot; dest = None; place = 0; base = 0 }
@@ -115,24 +118,26 @@ module _ (code : Parts) (func : Func) (found : slice_get code.funcs code.main �
   ticked_on zero go lt = absurd (omega arith)
   ticked_on (suc n) go lt = let e : n ≡ suc n - 1 = omega arith in ap (λ k. go (record (begin (suc n)) { left = k; spent = 1 })) e
 
-  pub begun : (m : Machine) → 0 < ticks → m.left ≡ ticks - 1 → m.given ≡ ticks → m.pieces.items ≡ [] → m.below.items ≡ [] → m.cells.items ≡ replicate func.registers empty → m.top ≡ main_frame
+  pub begun : (m : Machine) → 0 < ticks → m.left ≡ ticks - 1 → m.given ≡ ticks → m.pieces.items ≡ [] → m.below.items ≡ [] → m.cells.items ≡ replicate func.registers empty → m.end ≡ func.registers → m.top ≡ main_frame
       → start code no_input ticks ≡ On (config_of code [] m)
-  begun m some left given pieces below cells top =
-      let regs : registers_of m ≡ registers_for func.registers [] = ap (λ (f : Frame). values_in (from_base f.base (all_texts m)) (drop f.base m.cells.items)) top ∙ sym (no_registers func.registers (from_base 0 (all_texts m)) m.cells.items cells) in
+  begun m some left given pieces below cells end top =
+      let regs : registers_of m ≡ registers_for func.registers [] = ap (λ (f : Frame). values_in (from_base f.base (all_texts m)) (drop f.base (row_of m))) top ∙ ap (λ n. values_in (from_base 0 (all_texts m)) (drop 0 (take n m.cells.items))) end ∙ sym (no_registers func.registers (from_base 0 (all_texts m)) m.cells.items cells) in
       let act : active_of code m.top (registers_of m) ≡ main_active =
       ap (λ (f : Frame). active_of code f (registers_of m)) top ∙ ap (active_of code main_frame) regs
       ∙ ap (λ o. record { call = record { what = name_in code o; at = first_spot }; function = code.main; dest = None; place = 0; registers = registers_for func.registers [] }) found in
-      let bel : frames_in code (reverse m.below.items) (all_texts m) (take m.top.base m.cells.items) ≡ [] = ap (λ fs. frames_in code (reverse fs) (all_texts m) (take m.top.base m.cells.items)) below in
+      let bel : frames_in code (reverse m.below.items) (all_texts m) (take m.top.base (row_of m)) ≡ [] = ap (λ fs. frames_in code (reverse fs) (all_texts m) (take m.top.base (row_of m))) below in
       let spent : m.given - m.left ≡ 1 = omega (arith, left, given, some) in
       let st : state_of [] m ≡ begun_state =
       ap (λ n. state_with n (m.given - m.left) ([] ++ m.pieces.items)) left ∙ ap (λ n. state_with (ticks - 1) n ([] ++ m.pieces.items)) spent ∙ ap (λ ps. state_with (ticks - 1) 1 ([] ++ ps)) pieces in
       first_step ∙ ticked_on ticks _ some ∙ sym (λ i. On (record { top = Running (act i); below = bel i; state = st i }))
 
-  pub begun_laid : (m : Machine) → m.below.items ≡ [] → m.cells.items ≡ replicate func.registers empty → m.top ≡ main_frame → IsLaid code m
-  begun_laid m below cells top =
-      subst (λ (f : Frame). Lie code (f ∷ reverse m.below.items) (length m.cells.items)) (sym top)
-      (subst (λ fs. Lie code (main_frame ∷ reverse fs) (length m.cells.items)) (sym below)
-      (record { func = func; found = found; plain = plain; size = (let n : 0 + func.registers ≡ func.registers = omega arith in n ∙ sym (length-replicate func.registers empty) ∙ sym (ap length cells)) }, tt, tt))
+  pub begun_laid : (m : Machine) → m.below.items ≡ [] → m.cells.items ≡ replicate func.registers empty → m.end ≡ func.registers → m.top ≡ main_frame → IsLaid code m
+  begun_laid m below cells end top = record {
+    lie = subst (λ (f : Frame). Lie code (f ∷ reverse m.below.items) m.end) (sym top)
+        (subst (λ fs. Lie code (main_frame ∷ reverse fs) m.end) (sym below)
+        (record { func = func; found = found; plain = plain; size = (let n : 0 + func.registers ≡ func.registers = omega arith in n ∙ sym end) }, tt, tt));
+    there = omega (arith, end, length-replicate func.registers empty, ap length cells);
+  }
 
 -- what was printed so far, and is taken now
 pub all_taken : (taken old result rest : List Piece) → result ≡ old → rest ≡ [] → taken ++ old ≡ (taken ++ result) ++ rest

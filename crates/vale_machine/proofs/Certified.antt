@@ -26,7 +26,8 @@ use Rattle.vale_cert.specs.declared.facts.RegFact.{RegFact}
 use Rattle.vale_cert.proofs.Safe.{never_wrong}
 use Rattle.vale_cert.proofs.Standing.{ConfigFits}
 use Rattle.vale_cert.proofs.Walks.{judged, lawful}
-use Rattle.vale_turn.specs.Served.{register_of, HasRegister, IsFit}
+use Rattle.vale_registers.specs.Cells.{HasRegister}
+use Rattle.vale_turn.specs.Served.{register_of, IsFit}
 use Rattle.vale_machine.specs.Calls.{IsCallable}
 use Rattle.vale_machine.specs.Lawful.{CallsWell, IsRunnable}
 use Rattle.vale_machine.proofs.Plainly.{served_here}

@@ -19,13 +19,13 @@ use Rattle.vale_code.specs.Kinds.{text_at, result_to}
 use Rattle.vale_code.specs.Parts.{Parts}
 use Rattle.vale_code.specs.Registers.{Registers, give_all, registers_for}
 use Rattle.vale_code.specs.declared.func.Func.{Func}
-use Rattle.vale_registers.specs.Cells.{values_in}
+use Rattle.vale_registers.specs.Passing.{from_base}
+use Rattle.vale_registers.specs.Cells.{values_in, HasRegister}
 use Rattle.vale_registers.specs.declared.cell.Cell.{Cell}
-use Rattle.vale_turn.specs.Served.{HasRegister}
-use Rattle.vale_machine.specs.View.{active, active_of, all_texts, below, call_of, calls_of, config_of, frames_in, frames_of, from_base, name_in, registers_of, state_of, state_with, HasRoom, IsLaid, Lie}
+use Rattle.vale_machine.specs.View.{active, active_of, all_texts, below, call_of, calls_of, config_of, frames_in, frames_of, name_in, registers_of, row_of, state_of, state_with, HasRoom, IsLaid, Lie}
 use Rattle.vale_machine.specs.declared.machine.Frame.{Frame}
 use Rattle.vale_machine.specs.declared.machine.Machine.{Machine}
-use Rattle.vale_machine.proofs.Frames.{last_first, same_frames, under_frames}
+use Rattle.vale_machine.proofs.Frames.{last_first, row_size, same_frames, under_frames}
 
 -- a function that is entered with these values
 abbrev pub active_in : Parts → Func → ℕ → ℕ → Spot → List Value → Active
@@ -60,12 +60,12 @@ module _ (code : Parts) (taken : List Piece) (m : Machine) (at : Spot) (go : Nex
   deep = deeper 1 at (behind (active code m) (registers_of m) ∷ below code m) (state_of taken m) go
 
   size : length (under (behind (active code m) (registers_of m) ∷ below code m)) + 0 + 1 ≡ length m.below.items + 2
-  size = omega (arith, count_under code (reverse m.below.items) (all_texts m) (take m.top.base m.cells.items), length-reverse m.below.items)
+  size = omega (arith, count_under code (reverse m.below.items) (all_texts m) (take m.top.base (row_of m)), length-reverse m.below.items)
 
   pub too_deep : depth_limit < length m.below.items + 2 → deep ≡ Over (trap_under CallDepth at (calls_of code (frames_of m))) None (state_of taken m)
   too_deep lt =
       ap (λ b. if b then go else trap CallDepth at (behind (active code m) (registers_of m) ∷ below code m) (state_of taken m)) (ap (λ n. nat_le n depth_limit) size ∙ no (length m.below.items + 2) lt)
-      ∙ ap (λ cs. Over (trap_under CallDepth at (call_of code m.top ∷ cs)) None (state_of taken m)) (under_frames code (reverse m.below.items) (all_texts m) (take m.top.base m.cells.items))
+      ∙ ap (λ cs. Over (trap_under CallDepth at (call_of code m.top ∷ cs)) None (state_of taken m)) (under_frames code (reverse m.below.items) (all_texts m) (take m.top.base (row_of m)))
     where
       no : (n : ℕ) → depth_limit < n → nat_le n depth_limit ≡ false
       no n h = grind (arith, nat_tests)
@@ -99,18 +99,20 @@ caller top = record { function = top.function; at = top.at; dest = top.dest; pla
 -- what a machine is after a call of a function from another
 pub record IsEntered (code : Parts) (func : Func) (old new : Machine) (to g : ℕ) (at : Spot) (vs : List Value) : Type 0 where
   pub found : slice_get code.funcs g ≡ Some func
-  pub top : new.top ≡ record { function = g; at = at; dest = result_to func.result to; place = 0; base = length old.cells.items }
+  pub top : new.top ≡ record { function = g; at = at; dest = result_to func.result to; place = 0; base = old.end }
+  pub end : new.end ≡ old.end + func.registers
+  pub there : new.end ≤ length new.cells.items
   pub below : new.below.items ≡ old.below.items ++ caller old.top ∷ []
-  pub registers : values_in (from_base (length old.cells.items) (all_texts new)) (drop (length old.cells.items) new.cells.items) ≡ registers_for func.registers vs
-  pub under : take (length old.cells.items) new.cells.items ≡ old.cells.items
-  pub texts : (i : ℕ) → i < length old.cells.items → all_texts new i ≡ all_texts old i
+  pub registers : values_in (from_base old.end (all_texts new)) (drop old.end (row_of new)) ≡ registers_for func.registers vs
+  pub under : take old.end (row_of new) ≡ row_of old
+  pub texts : (i : ℕ) → i < old.end → all_texts new i ≡ all_texts old i
   pub left : new.left ≡ old.left - 1
   pub given : new.given ≡ old.given
   pub pieces : new.pieces.items ≡ old.pieces.items
 
 module _ (code : Parts) (func : Func) (old new : Machine) (to g : ℕ) (at : Spot) (vs : List Value) (q : IsEntered code func old new to g at vs) where
   abbrev top_is : Frame
-  top_is = record { function = g; at = at; dest = result_to func.result to; place = 0; base = length old.cells.items }
+  top_is = record { function = g; at = at; dest = result_to func.result to; place = 0; base = old.end }
 
   order : reverse new.below.items ≡ caller old.top ∷ reverse old.below.items
   order = ap reverse q.below ∙ last_first old.below.items (caller old.top)
@@ -119,20 +121,20 @@ module _ (code : Parts) (func : Func) (old new : Machine) (to g : ℕ) (at : Spo
   go_on_below = behind (active code old) (registers_of old) ∷ below code old
 
   -- the frames below are those of the caller, which goes on after its instruction
-  frames_below : frames_in code (caller old.top ∷ reverse old.below.items) (all_texts new) old.cells.items ≡ go_on_below
-  frames_below = same_frames code (caller old.top ∷ reverse old.below.items) (all_texts old) (all_texts new) old.cells.items q.texts
+  frames_below : old.end ≤ length old.cells.items → frames_in code (caller old.top ∷ reverse old.below.items) (all_texts new) (row_of old) ≡ go_on_below
+  frames_below there = same_frames code (caller old.top ∷ reverse old.below.items) (all_texts old) (all_texts new) (row_of old) (λ i lt. q.texts i (omega (arith, lt, row_size old there)))
 
-  pub entered : (taken : List Piece) → on (callee_of code func g to at vs) go_on_below (state_with (old.left - 1) (old.given - (old.left - 1)) (taken ++ old.pieces.items)) ≡ On (config_of code taken new)
-  entered taken =
-      let regs : values_in (from_base new.top.base (all_texts new)) (drop new.top.base new.cells.items) ≡ registers_for func.registers vs =
-      ap (λ (f : Frame). values_in (from_base f.base (all_texts new)) (drop f.base new.cells.items)) q.top ∙ q.registers in
+  pub entered : old.end ≤ length old.cells.items → (taken : List Piece) → on (callee_of code func g to at vs) go_on_below (state_with (old.left - 1) (old.given - (old.left - 1)) (taken ++ old.pieces.items)) ≡ On (config_of code taken new)
+  entered there taken =
+      let regs : values_in (from_base new.top.base (all_texts new)) (drop new.top.base (row_of new)) ≡ registers_for func.registers vs =
+      ap (λ (f : Frame). values_in (from_base f.base (all_texts new)) (drop f.base (row_of new))) q.top ∙ q.registers in
       let act : active code new ≡ active_in code func g to at vs =
       ap (λ (f : Frame). active_of code f (registers_of new)) q.top ∙ ap (active_of code top_is) regs ∙ ap (λ o. record { call = record { what = name_in code o; at = at }; function = g; dest = result_to func.result to; place = 0; registers = registers_for func.registers vs }) q.found in
       let bel : below code new ≡ go_on_below =
-      ap (λ (f : Frame). frames_in code (reverse new.below.items) (all_texts new) (take f.base new.cells.items)) q.top
+      ap (λ (f : Frame). frames_in code (reverse new.below.items) (all_texts new) (take f.base (row_of new))) q.top
       ∙ ap (frames_in code (reverse new.below.items) (all_texts new)) q.under
-      ∙ ap (λ l. frames_in code l (all_texts new) old.cells.items) order
-      ∙ frames_below in
+      ∙ ap (λ l. frames_in code l (all_texts new) (row_of old)) order
+      ∙ frames_below there in
       let st : state_of taken new ≡ state_with (old.left - 1) (old.given - (old.left - 1)) (taken ++ old.pieces.items) =
       ap (λ n. state_with n (new.given - n) (taken ++ new.pieces.items)) q.left ∙ ap (λ n. state_with (old.left - 1) (n - (old.left - 1)) (taken ++ new.pieces.items)) q.given
       ∙ ap (λ ps. state_with (old.left - 1) (old.given - (old.left - 1)) (taken ++ ps)) q.pieces in
@@ -142,8 +144,10 @@ module _ (code : Parts) (func : Func) (old new : Machine) (to g : ℕ) (at : Spo
   room_of None n h = tt
   room_of (Some t) n h = omega arith
 
-  pub lies : func.form ≡ 0 → length new.cells.items ≡ length old.cells.items + func.registers → HasRegister (result_to func.result to) (length old.cells.items - old.top.base) → IsLaid code old → IsLaid code new
-  lies plain size room laid =
-      subst (λ f. Lie code (f ∷ reverse new.below.items) (length new.cells.items)) (sym q.top)
-      (subst (λ l. Lie code (top_is ∷ l) (length new.cells.items)) (sym order)
-      (record { func = func; found = q.found; plain = plain; size = sym size }, room_of (result_to func.result to) (length old.cells.items) room, laid))
+  pub lies : func.form ≡ 0 → HasRegister (result_to func.result to) (old.end - old.top.base) → IsLaid code old → IsLaid code new
+  lies plain room laid = record {
+    lie = subst (λ f. Lie code (f ∷ reverse new.below.items) new.end) (sym q.top)
+        (subst (λ l. Lie code (top_is ∷ l) new.end) (sym order)
+        (record { func = func; found = q.found; plain = plain; size = sym q.end }, room_of (result_to func.result to) old.end room, laid.lie));
+    there = q.there;
+  }

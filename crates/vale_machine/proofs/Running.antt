@@ -1,7 +1,6 @@
 -- A whole run, stretch by stretch.
 use Rattle.std.proofs.Common.{◌≡◌, ℕ, zero, suc, ◌-◌, ◌<◌, ◌≤◌, List, [], ◌∷◌, length, take, drop, reverse, Option, Some, None, true, false, append-nil, refl, sym, ap, ◌∙◌, subst, arith}
 use Rattle.std.specs.Prelude.{slice_get}
-use Rattle.std.proofs.lemmas.List.{length-drop}
 use Rattle.vale_base.specs.declared.piece.Piece.{Piece}
 use Rattle.vale_base.specs.declared.spot.Spot.{Spot}
 use Rattle.vale_base.specs.declared.trap.TrapKind.{TrapKind}
@@ -24,8 +23,8 @@ use Rattle.vale_code.proofs.Ends as ends
 use Rattle.vale_code.proofs.Ends.{run_ends_once, step_less}
 use Rattle.vale_code.proofs.RunLaws.{exec_later}
 use Rattle.vale_text.specs.Progress.{Begins, EndsRight}
-use Rattle.vale_registers.specs.Cells.{HoldsValue}
-use Rattle.vale_turn.specs.Served.{HasRegister, is_aside, register_of}
+use Rattle.vale_registers.specs.Cells.{HoldsValue, HasRegister}
+use Rattle.vale_turn.specs.Served.{is_aside, register_of}
 use Rattle.vale_turn.specs.View.{config, EndsBy, IfStopped, IsRight, IsSafe, Leads, OnceBy, Scene}
 use Rattle.vale_turn.specs.declared.stop.Stop.{Stop}
 use Rattle.vale_turn.specs.declared.stop.Stop.TheVariants as stop
@@ -35,7 +34,7 @@ use Rattle.vale_machine.specs.Calls.{HasGiven, IsCallable, call_next, leave_next
 use Rattle.vale_machine.specs.Finishes.{FinishesSo}
 use Rattle.vale_machine.specs.Lawful.{CallsWell, IsRunnable}
 use Rattle.vale_machine.specs.UnderWay.{Ends, IsUnderWay, TookOne}
-use Rattle.vale_machine.specs.View.{active, all_texts, below, call_of, calls_of, config_of, frames_of, own_cells, own_texts, registers_of, scene_of, state_of, is_going, GoesOn, IfGoing, IsLaid, IsOver, IsPlaced, KeepsTicks, Lie, Stepped}
+use Rattle.vale_machine.specs.View.{active, all_texts, below, call_of, calls_of, config_of, frames_of, own_cells, own_texts, registers_of, row_of, scene_of, state_of, is_going, GoesOn, IfGoing, IsLaid, IsOver, IsPlaced, KeepsTicks, Lie, Stepped}
 use Rattle.vale_machine.specs.declared.machine.Frame.{Frame}
 use Rattle.vale_machine.specs.declared.machine.Machine.{Machine}
 use Rattle.vale_machine.specs.declared.machine.Step.{Step}
@@ -177,10 +176,10 @@ module _ (code : Parts) (taken : List Piece) (m : Machine) where
   abbrev leaves_it : Option Value → Form → Func → Next
   leaves_it v form func = leave_function form m.top.dest v (below code m) (state_of taken m)
 
-  left_plainly : (v : Option Value) → IsPlaced code m.top.function m.top.base (length m.cells.items) → function code m.top.function (state_of taken m) (leaves_it v) ≡ leave_next code taken m v
+  left_plainly : (v : Option Value) → IsPlaced code m.top.function m.top.base m.end → function code m.top.function (state_of taken m) (leaves_it v) ≡ leave_next code taken m v
   left_plainly v p = ap (λ o. with_func o (state_of taken m) (leaves_it v)) p.found ∙ ap (λ n. with_form (form_of n) p.func (state_of taken m) (leaves_it v)) p.plain
 
-  pub void_here : fetch code m.top.function m.top.place ≡ Some i.RetVoid → IsPlaced code m.top.function m.top.base (length m.cells.items) → step code at_here ≡ leave_next code taken m None
+  pub void_here : fetch code m.top.function m.top.place ≡ Some i.RetVoid → IsPlaced code m.top.function m.top.base m.end → step code at_here ≡ leave_next code taken m None
   void_here e p = step_here i.RetVoid e ∙ left_plainly None p
 
   abbrev gives_back : Option Value → Next
@@ -196,44 +195,45 @@ module _ (code : Parts) (taken : List Piece) (m : Machine) where
   pub ret_value : (from : ℕ) → fetch code m.top.function m.top.place ≡ Some (i.Ret from) → IsSafe code at_here → HoldsValue (own_cells m) from
   ret_value from e safe = let h = value_here from e safe in (own_texts m, h.0, h.1)
 
-  pub ret_here : (from : ℕ) (v : Value) → fetch code m.top.function m.top.place ≡ Some (i.Ret from) → IsPlaced code m.top.function m.top.base (length m.cells.items) → read (registers_of m) from ≡ Some v
+  pub ret_here : (from : ℕ) (v : Value) → fetch code m.top.function m.top.place ≡ Some (i.Ret from) → IsPlaced code m.top.function m.top.base m.end → read (registers_of m) from ≡ Some v
       → step code at_here ≡ leave_next code taken m (read (registers_of m) from)
   ret_here from v e p h = step_here (i.Ret from) e ∙ ap gives_back h ∙ left_plainly (Some v) p ∙ ap (leave_next code taken m) (sym h)
 
   pub trap_here : (kind : TrapKind) (at : Spot) → step code at_here ≡ Over (trap_under kind at (scene.call ∷ under scene.below)) None (state_of taken m) → step code at_here ≡ Over (trap_under kind at (calls_of code (frames_of m))) None (state_of taken m)
-  trap_here kind at e = e ∙ ap (λ cs. Over (trap_under kind at (call_of code m.top ∷ cs)) None (state_of taken m)) (under_frames code (reverse m.below.items) (all_texts m) (take m.top.base m.cells.items))
+  trap_here kind at e = e ∙ ap (λ cs. Over (trap_under kind at (call_of code m.top ∷ cs)) None (state_of taken m)) (under_frames code (reverse m.below.items) (all_texts m) (take m.top.base (row_of m)))
 
 -- ---- frames
 
-pub ret_at : (code : Parts) (taken safely : List Piece) (m : Machine) (from : ℕ) → fetch code m.top.function m.top.place ≡ Some (i.Ret from) → IsPlaced code m.top.function m.top.base (length m.cells.items) → IsSafe code (config_of code safely m)
+pub ret_at : (code : Parts) (taken safely : List Piece) (m : Machine) (from : ℕ) → fetch code m.top.function m.top.place ≡ Some (i.Ret from) → IsPlaced code m.top.function m.top.base m.end → IsSafe code (config_of code safely m)
     → step code (config_of code taken m) ≡ leave_next code taken m (read (registers_of m) from)
 ret_at code taken safely m from e p safe = let h = value_here code safely m from e safe in ret_here code taken m from h.0 e p h.1
 
 -- the same frames, but for the place of the innermost
-pub laid_by : (code : Parts) (old new : Machine) → new.top ≡ record old.top { place = new.top.place } → new.below.items ≡ old.below.items → length new.cells.items ≡ length old.cells.items → IsLaid code old → IsLaid code new
-laid_by code old new top below size laid =
-    subst (λ (f : Frame). Lie code (f ∷ reverse new.below.items) (length new.cells.items)) (sym top)
-    (subst (λ l. Lie code (record old.top { place = new.top.place } ∷ reverse l) (length new.cells.items)) (sym below)
-    (subst (λ n. Lie code (record old.top { place = new.top.place } ∷ reverse old.below.items) n) (sym size) laid))
+pub laid_by : (code : Parts) (old new : Machine) → new.top ≡ record old.top { place = new.top.place } → new.below.items ≡ old.below.items → new.end ≡ old.end → length new.cells.items ≡ length old.cells.items → IsLaid code old → IsLaid code new
+laid_by code old new top below end size laid = record {
+  lie = subst (λ (f : Frame). Lie code (f ∷ reverse new.below.items) new.end) (sym top)
+      (subst (λ l. Lie code (record old.top { place = new.top.place } ∷ reverse l) new.end) (sym below)
+      (subst (λ n. Lie code (record old.top { place = new.top.place } ∷ reverse old.below.items) n) (sym end) laid.lie));
+  there = omega (arith, end, size, laid.there);
+}
 
 -- ---- what certified code has at a place
 
-module _ (code : Parts) (m : Machine) (r : IsRunnable code) (p : IsPlaced code m.top.function m.top.base (length m.cells.items)) (instr : Instr) (e : fetch code m.top.function m.top.place ≡ Some instr) where
+module _ (code : Parts) (m : Machine) (r : IsRunnable code) (p : IsPlaced code m.top.function m.top.base m.end) (instr : Instr) (e : fetch code m.top.function m.top.place ≡ Some instr) where
   in_body : slice_get p.func.body m.top.place ≡ Some instr
   in_body = sym (ap (λ o. instruction_in o m.top.place) p.found) ∙ e
 
-  size_of : p.func.registers ≡ length m.cells.items - m.top.base
+  size_of : p.func.registers ≡ m.end - m.top.base
   size_of = omega (arith, p.size)
 
-  pub callable_here : (to g : ℕ) (args : List ℕ) (at : Spot) → instr ≡ i.Call to g args at → IsCallable code g to (length m.cells.items - m.top.base)
+  pub callable_here : (to g : ℕ) (args : List ℕ) (at : Spot) → instr ≡ i.Call to g args at → IsCallable code g to (m.end - m.top.base)
   callable_here to g args at is =
       let well = subst (λ x. CallsWell code x p.func.registers) is (r.calls m.top.function m.top.place p.func instr p.found in_body) in
       subst (λ n. IsCallable code g to n) size_of well
 
-  pub room_here : HasRegister (register_of instr) (length (own_cells m))
+  pub room_here : HasRegister (register_of instr) (m.end - m.top.base)
   room_here =
-      let n : p.func.registers ≡ length (own_cells m) = omega (arith, p.size, length-drop m.top.base m.cells.items) in
-      subst (λ k. HasRegister (register_of instr) k) n (r.fits m.top.function m.top.place p.func instr p.found in_body).room
+      subst (λ k. HasRegister (register_of instr) k) size_of (r.fits m.top.function m.top.place p.func instr p.found in_body).room
 
 pub known_function : (code : Parts) (function place : ℕ) (instr : Instr) → fetch code function place ≡ Some instr → (func : Func) × (slice_get code.funcs function ≡ Some func) × (slice_get func.body place ≡ Some instr)
 known_function code function place instr e = at (slice_get code.funcs function) refl e
@@ -251,7 +251,7 @@ pub same_aside : (o : Option Instr) (x y : Instr) → o ≡ Some x → o ≡ Som
 same_aside o x y e h a = let same : x ≡ y = (let z : Some x ≡ Some y = sym e ∙ h in cc) in subst (λ z. is_aside z ≡ true) same a
 
 pub laid_going : (code : Parts) (t : Step) (old new : Machine) → KeepsFrames t old new → IsLaid code old → IfGoing t (IsLaid code new)
-laid_going code told.Going old new k laid = laid_by code old new k.top (ap (λ v. v.items) k.below) k.cells laid
+laid_going code told.Going old new k laid = laid_by code old new k.top (ap (λ v. v.items) k.below) k.end k.cells laid
 laid_going code _ old new k laid = tt
 
 -- ---- a run that is under way
@@ -271,7 +271,7 @@ over _ e = tt
 pub later_under_way : (code : Parts) (taken : List Piece) (old new : Machine) → IsUnderWay code taken old → Leads code (config_of code taken old) (config_of code taken new) → GoesOn old new → IsUnderWay code taken new
 later_under_way code taken old new u leads g = record {
   runnable = u.runnable;
-  laid = laid_by code old new g.top (ap (λ l. l.items) g.below) g.cells u.laid;
+  laid = laid_by code old new g.top (ap (λ l. l.items) g.below) g.end g.cells u.laid;
   ticks = omega (arith, u.ticks, g.ticks.given, g.ticks.left);
   safe = safe_later code (config_of code taken old) (config_of code taken new) leads u.safe;
 }

@@ -1,7 +1,8 @@
 -- One instruction as a turn.
-use Rattle.std.proofs.Common.{◌≡◌, ◌≤◌, List, Option, None, true, false, refl, sym, ap, ◌∙◌, subst, arith}
+use Rattle.std.proofs.Common.{◌≡◌, ◌≤◌, ℕ, List, Option, None, true, false, refl, sym, ap, ◌∙◌, subst, arith}
 use Rattle.vale_base.specs.declared.piece.Piece.{Piece}
 use Rattle.vale_code.specs.Frames.{Config, Next, On}
+use Rattle.vale_code.specs.Frames as Frames
 use Rattle.vale_code.specs.Instructions.{fetch}
 use Rattle.vale_code.specs.Parts.{Parts}
 use Rattle.vale_code.specs.Run.{state_in, step}
@@ -39,7 +40,7 @@ stood_same code taken t old new e h = (stood code taken t old new e h).1
 pub stood_under_way : (code : Parts) (taken : List Piece) (t : Stop) (old new : Machine) → false ≡ is_going t → TookOne code taken t old new → GoesOn old new → IsUnderWay code taken old → IsUnderWay code taken new
 stood_under_way code taken t old new e h g u = record {
   runnable = u.runnable;
-  laid = laid_by code old new g.top (ap (λ l. l.items) g.below) g.cells u.laid;
+  laid = laid_by code old new g.top (ap (λ l. l.items) g.below) g.end g.cells u.laid;
   ticks = omega (arith, u.ticks, g.ticks.given, g.ticks.left);
   safe = subst (λ (x : Config). IsSafe code x) (sym (stood_same code taken t old new e h)) u.safe;
 }
@@ -52,3 +53,25 @@ turned_on code taken old new e laid ticks u = record {
   ticks = omega (arith, u.ticks, ticks.given, ticks.left);
   safe = safe_on code (config_of code taken old) (config_of code taken new) e u.safe;
 }
+
+-- ---- where the machine stands
+
+place_of : Frames.Frame → ℕ
+place_of (Frames.Running f) = f.place
+place_of _ = 0
+
+function_of : Frames.Frame → ℕ
+function_of (Frames.Running f) = f.function
+function_of _ = 0
+
+-- a machine that stood still has the same instruction next
+pub stood_fetches : (code : Parts) (taken : List Piece) (t : Stop) (old new : Machine) → false ≡ is_going t → TookOne code taken t old new → fetch code new.top.function new.top.place ≡ fetch code old.top.function old.top.place
+stood_fetches code taken t old new e h =
+    let same = stood_same code taken t old new e h in
+    ap (λ n. fetch code n new.top.place) (ap (λ (c : Config). function_of c.top) same) ∙ ap (fetch code old.top.function) (ap (λ (c : Config). place_of c.top) same)
+
+pub stood_step : (code : Parts) (taken : List Piece) (t : Stop) (old new : Machine) → false ≡ is_going t → TookOne code taken t old new → step code (config_of code taken old) ≡ step code (config_of code taken new)
+stood_step code taken t old new e h = ap (step code) (sym (stood_same code taken t old new e h))
+
+pub then_ticks : (old mid new : Machine) → KeepsTicks old mid → KeepsTicks mid new → KeepsTicks old new
+then_ticks old mid new a b = record { given = b.given ∙ a.given; left = omega (arith, a.left, b.left) }

@@ -17,6 +17,7 @@ use Rattle.vale_machine.specs.declared.machine.Step.{Step}
 -- a cell went to a register of the innermost function, which goes on at its next instruction
 pub record Receives (to : ℕ) (cell : Cell) (old new : Machine) : Type 0 where
   pub cells : new.cells.items ≡ slice_set old.cells.items (old.top.base + to) cell
+  pub end : new.end ≡ old.end
   pub top : new.top ≡ record old.top { place = old.top.place + 1 }
   pub texts : new.texts ≡ old.texts
   pub below : new.below ≡ old.below
@@ -33,6 +34,7 @@ pub record Gets (registers : Registers) (old new : Machine) : Type 0 where
   pub registers : registers_of new ≡ registers
   pub below : (code : Parts) → below code new ≡ below code old
   pub frames : new.below ≡ old.below
+  pub end : new.end ≡ old.end
   pub cells : length new.cells.items ≡ length old.cells.items
   pub left : new.left ≡ old.left
   pub given : new.given ≡ old.given
@@ -42,6 +44,7 @@ pub record Gets (registers : Registers) (old new : Machine) : Type 0 where
 pub record KeepsFrames (told : Step) (old new : Machine) : Type 0 where
   pub top : new.top ≡ record old.top { place = new.top.place }
   pub below : new.below ≡ old.below
+  pub end : new.end ≡ old.end
   pub cells : length new.cells.items ≡ length old.cells.items
   pub ticks : KeepsTicks old new
   pub kept : KeepsPieces told old new

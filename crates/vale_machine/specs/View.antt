@@ -12,6 +12,7 @@ use Rattle.vale_code.specs.Parts.{Parts}
 use Rattle.vale_code.specs.Registers.{Registers}
 use Rattle.vale_code.specs.declared.func.Func.{Func}
 use Rattle.vale_registers.specs.Cells.{values_in}
+use Rattle.vale_registers.specs.Passing.{from_base}
 use Rattle.vale_registers.specs.Texts as texts
 use Rattle.vale_registers.specs.declared.cell.Cell.{Cell}
 use Rattle.vale_turn.specs.View.{Scene}
@@ -37,10 +38,6 @@ calls_of code (f ∷ fs) = call_of code f ∷ calls_of code fs
 abbrev pub active_of : Parts → Frame → Registers → Active
 active_of code f registers = record { call = call_of code f; function = f.function; dest = f.dest; place = f.place; registers = registers }
 
--- the texts of registers from a base on
-abbrev pub from_base : ℕ → (ℕ → List ℕ) → ℕ → List ℕ
-from_base base t i = t (base + i)
-
 -- Frames, the innermost first. Their registers lie in these cells, and each has those from its base on to the next frame's.
 abbrev pub frames_in : Parts → List Frame → (ℕ → List ℕ) → List Cell → List frames.Frame
 frames_in code [] t cells = []
@@ -53,9 +50,13 @@ frames_of m = m.top ∷ reverse m.below.items
 abbrev pub all_texts : Machine → ℕ → List ℕ
 all_texts m = texts.text_at m.texts
 
+-- the cells of all frames; those behind them are kept for later calls
+abbrev pub row_of : Machine → List Cell
+row_of m = take m.end m.cells.items
+
 -- the cells and the texts of the innermost frame
 abbrev pub own_cells : Machine → List Cell
-own_cells m = drop m.top.base m.cells.items
+own_cells m = drop m.top.base (row_of m)
 
 abbrev pub own_texts : Machine → ℕ → List ℕ
 own_texts m = from_base m.top.base (all_texts m)
@@ -67,7 +68,7 @@ abbrev pub active : Parts → Machine → Active
 active code m = active_of code m.top (registers_of m)
 
 abbrev pub below : Parts → Machine → List frames.Frame
-below code m = frames_in code (reverse m.below.items) (all_texts m) (take m.top.base m.cells.items)
+below code m = frames_in code (reverse m.below.items) (all_texts m) (take m.top.base (row_of m))
 
 -- a state by its ticks and pieces
 abbrev pub state_with : ℕ → ℕ → List Piece → State
@@ -111,8 +112,10 @@ abbrev pub Lie : Parts → List Frame → ℕ → Type 0
 Lie code [] count = Unit {0}
 Lie code (f ∷ fs) count = IsPlaced code f.function f.base count × HasRoom f.dest f.base fs × Lie code fs f.base
 
-abbrev pub IsLaid : Parts → Machine → Type 0
-IsLaid code m = Lie code (frames_of m) (length m.cells.items)
+-- the frames of a machine lie one on the other in the cells that are theirs
+pub record IsLaid (code : Parts) (m : Machine) : Type 0 where
+  pub lie : Lie code (frames_of m) m.end
+  pub there : m.end ≤ length m.cells.items
 
 -- ---- what a step comes to
 
@@ -159,6 +162,7 @@ pub record GoesOn (old new : Machine) : Type 0 where
   pub top : new.top ≡ record old.top { place = new.top.place }
   pub below : new.below ≡ old.below
   pub texts : new.texts ≡ old.texts
+  pub end : new.end ≡ old.end
   pub cells : length new.cells.items ≡ length old.cells.items
   pub pieces : new.pieces ≡ old.pieces
   pub ticks : KeepsTicks old new

@@ -1,14 +1,14 @@
 // Instructions on texts, and those that may be: they read texts where they lie, and make or share others.
-ghost use Rattle.std.specs.Prelude.{◌≡◌, ◌+◌, ◌<◌, ◌≤◌, ◌^◌, Bool, List, Some, false, length, slice_get, true};
+ghost use Rattle.std.specs.Prelude.{◌≡◌, ◌+◌, ◌-◌, ◌<◌, ◌≤◌, ◌^◌, Bool, List, Some, false, length, slice_get, true};
 ghost use Rattle.vale_base.specs.declared.piece.Piece.{Piece};
 ghost use Rattle.vale_state_spec.specs.World.{Text as a_text};
 ghost use Rattle.vale_code.specs.Instructions.{comparison_of};
 ghost use Rattle.vale_code.specs.Parts.{Parts};
 ghost use Rattle.vale_code.specs.Registers.{read};
 ghost use Rattle.vale_code.specs.declared.instr.Instr.{Instr};
-ghost use Rattle.vale_registers.specs.Cells.{HoldsValue};
+ghost use Rattle.vale_registers.specs.Cells.{HoldsValue, HasRegister};
 ghost use Rattle.vale_turn.specs.Comparing.{compared};
-ghost use Rattle.vale_turn.specs.Served.{HasRegister, is_aside, may_want, register_of};
+ghost use Rattle.vale_turn.specs.Served.{is_aside, may_want, register_of};
 ghost use Rattle.vale_machine.specs.Aside.{HasRuleIn, KeepsFrames, next_in};
 ghost use Rattle.vale_machine.specs.View.{HasMemory, Stepped, own_cells, registers_of};
 
@@ -46,8 +46,9 @@ fn text_numbered(code: &Code, number: u32) -> &Text
 impl Machine {
     // A value goes to another register.
     fn copy(&mut self, to: u32, from: u32) -> Step
-        requires base { self.old.top.base ≤ length self.old.cells.items }
-        requires room { to < length (own_cells self.old) }
+        requires base { self.old.top.base ≤ self.old.end }
+        requires end { self.old.end ≤ length self.old.cells.items }
+        requires room { to < self.old.end - self.old.top.base }
         requires place { self.old.top.place + 1 < 2 ^ 64 }
         requires value { HoldsValue (own_cells self.old) from }
         ensures step { (code : Parts) (taken : List Piece) → Stepped code taken result (next_in code taken self.old (Instr.Copy to from)) self.new }
@@ -74,7 +75,8 @@ impl Machine {
 
     // Whether a comparison holds of what two registers hold.
     fn compared(&self, choice: u8, left: u32, right: u32) -> bool
-        requires base { self.now.top.base ≤ length self.now.cells.items }
+        requires base { self.now.top.base ≤ self.now.end }
+        requires end { self.now.end ≤ length self.now.cells.items }
         requires right { (b : Bool) × (compared (comparison_of choice) (read (registers_of self.now) left) (read (registers_of self.now) right) ≡ Some b) }
         ensures { compared (comparison_of choice) (read (registers_of self.now) left) (read (registers_of self.now) right) ≡ Some result }
     {
@@ -100,8 +102,9 @@ impl Machine {
 
     // A register gets a text of the code.
     fn quote(&mut self, code: &Code, to: u32, text: u32) -> Step
-        requires base { self.old.top.base ≤ length self.old.cells.items }
-        requires room { to < length (own_cells self.old) }
+        requires base { self.old.top.base ≤ self.old.end }
+        requires end { self.old.end ≤ length self.old.cells.items }
+        requires room { to < self.old.end - self.old.top.base }
         requires place { self.old.top.place + 1 < 2 ^ 64 }
         requires there { text < length code.now.texts }
         ensures step { (taken : List Piece) → Stepped code.now taken result (next_in code.now taken self.old (Instr.Text to text)) self.new }
@@ -116,9 +119,10 @@ impl Machine {
 
     /// An instruction that is done aside from the cells.
     pub(crate) fn aside(&mut self, code: &Code, instr: &Instr) -> Step
-        requires base { self.old.top.base ≤ length self.old.cells.items }
+        requires base { self.old.top.base ≤ self.old.end }
+        requires end { self.old.end ≤ length self.old.cells.items }
         requires aside { is_aside instr.now ≡ true }
-        requires room { HasRegister (register_of instr.now) (length (own_cells self.old)) }
+        requires room { HasRegister (register_of instr.now) (self.old.end - self.old.top.base) }
         requires place { self.old.top.place + 1 < 2 ^ 64 }
         requires ticks { self.old.left ≤ self.old.given }
         requires right { HasRuleIn code.now self.old instr.now }

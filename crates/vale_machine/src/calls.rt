@@ -9,9 +9,9 @@ ghost use Rattle.vale_machine.specs.Calls.{HasGiven, IsCallable, IsUncovered, ca
 ghost use Rattle.vale_machine.specs.View.{HasMemory, HasRoom, IfGoing, IsLaid, KeepsPieces, KeepsTicks, Stepped, own_cells, registers_of};
 
 use crate::machine::{Frame, Machine, Step};
-use crate::passing::{fill, hand, pass};
 use vale_base::{DEPTH_LIMIT, Spot, TrapKind};
 use vale_code::{Code, Ty};
+use vale_registers::{hand, pass, reserve};
 use vale_turn::function_of;
 
 // A result that isn't void goes to a register.
@@ -37,7 +37,7 @@ impl Machine {
         at: Spot,
     ) -> Step
         requires laid { IsLaid code.now self.old }
-        requires callable { IsCallable code.now function to (length self.old.cells.items - self.old.top.base) }
+        requires callable { IsCallable code.now function to (self.old.end - self.old.top.base) }
         requires place { self.old.top.place + 1 < 2 ^ 64 }
         requires ticks { self.old.left ≤ self.old.given }
         requires given { HasGiven code.now function args.now (registers_of self.old) }
@@ -53,12 +53,13 @@ impl Machine {
         if self.left == 0 {
             return Step::Cut;
         }
-        let base = self.cells.len();
-        match pass(&mut self.cells, &mut self.texts, self.top.base, args) {
+        let base = self.end;
+        let end = base + callee.registers as usize;
+        match reserve(&mut self.cells, end) {
             Ok(()) => {}
             Err(_) => return Step::Memory,
         }
-        match fill(&mut self.cells, base + callee.registers as usize) {
+        match pass(&mut self.cells, &mut self.texts, self.top.base, base, end, args) {
             Ok(()) => {}
             Err(_) => return Step::Memory,
         }
@@ -81,6 +82,7 @@ impl Machine {
             place: 0,
             base,
         };
+        self.end = end;
         self.left -= 1;
         Step::Going
     }
@@ -88,7 +90,8 @@ impl Machine {
     // The innermost function is left with the value of a register.
     #[inline(always)]
     pub(crate) fn ret(&mut self, from: u32) -> Step
-        requires base { self.old.top.base ≤ length self.old.cells.items }
+        requires base { self.old.top.base ≤ self.old.end }
+        requires end { self.old.end ≤ length self.old.cells.items }
         requires value { HoldsValue (own_cells self.old) from }
         requires room { HasRoom self.old.top.dest self.old.top.base (reverse self.old.below.items) }
         ensures step { (code : Parts) (taken : List Piece) → IsLaid code self.old
@@ -118,7 +121,8 @@ impl Machine {
     // The innermost function is left with no value.
     #[inline(always)]
     pub(crate) fn ret_void(&mut self) -> Step
-        requires base { self.old.top.base ≤ length self.old.cells.items }
+        requires base { self.old.top.base ≤ self.old.end }
+        requires end { self.old.end ≤ length self.old.cells.items }
         ensures step { (code : Parts) (taken : List Piece) → IsLaid code self.old → Stepped code taken result (leave_next code taken self.old None) self.new }
         ensures memory { HasMemory result }
         ensures laid { (code : Parts) → IsLaid code self.old → IfGoing result (IsLaid code self.new) }
@@ -133,12 +137,12 @@ impl Machine {
         }
     }
 
-    // The registers of the innermost function are let go, and another frame is the innermost.
+    // The registers of the innermost function are no frame's, and another frame is the innermost.
     #[inline(always)]
     fn uncover(&mut self, frame: Frame)
         ensures { IsUncovered frame self.old self.new }
     {
-        self.cells.truncate(self.top.base);
+        self.end = self.top.base;
         self.texts.cut(self.top.base);
         self.top = frame;
     }

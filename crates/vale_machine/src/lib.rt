@@ -5,7 +5,6 @@
 mod aside;
 mod calls;
 mod machine;
-mod passing;
 mod print;
 mod runs;
 mod start;

@@ -17,11 +17,13 @@ pub struct Frame {
     pub base: usize,
 }
 
-/// A machine. The registers of all frames lie in one row, those of the innermost last, and so do their texts.
+/// A machine. The registers of all frames lie in one row, those of the innermost last, and so do their texts. The cells from
+/// the end on are no frame's; they are kept for later calls.
 #[derive(Drop)]
 pub struct Machine {
     pub(crate) alloc: Global,
     pub(crate) cells: Vec<Cell>,
+    pub(crate) end: usize,
     pub(crate) texts: Row,
     pub(crate) top: Frame,
     pub(crate) below: Vec<Frame>,

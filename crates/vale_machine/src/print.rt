@@ -57,7 +57,8 @@ fn is_line(choice: u8) -> bool
 impl Machine {
     // The bytes that are printed of a register.
     fn shown(&self, from: u32) -> Result<Vec<u8>, Memory>
-        requires base { self.now.top.base ≤ length self.now.cells.items }
+        requires base { self.now.top.base ≤ self.now.end }
+        requires end { self.now.end ≤ length self.now.cells.items }
         requires shown { IsShown self.now from }
         ensures { IfOk result (λ bytes. shown_in (read (registers_of self.now) from) ≡ Some bytes.items) }
     {
@@ -106,7 +107,8 @@ impl Machine {
 
     // What a register holds is printed, with a line feed where the choice is 1.
     pub(crate) fn print(&mut self, from: u32, choice: u8) -> Step
-        requires base { self.old.top.base ≤ length self.old.cells.items }
+        requires base { self.old.top.base ≤ self.old.end }
+        requires end { self.old.end ≤ length self.old.cells.items }
         requires place { self.old.top.place + 1 < 2 ^ 64 }
         requires ticks { self.old.left ≤ self.old.given }
         requires shown { IsShown self.old from }

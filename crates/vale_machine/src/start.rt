@@ -14,12 +14,11 @@ ghost use Rattle.vale_machine.specs.UnderWay.{IsUnderWay};
 ghost use Rattle.vale_machine.specs.View.{IsLaid, KeepsTicks, config_of};
 
 use crate::machine::{Frame, Machine};
-use crate::passing::fill;
 use std::alloc::Global;
 use std::mem;
 use vale_base::{Memory, Piece, Spot, Text};
 use vale_code::Code;
-use vale_registers::Row;
+use vale_registers::{Row, fill};
 use vale_turn::function_of;
 use vale_verifier::Verified;
 
@@ -42,7 +41,8 @@ fn begin(alloc: Global, code: &Code, ticks: u64) -> Result<Machine, Memory>
 {
     let main = function_of(code, code.main);
     let mut cells = Vec::new(alloc);
-    fill(&mut cells, main.registers as usize)?;
+    let end = main.registers as usize;
+    fill(&mut cells, end)?;
     let top = Frame {
         function: code.main,
         at: Spot { line: 1, col: 1 },
@@ -53,6 +53,7 @@ fn begin(alloc: Global, code: &Code, ticks: u64) -> Result<Machine, Memory>
     Ok(Machine {
         alloc,
         cells,
+        end,
         texts: Row::new(alloc),
         top,
         below: Vec::new(alloc),

@@ -1,5 +1,5 @@
 // Steps within the innermost function.
-ghost use Rattle.std.specs.Prelude.{◌≡◌, ◌<◌, ◌≤◌, List, drop, length, take};
+ghost use Rattle.std.specs.Prelude.{◌≡◌, ◌-◌, ◌<◌, ◌≤◌, List, drop, length, take};
 ghost use Rattle.vale_base.specs.declared.piece.Piece.{Piece};
 ghost use Rattle.vale_turn.specs.Served.{AreFit};
 ghost use Rattle.vale_turn.specs.View.{EndsBy, IfStopped, IsSafe, Leads, OnceBy, Scene, config};
@@ -24,7 +24,7 @@ fn go_above(
 ) -> Stop
     requires known { function < length code.now.funcs }
     requires base { base ≤ length cells.old }
-    requires fit { AreFit code.now function (length (drop base cells.old)) }
+    requires fit { AreFit code.now function (length cells.old - base) }
     requires safe { (s : Scene) × (left.old ≤ s.given) × IsSafe code.now (config function s place.old (drop base cells.old) left.old) }
     ensures leads { (s : Scene) → left.old ≤ s.given
         → Leads code.now (config function s place.old (drop base cells.old) left.old) (config function s place.new (drop base cells.new) left.new) }
@@ -34,6 +34,32 @@ fn go_above(
 {
     let (_, registers) = cells.split_at_mut(base);
     go(code, function, registers, place, left)
+}
+
+// The same of the first of some cells.
+#[inline(always)]
+fn go_within(
+    code: &Code,
+    function: u32,
+    cells: &mut [Cell],
+    base: usize,
+    end: usize,
+    place: &mut usize,
+    left: &mut u64,
+) -> Stop
+    requires known { function < length code.now.funcs }
+    requires base { base ≤ end }
+    requires end { end ≤ length cells.old }
+    requires fit { AreFit code.now function (end - base) }
+    requires safe { (s : Scene) × (left.old ≤ s.given) × IsSafe code.now (config function s place.old (drop base (take end cells.old)) left.old) }
+    ensures leads { (s : Scene) → left.old ≤ s.given
+        → Leads code.now (config function s place.old (drop base (take end cells.old)) left.old) (config function s place.new (drop base (take end cells.new)) left.new) }
+    ensures ends { (s : Scene) → left.old ≤ s.given → EndsBy code.now function s result place.new (drop base (take end cells.new)) left.new }
+    ensures below { take base (take end cells.new) ≡ take base (take end cells.old) }
+    ensures ticks { left.new ≤ left.old }
+{
+    let (row, _) = cells.split_at_mut(end);
+    go_above(code, function, row, base, place, left)
 }
 
 // One instruction of the same.
@@ -47,7 +73,7 @@ fn once_above(
 ) -> Stop
     requires known { function < length code.now.funcs }
     requires base { base ≤ length cells.old }
-    requires fit { AreFit code.now function (length (drop base cells.old)) }
+    requires fit { AreFit code.now function (length cells.old - base) }
     requires safe { (s : Scene) × (left.old ≤ s.given) × IsSafe code.now (config function s place.old (drop base cells.old) left.old) }
     ensures step { (s : Scene) → left.old ≤ s.given
         → OnceBy code.now function s result (config function s place.old (drop base cells.old) left.old) place.new (drop base cells.new) left.new }
@@ -59,12 +85,38 @@ fn once_above(
     once(code, function, registers, place, left)
 }
 
+// The same of the first of some cells.
+fn once_within(
+    code: &Code,
+    function: u32,
+    cells: &mut [Cell],
+    base: usize,
+    end: usize,
+    place: &mut usize,
+    left: &mut u64,
+) -> Stop
+    requires known { function < length code.now.funcs }
+    requires base { base ≤ end }
+    requires end { end ≤ length cells.old }
+    requires fit { AreFit code.now function (end - base) }
+    requires safe { (s : Scene) × (left.old ≤ s.given) × IsSafe code.now (config function s place.old (drop base (take end cells.old)) left.old) }
+    ensures step { (s : Scene) → left.old ≤ s.given
+        → OnceBy code.now function s result (config function s place.old (drop base (take end cells.old)) left.old) place.new (drop base (take end cells.new)) left.new }
+    ensures same { IfStopped result ((place.new ≡ place.old) × (drop base (take end cells.new) ≡ drop base (take end cells.old)) × (left.new ≡ left.old)) }
+    ensures below { take base (take end cells.new) ≡ take base (take end cells.old) }
+    ensures ticks { left.new ≤ left.old }
+{
+    let (row, _) = cells.split_at_mut(end);
+    once_above(code, function, row, base, place, left)
+}
+
 impl Machine {
     // Runs the innermost function up to where a step does more than its cells tell, or ends it.
     #[inline(always)]
     pub(crate) fn run_on(&mut self, code: &Code) -> Stop
         requires runnable { IsRunnable code.now }
-        requires placed { IsPlaced code.now self.old.top.function self.old.top.base (length self.old.cells.items) }
+        requires placed { IsPlaced code.now self.old.top.function self.old.top.base self.old.end }
+        requires end { self.old.end ≤ length self.old.cells.items }
         requires ticks { self.old.left ≤ self.old.given }
         requires safe { (taken : List Piece) × IsSafe code.now (config_of code.now taken self.old) }
         ensures leads { (taken : List Piece) → Leads code.now (config_of code.now taken self.old) (config_of code.now taken self.new) }
@@ -73,11 +125,12 @@ impl Machine {
     {
         let mut place = self.top.place;
         let mut left = self.left;
-        let stop = go_above(
+        let stop = go_within(
             code,
             self.top.function,
             &mut self.cells,
             self.top.base,
+            self.end,
             &mut place,
             &mut left,
         );
@@ -89,7 +142,8 @@ impl Machine {
     // One instruction within the innermost function.
     pub(crate) fn once(&mut self, code: &Code) -> Stop
         requires runnable { IsRunnable code.now }
-        requires placed { IsPlaced code.now self.old.top.function self.old.top.base (length self.old.cells.items) }
+        requires placed { IsPlaced code.now self.old.top.function self.old.top.base self.old.end }
+        requires end { self.old.end ≤ length self.old.cells.items }
         requires ticks { self.old.left ≤ self.old.given }
         requires safe { (taken : List Piece) × IsSafe code.now (config_of code.now taken self.old) }
         ensures step { (taken : List Piece) → TookOne code.now taken result self.old self.new }
@@ -97,11 +151,12 @@ impl Machine {
     {
         let mut place = self.top.place;
         let mut left = self.left;
-        let stop = once_above(
+        let stop = once_within(
             code,
             self.top.function,
             &mut self.cells,
             self.top.base,
+            self.end,
             &mut place,
             &mut left,
         );

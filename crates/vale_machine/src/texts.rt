@@ -1,5 +1,5 @@
 // What an instruction that is done aside reads, and where the value goes that it comes to.
-ghost use Rattle.std.specs.Prelude.{◌≡◌, ℕ, ◌+◌, ◌<◌, ◌≤◌, ◌^◌, List, OnOk, Result, Some, length};
+ghost use Rattle.std.specs.Prelude.{◌≡◌, ℕ, ◌+◌, ◌-◌, ◌<◌, ◌≤◌, ◌^◌, List, OnOk, Result, Some, length};
 ghost use Rattle.vale_base.specs.declared.piece.Piece.{Piece};
 ghost use Rattle.vale_base.specs.declared.trap.TrapKind.{TrapKind};
 ghost use Rattle.vale_state_spec.specs.World.{Int as an_int, Text as a_text, Truth as a_truth};
@@ -20,15 +20,17 @@ use vale_registers::{Cell, Shape, int_at, truth_at};
 impl Machine {
     // The cells of the innermost function.
     pub(crate) fn registers(&self) -> &[Cell]
-        requires { self.now.top.base ≤ length self.now.cells.items }
+        requires base { self.now.top.base ≤ self.now.end }
+        requires end { self.now.end ≤ length self.now.cells.items }
         ensures { result.now ≡ own_cells self.now }
     {
-        &self.cells[self.top.base..]
+        &self.cells[self.top.base..self.end]
     }
 
     // The number in a register of the innermost function.
     pub(crate) fn int(&self, register: u32) -> i64
-        requires base { self.now.top.base ≤ length self.now.cells.items }
+        requires base { self.now.top.base ≤ self.now.end }
+        requires end { self.now.end ≤ length self.now.cells.items }
         requires holds { HoldsInt (own_cells self.now) register }
         ensures { read (registers_of self.now) register ≡ Some (an_int result) }
     {
@@ -37,7 +39,8 @@ impl Machine {
 
     // The truth in a register of the innermost function.
     pub(crate) fn truth(&self, register: u32) -> bool
-        requires base { self.now.top.base ≤ length self.now.cells.items }
+        requires base { self.now.top.base ≤ self.now.end }
+        requires end { self.now.end ≤ length self.now.cells.items }
         requires holds { HoldsTruth (own_cells self.now) register }
         ensures { read (registers_of self.now) register ≡ Some (a_truth result) }
     {
@@ -46,7 +49,8 @@ impl Machine {
 
     // The text in a register of the innermost function.
     pub(crate) fn text(&self, register: u32) -> &Text
-        requires base { self.now.top.base ≤ length self.now.cells.items }
+        requires base { self.now.top.base ≤ self.now.end }
+        requires end { self.now.end ≤ length self.now.cells.items }
         requires holds { HoldsText (own_cells self.now) register }
         ensures { read (registers_of self.now) register ≡ Some (a_text result.now) }
     {
@@ -55,8 +59,9 @@ impl Machine {
 
     // A cell goes to a register, and the next instruction is the one after.
     fn receive(&mut self, to: u32, cell: Cell)
-        requires base { self.old.top.base ≤ length self.old.cells.items }
-        requires room { to < length (own_cells self.old) }
+        requires base { self.old.top.base ≤ self.old.end }
+        requires end { self.old.end ≤ length self.old.cells.items }
+        requires room { to < self.old.end - self.old.top.base }
         requires place { self.old.top.place + 1 < 2 ^ 64 }
         ensures { Receives to cell self.old self.new }
     {
@@ -66,8 +71,9 @@ impl Machine {
 
     // The same of a cell whose text is there.
     fn receive_text(&mut self, to: u32)
-        requires base { self.old.top.base ≤ length self.old.cells.items }
-        requires room { to < length (own_cells self.old) }
+        requires base { self.old.top.base ≤ self.old.end }
+        requires end { self.old.end ≤ length self.old.cells.items }
+        requires room { to < self.old.end - self.old.top.base }
         requires place { self.old.top.place + 1 < 2 ^ 64 }
         ensures { Receives to text_cell self.old self.new }
     {
@@ -83,8 +89,9 @@ impl Machine {
 
     // A register gets a number, and the next instruction is the one after.
     pub(crate) fn get_int(&mut self, to: u32, number: i64)
-        requires base { self.old.top.base ≤ length self.old.cells.items }
-        requires room { to < length (own_cells self.old) }
+        requires base { self.old.top.base ≤ self.old.end }
+        requires end { self.old.end ≤ length self.old.cells.items }
+        requires room { to < self.old.end - self.old.top.base }
         requires place { self.old.top.place + 1 < 2 ^ 64 }
         ensures { Gets (put (registers_of self.old) to (Some (an_int number))) self.old self.new }
     {
@@ -100,8 +107,9 @@ impl Machine {
 
     // The same of a truth.
     pub(crate) fn get_truth(&mut self, to: u32, truth: bool)
-        requires base { self.old.top.base ≤ length self.old.cells.items }
-        requires room { to < length (own_cells self.old) }
+        requires base { self.old.top.base ≤ self.old.end }
+        requires end { self.old.end ≤ length self.old.cells.items }
+        requires room { to < self.old.end - self.old.top.base }
         requires place { self.old.top.place + 1 < 2 ^ 64 }
         ensures { Gets (put (registers_of self.old) to (Some (a_truth truth))) self.old self.new }
     {
@@ -117,8 +125,9 @@ impl Machine {
 
     // The same of a text.
     pub(crate) fn get_text(&mut self, to: u32, text: Text) -> Result<(), Memory>
-        requires base { self.old.top.base ≤ length self.old.cells.items }
-        requires room { to < length (own_cells self.old) }
+        requires base { self.old.top.base ≤ self.old.end }
+        requires end { self.old.end ≤ length self.old.cells.items }
+        requires room { to < self.old.end - self.old.top.base }
         requires place { self.old.top.place + 1 < 2 ^ 64 }
         ensures gets { OnOk result (Gets (put (registers_of self.old) to (Some (a_text text))) self.old self.new) }
         ensures keeps { KeepsFrames Step.Memory self.old self.new }
@@ -131,8 +140,9 @@ impl Machine {
 
     // A register gets the text of another, and the next instruction is the one after.
     pub(crate) fn share_text(&mut self, to: u32, from: u32) -> Result<(), Memory>
-        requires base { self.old.top.base ≤ length self.old.cells.items }
-        requires room { to < length (own_cells self.old) }
+        requires base { self.old.top.base ≤ self.old.end }
+        requires end { self.old.end ≤ length self.old.cells.items }
+        requires room { to < self.old.end - self.old.top.base }
         requires holds { HoldsText (own_cells self.old) from }
         requires place { self.old.top.place + 1 < 2 ^ 64 }
         ensures gets { OnOk result (Gets (put (registers_of self.old) to (read (registers_of self.old) from)) self.old self.new) }
@@ -146,8 +156,9 @@ impl Machine {
 
     // A text that was made goes to a register, where there is memory.
     pub(crate) fn take_text(&mut self, to: u32, text: Text) -> Step
-        requires base { self.old.top.base ≤ length self.old.cells.items }
-        requires room { to < length (own_cells self.old) }
+        requires base { self.old.top.base ≤ self.old.end }
+        requires end { self.old.end ≤ length self.old.cells.items }
+        requires room { to < self.old.end - self.old.top.base }
         requires place { self.old.top.place + 1 < 2 ^ 64 }
         ensures step { (code : Parts) (taken : List Piece) → Stepped code taken result
             (onward (active code self.old) (put (registers_of self.old) to (Some (a_text text))) (below code self.old) (state_of taken self.old)) self.new }
@@ -161,8 +172,9 @@ impl Machine {
 
     // What an operation comes to goes to a register, or is a trap.
     pub(crate) fn land_int(&mut self, to: u32, at: Spot, outcome: Result<i64, TrapKind>) -> Step
-        requires base { self.old.top.base ≤ length self.old.cells.items }
-        requires room { to < length (own_cells self.old) }
+        requires base { self.old.top.base ≤ self.old.end }
+        requires end { self.old.end ≤ length self.old.cells.items }
+        requires room { to < self.old.end - self.old.top.base }
         requires place { self.old.top.place + 1 < 2 ^ 64 }
         ensures step { (code : Parts) (taken : List Piece) → Stepped code taken result
             (answered (active code self.old) (Some to) (registers_of self.old) at (below code self.old) (state_of taken self.old) (gives_int (state_of taken self.old) outcome)) self.new }
@@ -179,8 +191,9 @@ impl Machine {
 
     // The same of one that makes a text.
     pub(crate) fn land_text(&mut self, to: u32, at: Spot, outcome: Result<Text, Fail<TrapKind>>) -> Step
-        requires base { self.old.top.base ≤ length self.old.cells.items }
-        requires room { to < length (own_cells self.old) }
+        requires base { self.old.top.base ≤ self.old.end }
+        requires end { self.old.end ≤ length self.old.cells.items }
+        requires room { to < self.old.end - self.old.top.base }
         requires place { self.old.top.place + 1 < 2 ^ 64 }
         ensures step { (code : Parts) (taken : List Piece) (meaning : Result (List ℕ) TrapKind) → Gives outcome meaning → Stepped code taken result
             (answered (active code self.old) (Some to) (registers_of self.old) at (below code self.old) (state_of taken self.old) (gives_text (state_of taken self.old) meaning)) self.new }

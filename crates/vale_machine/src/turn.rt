@@ -4,6 +4,7 @@ ghost use Rattle.vale_base.specs.declared.piece.Piece.{Piece};
 ghost use Rattle.vale_code.specs.Frames.{Next};
 ghost use Rattle.vale_code.specs.Instructions.{fetch};
 ghost use Rattle.vale_code.specs.Run.{step};
+ghost use Rattle.vale_text.specs.Progress.{Begins};
 ghost use Rattle.vale_turn.specs.Served.{may_want_at};
 ghost use Rattle.vale_machine.specs.UnderWay.{Ends, HasFirst, IsRunning, IsStillUnderWay, IsUnderWay, Turned, WantsForTrap};
 ghost use Rattle.vale_machine.specs.View.{HasMemory, IsOver, KeepsTicks, Stepped, config_of, state_of};
@@ -40,6 +41,8 @@ impl Machine {
         ensures memory { (taken : List Piece) → may_want_at (fetch code.now self.old.top.function self.old.top.place) ≡ false → WantsForTrap result (step code.now (config_of code.now taken self.old)) }
         ensures under_way { (taken : List Piece) → IsUnderWay code.now taken self.old → IsStillUnderWay code.now taken result self.new }
         ensures ticks { KeepsTicks self.old self.new }
+        // No piece is lost.
+        ensures pieces { Begins self.old.pieces.items self.new.pieces.items }
     {
         let stop = self.once(code);
         if stop.is_going() {
@@ -87,6 +90,8 @@ impl Machine {
         ensures memory { (taken : List Piece) → may_want_at (fetch code.now.code self.old.top.function self.old.top.place) ≡ false → WantsForTrap result (step code.now.code (config_of code.now.code taken self.old)) }
         ensures under_way { (taken : List Piece) → IsUnderWay code.now.code taken self.old → IsStillUnderWay code.now.code taken result self.new }
         ensures ticks { KeepsTicks self.old self.new }
+        // No piece is lost.
+        ensures pieces { Begins self.old.pieces.items self.new.pieces.items }
     {
         self.turn_code(&code.code)
     }

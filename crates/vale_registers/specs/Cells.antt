@@ -33,6 +33,11 @@ HoldsText cells r = (t : ℕ → List ℕ) × (x : List ℕ) × (read (values_in
 abbrev pub HoldsValue : List Cell → ℕ → Type 0
 HoldsValue cells r = (t : ℕ → List ℕ) × (v : Value) × (read (values_in t cells) r ≡ Some v)
 
+-- there is a register for a value that is wanted
+abbrev pub HasRegister : Option ℕ → ℕ → Type 0
+HasRegister None count = Unit {0}
+HasRegister (Some to) count = to < count
+
 abbrev pub holds_text : Option Value → Bool
 holds_text (Some (Text t)) = true
 holds_text _ = false

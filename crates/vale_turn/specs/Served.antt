@@ -4,6 +4,7 @@ use Rattle.vale_code.specs.Instructions.{fetch}
 use Rattle.vale_code.specs.Parts.{Parts}
 use Rattle.vale_code.specs.declared.instr.Instr.{Instr}
 use Rattle.vale_code.specs.declared.instr.Instr.TheVariants as i
+use Rattle.vale_registers.specs.Cells.{HasRegister}
 
 -- the instructions that the machine runs: those on numbers, truths and texts, jumps, ticks and calls
 abbrev pub is_served : Instr → Bool
@@ -90,10 +91,6 @@ may_want _ = false
 abbrev pub may_want_at : Option Instr → Bool
 may_want_at None = false
 may_want_at (Some instr) = may_want instr
-
-abbrev pub HasRegister : Option ℕ → ℕ → Type 0
-HasRegister None count = Unit {0}
-HasRegister (Some to) count = to < count
 
 -- an instruction of a function with so many registers
 pub record IsFit (instr : Instr) (count : ℕ) : Type 0 where

@@ -5,10 +5,10 @@ ghost use Rattle.vale_code.specs.Parts.{Parts};
 ghost use Rattle.vale_code.specs.Registers.{read};
 ghost use Rattle.vale_code.specs.declared.instr.Instr.{Instr};
 ghost use Rattle.vale_text.specs.Steps.{gives_int};
-ghost use Rattle.vale_registers.specs.Cells.{HoldsValue, values_in};
+ghost use Rattle.vale_registers.specs.Cells.{HoldsValue, values_in, HasRegister};
 ghost use Rattle.vale_registers.specs.declared.cell.Cell.{Cell};
 ghost use Rattle.vale_turn.specs.Comparing.{compared};
-ghost use Rattle.vale_turn.specs.Served.{HasRegister, is_served, register_of};
+ghost use Rattle.vale_turn.specs.Served.{is_served, register_of};
 ghost use Rattle.vale_turn.specs.View.{HasRule, IfStopped, IsAside, IsBody, Leaving, Obeyed, Scene, Stays, active, next_of, state_at};
 
 use crate::compare::{matched, ordered};

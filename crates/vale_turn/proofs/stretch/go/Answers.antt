@@ -1,7 +1,8 @@
 use Rattle.std.proofs.Common.{◌≡◌, ◌<◌, ◌≤◌, length, Some, ap, sym, ◌∙◌, subst, arith}
 use Rattle.std.specs.Prelude.{slice_get}
 use Rattle.vale_code.specs.Instructions.{fetch}
-use Rattle.vale_turn.specs.Served.{HasRegister, register_of}
+use Rattle.vale_registers.specs.Cells.{HasRegister}
+use Rattle.vale_turn.specs.Served.{register_of}
 use Rattle.vale_turn.specs.View.{IsBody, Leads, Scene, config}
 use Rattle.vale_turn.proofs.Stretching.{bare, ends_by, fetched, leads_on, less_fuel, place_within, rule_of, safe_on, same_config, step_is, stopped}
 use Rattle.vale_turn.proofs.stretch.go.Goals as goal

@@ -9,12 +9,12 @@ fetched-requires c = let e = c.requires.ends [] in (e.0, e.1)
 pub call-requires-clause-callable : goal.call-requires-clause-callable
 call-requires-clause-callable c =
     let u = c.requires.running.1 in
-    callable_here c.args.code.now c.args.self.now u.runnable u.laid.0 c.fetched.result.now c.fetched.ensures.found c.in-Call.to c.in-Call.func c.in-Call.args c.in-Call.at c.in-Call.is
+    callable_here c.args.code.now c.args.self.now u.runnable u.laid.lie.0 c.fetched.result.now c.fetched.ensures.found c.in-Call.to c.in-Call.func c.in-Call.args c.in-Call.at c.in-Call.is
 
 pub call-requires-clause-given : goal.call-requires-clause-given
 call-requires-clause-given c =
     let u = c.requires.running.1 in
-    let w = callable_here c.args.code.now c.args.self.now u.runnable u.laid.0 c.fetched.result.now c.fetched.ensures.found c.in-Call.to c.in-Call.func c.in-Call.args c.in-Call.at c.in-Call.is in
+    let w = callable_here c.args.code.now c.args.self.now u.runnable u.laid.lie.0 c.fetched.result.now c.fetched.ensures.found c.in-Call.to c.in-Call.func c.in-Call.args c.in-Call.at c.in-Call.is in
     call_given c.args.code.now c.requires.running.0 c.args.self.now c.fetched.result.now c.in-Call.to c.in-Call.func c.in-Call.args c.as_slice.result.now c.in-Call.at w.func c.fetched.ensures.found c.in-Call.is c.as_slice.ensures w.found w.plain u.safe
 
 pub returns-in-Call-clause-step : goal.returns-in-Call-clause-step

@@ -15,7 +15,10 @@ pub turn_aside-requires-clause-ends : goal.turn_aside-requires-clause-ends
 turn_aside-requires-clause-ends c = subst (λ (t : Stop). EndsSo c.args.code.now t c.args.self.now) c.in-Aside.is c.requires.ends
 
 pub ret-requires-clause-base : goal.ret-requires-clause-base
-ret-requires-clause-base c = omega (arith, c.requires.running.1.laid.0.size)
+ret-requires-clause-base c = omega (arith, c.requires.running.1.laid.lie.0.size)
+
+pub ret-requires-clause-end : goal.ret-requires-clause-end
+ret-requires-clause-end c = c.requires.running.1.laid.there
 
 pub ret-requires-clause-value : goal.ret-requires-clause-value
 ret-requires-clause-value c =
@@ -23,8 +26,11 @@ ret-requires-clause-value c =
     let ends = subst (λ o. EndsSo c.args.code.now (stop.Leaves o) c.args.self.now) c.in-Some.is leaves in
     ret_value c.args.code.now c.requires.running.0 c.args.self.now c.in-Some.register (ends []) c.requires.running.1.safe
 
-pub ret_void-requires : goal.ret_void-requires
-ret_void-requires c = omega (arith, c.requires.running.1.laid.0.size)
+pub ret_void-requires-clause-end : goal.ret_void-requires-clause-end
+ret_void-requires-clause-end c = c.requires.running.1.laid.there
+
+pub ret_void-requires-clause-base : goal.ret_void-requires-clause-base
+ret_void-requires-clause-base c = omega (arith, c.requires.running.1.laid.lie.0.size)
 
 pub returns-in-Some-clause-step : goal.returns-in-Some-clause-step
 returns-in-Some-clause-step c = λ taken.
@@ -32,7 +38,7 @@ returns-in-Some-clause-step c = λ taken.
     let leaves = subst (λ (t : Stop). EndsSo c.args.code.now t c.args.self.now) c.in-Leaves.is c.requires.ends in
     let ends = subst (λ o. EndsSo c.args.code.now (stop.Leaves o) c.args.self.now) c.in-Some.is leaves in
     subst (λ (n : Next). Stepped c.args.code.now taken c.ret.result n c.ret.new.self)
-    (sym (ret_at c.args.code.now taken c.requires.running.0 c.args.self.now c.in-Some.register (ends []) u.laid.0 u.safe)) (c.ret.ensures.step c.args.code.now taken u.laid)
+    (sym (ret_at c.args.code.now taken c.requires.running.0 c.args.self.now c.in-Some.register (ends []) u.laid.lie.0 u.safe)) (c.ret.ensures.step c.args.code.now taken u.laid)
 
 pub returns-in-None-clause-step : goal.returns-in-None-clause-step
 returns-in-None-clause-step c = λ taken.
@@ -40,7 +46,7 @@ returns-in-None-clause-step c = λ taken.
     let leaves = subst (λ (t : Stop). EndsSo c.args.code.now t c.args.self.now) c.in-Leaves.is c.requires.ends in
     let ends = subst (λ o. EndsSo c.args.code.now (stop.Leaves o) c.args.self.now) c.in-None.is leaves in
     subst (λ (n : Next). Stepped c.args.code.now taken c.ret_void.result n c.ret_void.new.self)
-    (sym (void_here c.args.code.now taken c.args.self.now (ends []) u.laid.0)) (c.ret_void.ensures.step c.args.code.now taken u.laid)
+    (sym (void_here c.args.code.now taken c.args.self.now (ends []) u.laid.lie.0)) (c.ret_void.ensures.step c.args.code.now taken u.laid)
 
 pub returns-in-Trap-clause-step : goal.returns-in-Trap-clause-step
 returns-in-Trap-clause-step c = λ taken.

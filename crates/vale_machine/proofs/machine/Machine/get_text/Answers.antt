@@ -10,5 +10,5 @@ returns-clause-gets c =
     let m = c.args.self.now in
     let mid : Machine = record m { texts = c.put.new.self } in
     gets m mid c.receive_text.new.self c.args.to text_cell (Text c.args.text)
-    (record { cells = refl; top = refl; below = refl; left = refl; given = refl; pieces = refl; others = c.in_ok-put.ensures.others })
-    c.receive_text.ensures (ap (λ x. Some (Text x)) c.in_ok-put.ensures.is) c.requires.base c.requires.room
+    (record { cells = refl; end = refl; top = refl; below = refl; left = refl; given = refl; pieces = refl; others = c.in_ok-put.ensures.others })
+    c.receive_text.ensures (ap (λ x. Some (Text x)) c.in_ok-put.ensures.is) c.requires.base c.requires.end c.requires.room

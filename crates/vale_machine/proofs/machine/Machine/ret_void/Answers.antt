@@ -13,8 +13,8 @@ returns-in-Some-clause-step c = λ code taken laid.
     let m = c.args.self.now in
     let f = c.in-Some.frame in
     let mid : Machine = record m { below = c.pop.new.self } in
-    let under = base_back code c.pop.new.self.items m.below.items f m.top.base c.in-Some.ensures.items laid.2 in
-    let q = left_by m mid c.uncover.new.self f None (record { top = refl; left = refl; given = refl; pieces = refl }) c.in-Some.ensures.items (nothing_handed f.base m.top.base m.top.dest m.cells.items m.texts) c.uncover.ensures under c.requires in
+    let under = base_back code c.pop.new.self.items m.below.items f m.top.base c.in-Some.ensures.items laid.lie.2 in
+    let q = left_by m mid c.uncover.new.self f None (record { top = refl; left = refl; given = refl; pieces = refl }) c.in-Some.ensures.items (nothing_handed f.base m.top.base m.top.dest m.cells.items m.texts) c.uncover.ensures under c.requires.base c.requires.end in
     goes_back code m c.uncover.new.self f None q taken
 
 pub returns-in-Some-clause-laid : goal.returns-in-Some-clause-laid
@@ -22,6 +22,6 @@ returns-in-Some-clause-laid c = λ code laid.
     let m = c.args.self.now in
     let f = c.in-Some.frame in
     let mid : Machine = record m { below = c.pop.new.self } in
-    let under = base_back code c.pop.new.self.items m.below.items f m.top.base c.in-Some.ensures.items laid.2 in
-    let q = left_by m mid c.uncover.new.self f None (record { top = refl; left = refl; given = refl; pieces = refl }) c.in-Some.ensures.items (nothing_handed f.base m.top.base m.top.dest m.cells.items m.texts) c.uncover.ensures under c.requires in
+    let under = base_back code c.pop.new.self.items m.below.items f m.top.base c.in-Some.ensures.items laid.lie.2 in
+    let q = left_by m mid c.uncover.new.self f None (record { top = refl; left = refl; given = refl; pieces = refl }) c.in-Some.ensures.items (nothing_handed f.base m.top.base m.top.dest m.cells.items m.texts) c.uncover.ensures under c.requires.base c.requires.end in
     lies_back code m c.uncover.new.self f None q laid

@@ -15,5 +15,5 @@ returns-clause-gets c =
     let held = text_is (own_cells m) c.args.from _ c.requires.holds (own_texts m) in
     subst (λ o. Gets (put (registers_of m) c.args.to o) m c.receive_text.new.self) (sym held)
     (gets m mid c.receive_text.new.self c.args.to text_cell (Text (own_texts m c.args.from))
-    (record { cells = refl; top = refl; below = refl; left = refl; given = refl; pieces = refl; others = c.in_ok-share.ensures.others })
-    c.receive_text.ensures (ap (λ x. Some (Text x)) c.in_ok-share.ensures.is) c.requires.base c.requires.room)
+    (record { cells = refl; end = refl; top = refl; below = refl; left = refl; given = refl; pieces = refl; others = c.in_ok-share.ensures.others })
+    c.receive_text.ensures (ap (λ x. Some (Text x)) c.in_ok-share.ensures.is) c.requires.base c.requires.end c.requires.room)

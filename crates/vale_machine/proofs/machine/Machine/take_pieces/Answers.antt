@@ -9,7 +9,7 @@ use Rattle.vale_machine.proofs.machine.Machine.take_pieces.Goals as goal
 pub returns-clause-under_way : goal.returns-clause-under_way
 returns-clause-under_way c = λ code taken u. record {
   runnable = u.runnable;
-  laid = u.laid;
+  laid = record { lie = u.laid.lie; there = u.laid.there };
   ticks = u.ticks;
   safe = subst (λ (x : Config). IsSafe code x)
       (ap (λ (ps : List Piece). record (config_of code taken c.args.self.now) { state = record (config_of code taken c.args.self.now).state { pieces = ps } })

@@ -7,7 +7,10 @@ pub fetched-instr-requires : goal.fetched-instr-requires
 fetched-instr-requires c = let e = c.requires.ends [] in (e.0, e.1)
 
 pub aside-requires-clause-base : goal.aside-requires-clause-base
-aside-requires-clause-base c = omega (arith, c.requires.running.1.laid.0.size)
+aside-requires-clause-base c = omega (arith, c.requires.running.1.laid.lie.0.size)
+
+pub aside-requires-clause-end : goal.aside-requires-clause-end
+aside-requires-clause-end c = c.requires.running.1.laid.there
 
 pub aside-requires-clause-aside : goal.aside-requires-clause-aside
 aside-requires-clause-aside c = let e = c.requires.ends [] in same_aside _ e.0 c.fetched-instr.result.now e.1 c.fetched-instr.ensures.found e.2
@@ -15,7 +18,7 @@ aside-requires-clause-aside c = let e = c.requires.ends [] in same_aside _ e.0 c
 pub aside-requires-clause-room : goal.aside-requires-clause-room
 aside-requires-clause-room c =
     let u = c.requires.running.1 in
-    room_here c.args.code.now c.args.self.now u.runnable u.laid.0 c.fetched-instr.result.now c.fetched-instr.ensures.found
+    room_here c.args.code.now c.args.self.now u.runnable u.laid.lie.0 c.fetched-instr.result.now c.fetched-instr.ensures.found
 
 pub aside-requires-clause-right : goal.aside-requires-clause-right
 aside-requires-clause-right c = record {
