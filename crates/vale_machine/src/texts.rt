@@ -24,7 +24,8 @@ impl Machine {
         requires end { self.now.end ≤ length self.now.cells.items }
         ensures { result.now ≡ own_cells self.now }
     {
-        &self.cells[self.top.base..self.end]
+        let row = &self.cells[..self.end];
+        &row[self.top.base..]
     }
 
     // The number in a register of the innermost function.

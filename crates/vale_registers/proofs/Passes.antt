@@ -1,14 +1,14 @@
 -- Values that go from registers to registers.
-use Rattle.std.proofs.Common.{◌≡◌, ◌≢◌, ℕ, zero, suc, ◌+◌, ◌-◌, ◌<◌, ◌≤◌, List, [], ◌∷◌, ◌++◌, length, take, drop, get_or, map, replicate, Option, Some, None, refl, sym, ap, ◌∙◌, subst, arith}
+use Rattle.std.proofs.Common.{◌≡◌, ◌≢◌, ℕ, zero, suc, ◌+◌, ◌-◌, ◌<◌, ◌≤◌, List, [], ◌∷◌, ◌++◌, length, take, drop, get_or, map, replicate, Option, Some, None, refl, sym, ap, ◌∙◌, arith, length-append}
 use Rattle.std.specs.Prelude.{slice_set}
 use Rattle.std.proofs.lemmas.List.{length-drop, length-set, length-take-le, take-set-le, take-take, take_all}
 use Rattle.vale_state_spec.specs.World.{Value}
 use Rattle.vale_code.specs.Registers.{Registers, read, put, with_result}
-use Rattle.vale_registers.specs.Cells.{empty, value_in, value_of, values_in, HasRegister, HoldsValue}
+use Rattle.vale_registers.specs.Cells.{value_in, values_in, HoldsValue}
 use Rattle.vale_registers.specs.Passing.{AreLaid, AreShared, IsGiven, IsHanded, IsMoved, IsPassed, IsShared, from_base, values_from}
 use Rattle.vale_registers.specs.Texts.{text_at}
 use Rattle.vale_registers.specs.declared.cell.Cell.{Cell}
-use Rattle.vale_registers.proofs.Bases.{read_drop, take_set, take_written, values_append, written}
+use Rattle.vale_registers.proofs.Bases.{drop_front, read_drop, take_front, take_written, values_append, written}
 use Rattle.vale_registers.proofs.Registers.{read_within, same_values, some_value}
 
 -- ---- what is shared one after another
@@ -141,3 +141,53 @@ module _ (base top to from : ℕ) (cells : List Cell) (old : List (List ℕ)) (n
 
 pub none_handed : (base top from : ℕ) (v : Option Value) (cells : List Cell) (texts : List (List ℕ)) → IsHanded base top None v cells texts cells texts
 none_handed base top from v cells texts = record { size = refl; above = refl; below = refl; others = λ i lt. refl }
+
+-- ---- parts that were written
+
+pub passed_behind : (base top : ℕ) (args : List ℕ) (cells : List Cell) (old : List (List ℕ)) (row own new : List Cell) (newer : List (List ℕ)) → row ≡ take top cells → length row ≡ top → length own + top ≡ length cells → length new ≡ length own
+    → AreLaid base args row old new newer → IsPassed base top (length cells) args cells old (row ++ new) newer
+passed_behind base top args cells old row own new newer front size whole same p =
+    let left : length new - length args ≡ length cells - top - length args = omega (arith, whole, same) in
+    record {
+      row = take_front row new top size ∙ front;
+      own = ap (λ l. values_in (from_base top (text_at newer)) (drop top l)) (take_all (length cells) (row ++ new) (omega (arith, length-append row new, size, whole, same)))
+          ∙ ap (values_in (from_base top (text_at newer))) (drop_front row new top size)
+          ∙ ap (λ n. values_in (from_base n (text_at newer)) new) (sym size)
+          ∙ p.all
+          ∙ ap (λ l. map (read (values_from base old l)) args ++ replicate (length new - length args) None) front
+          ∙ ap (λ n. map (read (values_from base old (take top cells))) args ++ replicate n None) left;
+      others = λ i lt. p.others i (omega (arith, lt, size));
+    }
+
+pub passed_within : (base top end : ℕ) (args : List ℕ) (cells : List Cell) (old : List (List ℕ)) (used rest new : List Cell) (newer : List (List ℕ)) → used ≡ take end cells → length used ≡ end → length new ≡ length used → top ≤ end
+    → IsPassed base top (length used) args used old new newer → IsPassed base top end args cells old (new ++ rest) newer
+passed_within base top end args cells old used rest new newer front size same le p =
+    let first : take end (new ++ rest) ≡ new = take_front new rest end (same ∙ size) in
+    let under : take top used ≡ take top cells = ap (take top) front ∙ take-take top end cells le in
+    record {
+      row = sym (take-take top end (new ++ rest) le) ∙ ap (take top) first ∙ p.row ∙ under;
+      own = ap (values_from top newer) (first ∙ sym (take_all (length used) new (omega (arith, same))))
+          ∙ p.own
+          ∙ ap (λ l. map (read (values_from base old l)) args ++ replicate (length used - top - length args) None) under
+          ∙ ap (λ n. map (read (values_from base old (take top cells))) args ++ replicate (n - top - length args) None) size;
+      others = p.others;
+    }
+
+at_drop : (n k : ℕ) (xs : List Cell) (d : Cell) → get_or (drop n xs) k d ≡ get_or xs (n + k) d
+at_drop zero k [] d = refl
+at_drop zero k (x ∷ xs) d = let e : k ≡ 0 + k = omega arith in ap (λ i. get_or (x ∷ xs) i d) e
+at_drop (suc n) k [] d = refl
+at_drop (suc n) k (x ∷ xs) d = let e : suc (n + k) ≡ suc n + k = omega arith in at_drop n k xs d ∙ ap (λ i. get_or (x ∷ xs) i d) e
+
+pub given_down : (top to from : ℕ) (cells : List Cell) (old : List (List ℕ)) (lower upper : List Cell) (d b : Cell) (newer : List (List ℕ)) → lower ≡ take top cells → upper ≡ drop top cells → length lower ≡ top → to < top → top ≤ from → from < length cells
+    → IsMoved from to (get_or upper (from - top) d) b old newer → IsGiven top to from cells old (slice_set lower to b ++ upper) newer
+given_down top to from cells old lower upper d b newer front back size lt above few p =
+    let place : top + (from - top) ≡ from = omega (arith, above) in
+    record {
+      cell = b;
+      is = take_front (slice_set lower to b) upper top (length-set lower to b ∙ size) ∙ ap (λ l. slice_set l to b) front;
+      value = p.value ∙ ap (λ l. value_in (get_or l (from - top) d) (text_at old from)) back
+          ∙ ap (λ c. value_in c (text_at old from)) (at_drop top (from - top) cells d ∙ ap (λ i. get_or cells i d) place)
+          ∙ sym (read_within (text_at old) cells from d few);
+      others = p.others;
+    }

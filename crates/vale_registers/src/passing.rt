@@ -221,7 +221,8 @@ pub fn hand(
     requires value { HoldsValue cells.old.items from }
     ensures { IsHanded base top dest (read (values_in (text_at texts.old) cells.old.items) from) cells.old.items texts.old cells.new.items texts.new }
 {
-    if let Some(to) = dest {
-        hand_within(cells, texts, top, base + to as usize, from);
+    match dest {
+        Some(to) => hand_within(cells, texts, top, base + to as usize, from),
+        None => {}
     }
 }
