@@ -1,12 +1,12 @@
 -- What a step that has a rule tells of the registers that an instruction aside reads.
-use Rattle.std.proofs.Common.{◌≡◌, ℕ, suc, ◌<◌, ℤ, List, [], ◌∷◌, length, Option, Some, None, Bool, refl, sym, ap, ◌∙◌, subst, arith}
+use Rattle.std.proofs.Common.{◌≡◌, ℕ, suc, ◌+◌, ◌-◌, ◌<◌, ℤ, pos, List, [], ◌∷◌, ◌++◌, length, Option, Some, None, Bool, true, false, if◌then◌else◌, Vec, Global, append_assoc, refl, sym, ap, ◌∙◌, subst, arith}
 use Rattle.std.specs.Prelude.{slice_get}
 use Rattle.vale_base.specs.declared.piece.Piece.{Piece}
 use Rattle.vale_base.specs.declared.spot.Spot.{Spot}
-use Rattle.vale_state_spec.specs.State.{State, Answer, print, print_text, shown}
+use Rattle.vale_state_spec.specs.State.{State, Answer, gives, print, print_text, printed, shown}
 use Rattle.vale_state_spec.specs.World.{Value, Int, Truth, Text}
-use Rattle.vale_code.specs.Frames.{Active, Frame, Next}
-use Rattle.vale_code.specs.Instructions.{answered, certain, comparison_of, copied, gets, onward, truth_of, with_choice, with_value}
+use Rattle.vale_code.specs.Frames.{Active, Frame, Next, On}
+use Rattle.vale_code.specs.Instructions.{answered, behind, certain, comparison_of, copied, gets, onward, text_length, truth_of, with_choice, with_value}
 use Rattle.vale_code.specs.Parts.{Parts}
 use Rattle.vale_code.specs.Registers.{Registers, put, read}
 use Rattle.vale_code.specs.declared.instr.Instr.{Instr}
@@ -22,7 +22,7 @@ use Rattle.vale_registers.specs.declared.cell.Shape.TheVariants as shape
 use Rattle.vale_registers.proofs.Registers.{not_empty, text_is}
 use Rattle.vale_machine.specs.Aside.{HasRuleIn, next_in}
 use Rattle.vale_machine.specs.Printing.{IsShown, shown_in}
-use Rattle.vale_machine.specs.View.{active, below, own_cells, own_texts, registers_of, scene_of, state_of}
+use Rattle.vale_machine.specs.View.{active, below, config_of, own_cells, own_texts, registers_of, scene_of, state_of, state_with}
 use Rattle.vale_machine.specs.declared.machine.Machine.{Machine}
 
 abbrev IsText : Option Value → Type 0
@@ -191,6 +191,9 @@ module _ (code : Parts) (taken : List Piece) (m : Machine) (to a : ℕ) where
   pub copied_int : (n : ℤ) → read (registers_of m) a ≡ Some (Int n) → next_in code taken m (i.Copy to a) ≡ goes_with (Some (Int n))
   copied_int n e = ap copies e
 
+  pub measured_here : (t : List ℕ) → read (registers_of m) a ≡ Some (Text t) → next_in code taken m (i.TextLen to a) ≡ goes_with (Some (Int (pos (length t))))
+  measured_here t e = ap (λ o. with_value o (state_of taken m) (λ v. certain (active code m) (Some to) (registers_of m) (below code m) (state_of taken m) (text_length v (state_of taken m)))) e
+
   pub copied_truth : (b : Bool) → read (registers_of m) a ≡ Some (Truth b) → next_in code taken m (i.Copy to a) ≡ goes_with (Some (Truth b))
   copied_truth b e = ap copies e
 
@@ -227,3 +230,16 @@ printed_here code taken m from choice line bytes e h = ap (λ o. with_choice o s
     at : (o : Option Value) → shown_in o ≡ Some bytes → with_value o s (λ v. surely_prints (print line v s)) ≡ surely_prints (print_text line (Some bytes) s)
     at None q = let x : ⊥ = cc in absurd x
     at (Some v) q = ap (λ x. surely_prints (print_text line x s)) q
+
+-- ---- what was printed
+
+printed_is : (line : Bool) (bytes all : List ℕ) (s : State) → all ≡ (if line then bytes ++ 10 ∷ [] else bytes) → print_text line (Some bytes) s ≡ gives None (printed all s)
+printed_is true bytes all s e = ap (λ b. gives None (printed b s)) (sym e)
+printed_is false bytes all s e = ap (λ b. gives None (printed b s)) (sym e)
+
+pub prints_on : (code : Parts) (taken : List Piece) (m : Machine) (pieces : Vec Piece Global) (line : Bool) (bytes all : List ℕ) → all ≡ (if line then bytes ++ 10 ∷ [] else bytes) → pieces.items ≡ m.pieces.items ++ record { tick = m.given - m.left; bytes = all } ∷ []
+    → certain (active code m) None (registers_of m) (below code m) (state_of taken m) (print_text line (Some bytes) (state_of taken m)) ≡ On (config_of code taken (record m { pieces = pieces; top = record m.top { place = m.top.place + 1 } }))
+prints_on code taken m pieces line bytes all is e =
+    ap (certain (active code m) None (registers_of m) (below code m) (state_of taken m)) (printed_is line bytes all (state_of taken m) is)
+    ∙ ap (λ ps. On (record { top = behind (active code m) (registers_of m); below = below code m; state = state_with m.left (m.given - m.left) ps }))
+    (append_assoc taken m.pieces.items (record { tick = m.given - m.left; bytes = all } ∷ []) ∙ ap (λ l. taken ++ l) (sym e))

@@ -24,7 +24,7 @@ use Rattle.vale_code.proofs.Ends.{run_ends_once, step_less}
 use Rattle.vale_code.proofs.RunLaws.{exec_later}
 use Rattle.vale_text.specs.Progress.{Begins, EndsRight}
 use Rattle.vale_registers.specs.Cells.{HoldsValue, HasRegister}
-use Rattle.vale_turn.specs.Served.{is_aside, register_of}
+use Rattle.vale_turn.specs.Served.{is_aside, is_call, register_of}
 use Rattle.vale_turn.specs.View.{config, EndsBy, IfStopped, IsRight, IsSafe, Leads, OnceBy, Scene}
 use Rattle.vale_turn.specs.declared.stop.Stop.{Stop}
 use Rattle.vale_turn.specs.declared.stop.Stop.TheVariants as stop
@@ -249,6 +249,13 @@ index_within (z ∷ zs) (suc n) x e = let h = index_within zs n x e in omega (ar
 
 pub same_aside : (o : Option Instr) (x y : Instr) → o ≡ Some x → o ≡ Some y → is_aside x ≡ true → is_aside y ≡ true
 same_aside o x y e h a = let same : x ≡ y = (let z : Some x ≡ Some y = sym e ∙ h in cc) in subst (λ z. is_aside z ≡ true) same a
+
+pub same_call : (o : Option Instr) (x y : Instr) → o ≡ Some x → o ≡ Some y → is_call x ≡ true → is_call y ≡ true
+same_call o x y e h a = let same : x ≡ y = (let z : Some x ≡ Some y = sym e ∙ h in cc) in subst (λ z. is_call z ≡ true) same a
+
+pub not_call : (x : Instr) → is_call x ≡ true → ((to func : ℕ) (args : List ℕ) (at : Spot) → x ≡ i.Call to func args at → ⊥) → ⊥
+not_call (i.Call to func args at) e n = n to func args at refl
+not_call _ e n = let x : ⊥ = cc in x
 
 pub laid_going : (code : Parts) (t : Step) (old new : Machine) → KeepsFrames t old new → IsLaid code old → IfGoing t (IsLaid code new)
 laid_going code told.Going old new k laid = laid_by code old new k.top (ap (λ v. v.items) k.below) k.end k.cells laid

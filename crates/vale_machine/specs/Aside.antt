@@ -29,9 +29,9 @@ abbrev pub text_cell : Cell
 text_cell = record { shape = shape.Text; truth = false; number = pos 0 }
 
 -- the innermost function goes on at its next instruction with these registers
-pub record Gets (registers : Registers) (old new : Machine) : Type 0 where
+pub record Gets (wanted : Registers) (old new : Machine) : Type 0 where
   pub top : new.top ≡ record old.top { place = old.top.place + 1 }
-  pub registers : registers_of new ≡ registers
+  pub registers : registers_of new ≡ wanted
   pub below : (code : Parts) → below code new ≡ below code old
   pub frames : new.below ≡ old.below
   pub end : new.end ≡ old.end

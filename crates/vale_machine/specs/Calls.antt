@@ -15,7 +15,7 @@ use Rattle.vale_registers.specs.Texts.{IsWritten, text_at}
 use Rattle.vale_registers.specs.declared.cell.Cell.{Cell}
 use Rattle.vale_registers.specs.declared.cell.Shape.{Shape}
 use Rattle.vale_registers.specs.declared.cell.Shape.TheVariants as shape
-use Rattle.vale_machine.specs.View.{active, below, from_base, state_of}
+use Rattle.vale_machine.specs.View.{active, below, state_of}
 use Rattle.vale_machine.specs.declared.machine.Frame.{Frame}
 use Rattle.vale_machine.specs.declared.machine.Machine.{Machine}
 

@@ -153,7 +153,7 @@ impl Machine {
                 self.land_text(*to, *at, outcome)
             }
             Instr::TextLen { to, from } => {
-                let count = self.text(*from).len() as i64;
+                let count = self.text(*from).as_slice().len() as i64;
                 self.get_int(*to, count);
                 Step::Going
             }

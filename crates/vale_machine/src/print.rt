@@ -97,12 +97,11 @@ impl Machine {
             bytes: Text::from_vec(bytes),
         };
         match self.pieces.push(piece) {
-            Ok(()) => {
-                self.top.place += 1;
-                Step::Going
-            }
-            Err(_) => Step::Memory,
+            Ok(()) => {}
+            Err(_) => return Step::Memory,
         }
+        self.top.place += 1;
+        Step::Going
     }
 
     // What a register holds is printed, with a line feed where the choice is 1.

@@ -11,7 +11,7 @@ ghost use Rattle.vale_text.specs.Gives.{Gives};
 ghost use Rattle.vale_text.specs.Steps.{gives_int, gives_text};
 ghost use Rattle.vale_machine.specs.Aside.{Gets, KeepsFrames, Receives, text_cell};
 ghost use Rattle.vale_machine.specs.declared.machine.Step.{Step};
-ghost use Rattle.vale_machine.specs.View.{Stepped, active, below, own_cells, registers_of, state_of};
+ghost use Rattle.vale_machine.specs.View.{HasMemory, Stepped, active, below, own_cells, registers_of, state_of};
 
 use crate::machine::{Machine, Step};
 use vale_base::{Fail, Memory, Spot, Text, TrapKind};
@@ -179,6 +179,7 @@ impl Machine {
         requires place { self.old.top.place + 1 < 2 ^ 64 }
         ensures step { (code : Parts) (taken : List Piece) → Stepped code taken result
             (answered (active code self.old) (Some to) (registers_of self.old) at (below code self.old) (state_of taken self.old) (gives_int (state_of taken self.old) outcome)) self.new }
+        ensures memory { HasMemory result }
         ensures keeps { KeepsFrames result self.old self.new }
     {
         match outcome {

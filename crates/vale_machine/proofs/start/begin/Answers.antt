@@ -18,10 +18,10 @@ returns-clause-begins c =
     let at_main : Frame = record { function = code.main; at = first_spot; dest = None; place = 0; base = 0 } in
     let top : Frame = record { function = c.code.inside.main; at = first_spot; dest = None; place = 0; base = 0 } in
     let same : top ≡ at_main = ap (λ n. record at_main { function = n }) main in
-    let m : Machine = record { alloc = c.args.alloc; cells = c.fill.new.cells; end = c.function_of-main.result.now.registers; texts = c.new-2.result; top = top; below = c.new-3.result; left = c.args.ticks - 1; given = c.args.ticks; pieces = c.new-4.result } in
+    let m : Machine = record { alloc = c.args.alloc; cells = c.fill.new.cells; end = c.function_of-main.result.now.registers; texts = c.new.result; top = top; below = c.new-2.result; left = c.args.ticks - 1; given = c.args.ticks; pieces = c.new-3.result } in
     let cells = filled_new c.new-cells.result.items c.fill.new.cells.items st.func.registers c.new-cells.ensures.items
     (c.in_ok-fill.ensures ∙ ap (λ (f : Func). c.new-cells.result.items ++ replicate (f.registers - length c.new-cells.result.items) empty) (sym func)) in
-    begun code st.func st.found st.plain st.params c.args.ticks m c.requires.some refl refl c.new-4.ensures.items c.new-3.ensures.items cells (sym (ap (λ (f : Func). f.registers) func)) same
+    begun code st.func st.found st.plain st.params c.args.ticks m c.requires.some refl refl c.new-3.ensures.items c.new-2.ensures.items cells (sym (ap (λ (f : Func). f.registers) func)) same
 
 pub returns-clause-laid : goal.returns-clause-laid
 returns-clause-laid c =
@@ -31,8 +31,8 @@ returns-clause-laid c =
     let at_main : Frame = record { function = code.main; at = first_spot; dest = None; place = 0; base = 0 } in
     let top : Frame = record { function = c.code.inside.main; at = first_spot; dest = None; place = 0; base = 0 } in
     let same : top ≡ at_main = ap (λ n. record at_main { function = n }) main in
-    let m : Machine = record { alloc = c.args.alloc; cells = c.fill.new.cells; end = c.function_of-main.result.now.registers; texts = c.new-2.result; top = top; below = c.new-3.result; left = c.args.ticks - 1; given = c.args.ticks; pieces = c.new-4.result } in
+    let m : Machine = record { alloc = c.args.alloc; cells = c.fill.new.cells; end = c.function_of-main.result.now.registers; texts = c.new.result; top = top; below = c.new-2.result; left = c.args.ticks - 1; given = c.args.ticks; pieces = c.new-3.result } in
     let cells = filled_new c.new-cells.result.items c.fill.new.cells.items st.func.registers c.new-cells.ensures.items
     (c.in_ok-fill.ensures ∙ ap (λ (f : Func). c.new-cells.result.items ++ replicate (f.registers - length c.new-cells.result.items) empty) (sym func)) in
-    begun_laid code st.func st.found st.plain st.params c.args.ticks m c.new-3.ensures.items cells (sym (ap (λ (f : Func). f.registers) func)) same
+    begun_laid code st.func st.found st.plain st.params c.args.ticks m c.new-2.ensures.items cells (sym (ap (λ (f : Func). f.registers) func)) same
 

@@ -62,3 +62,6 @@ returns-in-Some-clause-kept c = sure_keeps c.ret.result c.args.self.now c.ret.ne
 
 pub returns-in-None-clause-kept : goal.returns-in-None-clause-kept
 returns-in-None-clause-kept c = sure_keeps c.ret_void.result c.args.self.now c.ret_void.new.self c.ret_void.ensures.memory
+
+pub unreachable-requires : goal.unreachable-requires
+unreachable-requires c = subst (λ (t : Stop). EndsSo c.args.code.now t c.args.self.now) c.in-Going.is c.requires.ends []

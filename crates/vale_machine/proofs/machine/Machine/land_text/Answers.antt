@@ -1,4 +1,4 @@
-use Rattle.std.proofs.Common.{Some, sym, ap, ◌∙◌, subst}
+use Rattle.std.proofs.Common.{Some, Err, sym, ap, ◌∙◌, subst}
 use Rattle.vale_code.specs.Instructions.{answered}
 use Rattle.vale_text.specs.Gives.{Gives}
 use Rattle.vale_text.specs.Steps.{gives_text}
@@ -15,7 +15,7 @@ returns-in-Ok-clause-step c = λ code taken meaning h.
 pub returns-in-Err-Is-clause-step : goal.returns-in-Err-Is-clause-step
 returns-in-Err-Is-clause-step c = λ code taken meaning h.
     let m = c.args.self.now in
-    let e = subst (λ o. Gives o meaning) c.in-Err-Is.is h in
+    let e = subst (λ o. Gives (Err o) meaning) c.in-Err-Is.field-0-is (subst (λ o. Gives o meaning) c.in-Err-Is.is h) in
     ap (λ r. answered (active code m) (Some c.args.to) (registers_of m) c.args.at (below code m) (state_of taken m) (gives_text (state_of taken m) r)) e ∙ trap_told code taken m c.in-Err-Is.kind c.args.at
 
 pub returns-in-Err-Is-clause-keeps : goal.returns-in-Err-Is-clause-keeps

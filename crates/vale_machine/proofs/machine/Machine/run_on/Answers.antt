@@ -1,4 +1,4 @@
-use Rattle.std.proofs.Common.{◌≡◌, ◌++◌, length, take, drop, sym, ap, ◌∙◌, subst, arith}
+use Rattle.std.proofs.Common.{◌≡◌, ◌-◌, ◌++◌, length, reverse, take, drop, sym, ap, ◌∙◌, subst, arith}
 use Rattle.vale_registers.proofs.Bases.{lent_back}
 use Rattle.vale_turn.specs.Served.{AreFit}
 use Rattle.vale_turn.specs.View.{IsSafe, Leads, config}
