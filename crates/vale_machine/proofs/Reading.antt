@@ -1,5 +1,5 @@
 -- What a step that has a rule tells of the registers that an instruction aside reads.
-use Rattle.std.proofs.Common.{◌≡◌, ℕ, suc, ◌+◌, ◌-◌, ◌<◌, ℤ, pos, List, [], ◌∷◌, ◌++◌, length, Option, Some, None, Bool, true, false, if◌then◌else◌, Vec, Global, append_assoc, refl, sym, ap, ◌∙◌, subst, arith}
+use Rattle.std.proofs.Common.{◌≡◌, ℕ, zero, suc, ◌+◌, ◌-◌, ◌<◌, ℤ, pos, List, [], ◌∷◌, ◌++◌, length, Option, Some, None, Bool, true, false, if◌then◌else◌, Vec, Global, append_assoc, refl, sym, ap, ◌∙◌, subst, arith}
 use Rattle.std.specs.Prelude.{slice_get}
 use Rattle.vale_base.specs.declared.piece.Piece.{Piece}
 use Rattle.vale_base.specs.declared.spot.Spot.{Spot}
@@ -153,7 +153,7 @@ module _ (code : Parts) (m : Machine) (instr : Instr) (h : HasRuleIn code m inst
     where
       at : (texts : List (List ℕ)) (n : ℕ) → IsRight (with_choice (slice_get texts n) s go) → n < length texts
       at [] n r = absurd r
-      at (t ∷ ts) 0 r = omega arith
+      at (t ∷ ts) zero r = omega arith
       at (t ∷ ts) (suc n) r = let q = at ts n r in omega (arith, q)
 
   pub quoted : (to n : ℕ) → instr ≡ i.Text to n → n < length code.texts
@@ -173,8 +173,8 @@ module _ (code : Parts) (m : Machine) (instr : Instr) (h : HasRuleIn code m inst
       some None q = absurd (subst (λ x. IsRight (certain (active code m) None regs (below code m) s (print_text line x s))) q r)
       some (Some x) q = (x, q)
 
-  pub printed : (a choice : ℕ) → instr ≡ i.Print a choice → IsShown m a × ((b : Bool) × (truth_of choice ≡ Some b))
-  printed a choice e =
+  pub shows : (a choice : ℕ) → instr ≡ i.Print a choice → IsShown m a × ((b : Bool) × (truth_of choice ≡ Some b))
+  shows a choice e =
       let k = subst (λ x. HasRuleIn code m x) e h in
       let r = prints (truth_of choice) (read regs a) (state_of k.taken m) k.right in
       ((own_texts m, r.1.0, r.1.1), r.0)

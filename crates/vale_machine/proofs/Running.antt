@@ -100,8 +100,8 @@ module _ (code : Parts) (input : Given) (ticks : ℕ) where
   pub follows_on : (c d : Config) → step code c ≡ On d → Follows c → Follows d
   follows_on c d e l = record { ends = λ n x h. l.ends (suc n) x (ap (λ y. then_go y (exec code n)) e ∙ h) }
 
-  over : (c : Config) (end : End) (v : Option Value) (s : State) → step code c ≡ Over end v s → Follows c → run_code code input ticks ≡ outcome end s
-  over c end v s e l = ap outcome_of (run_ends_once code input ticks (record { end = end; value = v; state = s }) (l.ends 1 _ (ap (λ y. then_go y (exec code 0)) e)))
+  ended : (c : Config) (end : End) (v : Option Value) (s : State) → step code c ≡ Over end v s → Follows c → run_code code input ticks ≡ outcome end s
+  ended c end v s e l = ap outcome_of (run_ends_once code input ticks (record { end = end; value = v; state = s }) (l.ends 1 _ (ap (λ y. then_go y (exec code 0)) e)))
 
   -- what was printed after a step is the first of all that is printed
   first_of_run : (c : Config) (x : Next) → step code c ≡ x → Follows c → Begins (state_in x).pieces (run_code code input ticks).pieces
@@ -110,7 +110,7 @@ module _ (code : Parts) (input : Given) (ticks : ℕ) where
       let is = run_ends_once code input ticks run.0 ((follows_on c d e l).ends (suc (fuel code d)) run.0 run.1) in
       let goes = (exec_later code (suc (fuel code d)) d run.0 run.1).later in
       subst (λ (g : Ending). Begins d.state.pieces g.state.pieces) (sym is) (goes.printed, goes.pieces)
-  first_of_run c (Over end v s) e l = subst (λ (o : Outcome). Begins s.pieces o.pieces) (sym (over c end v s e l)) ([], sym (append-nil s.pieces))
+  first_of_run c (Over end v s) e l = subst (λ (o : Outcome). Begins s.pieces o.pieces) (sym (ended c end v s e l)) ([], sym (append-nil s.pieces))
 
   -- a run that is cut has no tick left
   none_left : (c : Config) (v : Option Value) (s : State) → step code c ≡ Over Cut v s → s.left ≡ 0
@@ -119,12 +119,12 @@ module _ (code : Parts) (input : Given) (ticks : ℕ) where
   pub finishes : (c : Config) (m : Machine) (e : Ended) (pieces : List Piece) → Ends e (step code c) (state_of [] m) → Follows c → pieces ≡ m.pieces.items → m.given ≡ ticks
       → FinishesSo e pieces ticks (run_code code input ticks)
   finishes c m (end.Done spent) pieces h l p t =
-      over c Done h.1 (state_of [] m) h.2 l ∙ ap (λ ps. record { pieces = ps; end = Done; ticks = m.given - m.left }) (sym p) ∙ ap (λ n. record { pieces = pieces; end = Done; ticks = n }) (sym h.0)
+      ended c Done h.1 (state_of [] m) h.2 l ∙ ap (λ ps. record { pieces = ps; end = Done; ticks = m.given - m.left }) (sym p) ∙ ap (λ n. record { pieces = pieces; end = Done; ticks = n }) (sym h.0)
   finishes c m (end.Trap spent info) pieces h l p t =
-      over c (Trap info) _ (state_of [] m) h.1 l ∙ ap (λ ps. record { pieces = ps; end = Trap info; ticks = m.given - m.left }) (sym p) ∙ ap (λ n. record { pieces = pieces; end = Trap info; ticks = n }) (sym h.0)
+      ended c (Trap info) _ (state_of [] m) h.1 l ∙ ap (λ ps. record { pieces = ps; end = Trap info; ticks = m.given - m.left }) (sym p) ∙ ap (λ n. record { pieces = pieces; end = Trap info; ticks = n }) (sym h.0)
   finishes c m end.Cut pieces h l p t =
       let z : m.left ≡ 0 = none_left c _ (state_of [] m) h in let spent : m.given - m.left ≡ ticks = omega (arith, z, t) in
-      over c Cut _ (state_of [] m) h l ∙ ap (λ ps. record { pieces = ps; end = Cut; ticks = m.given - m.left }) (sym p) ∙ ap (λ n. record { pieces = pieces; end = Cut; ticks = n }) spent
+      ended c Cut _ (state_of [] m) h l ∙ ap (λ ps. record { pieces = ps; end = Cut; ticks = m.given - m.left }) (sym p) ∙ ap (λ n. record { pieces = pieces; end = Cut; ticks = n }) spent
   finishes c m end.Memory pieces h l p t =
       let rest = first_of_run c (step code c) refl l in
       subst (λ ps. Begins ps (run_code code input ticks).pieces) (sym p) (begins_on m.pieces.items (state_in (step code c)).pieces (run_code code input ticks).pieces h rest)

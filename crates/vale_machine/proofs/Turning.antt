@@ -56,11 +56,11 @@ turned_on code taken old new e laid ticks u = record {
 
 -- ---- where the machine stands
 
-place_of : Frames.Frame → ℕ
+abbrev place_of : Frames.Frame → ℕ
 place_of (Frames.Running f) = f.place
 place_of _ = 0
 
-function_of : Frames.Frame → ℕ
+abbrev function_of : Frames.Frame → ℕ
 function_of (Frames.Running f) = f.function
 function_of _ = 0
 

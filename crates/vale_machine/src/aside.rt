@@ -1,5 +1,5 @@
 // Instructions on texts, and those that may be: they read texts where they lie, and make or share others.
-ghost use Rattle.std.specs.Prelude.{◌≡◌, ◌+◌, ◌-◌, ◌<◌, ◌≤◌, ◌^◌, Bool, List, Some, false, length, slice_get, true};
+ghost use Rattle.std.specs.Prelude.{◌≡◌, ◌+◌, ◌-◌, ◌<◌, ◌≤◌, ◌^◌, Bool, List, Some, false, length, pos, slice_get, true};
 ghost use Rattle.vale_base.specs.declared.piece.Piece.{Piece};
 ghost use Rattle.vale_state_spec.specs.World.{Text as a_text};
 ghost use Rattle.vale_code.specs.Instructions.{comparison_of};
@@ -33,6 +33,13 @@ fn collated(choice: u8, left: &Text, right: &Text) -> bool
         5 => order.is_ge(),
         _ => unreachable!(),
     }
+}
+
+// The length of a text.
+fn count_of(text: &Text) -> i64
+    ensures { result ≡ pos (length text.now) }
+{
+    text.as_slice().len() as i64
 }
 
 // A text of a code.
@@ -153,7 +160,7 @@ impl Machine {
                 self.land_text(*to, *at, outcome)
             }
             Instr::TextLen { to, from } => {
-                let count = self.text(*from).as_slice().len() as i64;
+                let count = count_of(self.text(*from));
                 self.get_int(*to, count);
                 Step::Going
             }

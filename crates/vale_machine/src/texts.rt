@@ -203,8 +203,10 @@ impl Machine {
     {
         match outcome {
             Ok(text) => self.take_text(to, text),
-            Err(Fail::Memory) => Step::Memory,
-            Err(Fail::Is(kind)) => Step::Trap(kind, at),
+            Err(fault) => match fault {
+                Fail::Memory => Step::Memory,
+                Fail::Is(kind) => Step::Trap(kind, at),
+            },
         }
     }
 }

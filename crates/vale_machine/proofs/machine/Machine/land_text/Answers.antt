@@ -12,14 +12,14 @@ returns-in-Ok-clause-step c = λ code taken meaning h.
     let e = subst (λ o. Gives o meaning) c.in-Ok.is h in
     subst (λ r. Stepped code taken c.take_text.result (answered (active code m) (Some c.args.to) (registers_of m) c.args.at (below code m) (state_of taken m) (gives_text (state_of taken m) r)) c.take_text.new.self) (sym e) (c.take_text.ensures.step code taken)
 
-pub returns-in-Err-Is-clause-step : goal.returns-in-Err-Is-clause-step
-returns-in-Err-Is-clause-step c = λ code taken meaning h.
+pub returns-in-Is-clause-step : goal.returns-in-Is-clause-step
+returns-in-Is-clause-step c = λ code taken meaning h.
     let m = c.args.self.now in
-    let e = subst (λ o. Gives (Err o) meaning) c.in-Err-Is.field-0-is (subst (λ o. Gives o meaning) c.in-Err-Is.is h) in
-    ap (λ r. answered (active code m) (Some c.args.to) (registers_of m) c.args.at (below code m) (state_of taken m) (gives_text (state_of taken m) r)) e ∙ trap_told code taken m c.in-Err-Is.kind c.args.at
+    let e = subst (λ o. Gives (Err o) meaning) c.in-Is.is (subst (λ o. Gives o meaning) c.in-Err.is h) in
+    ap (λ r. answered (active code m) (Some c.args.to) (registers_of m) c.args.at (below code m) (state_of taken m) (gives_text (state_of taken m) r)) e ∙ trap_told code taken m c.in-Is.kind c.args.at
 
-pub returns-in-Err-Is-clause-keeps : goal.returns-in-Err-Is-clause-keeps
-returns-in-Err-Is-clause-keeps c = frames_same _ c.args.self.now
+pub returns-in-Is-clause-keeps : goal.returns-in-Is-clause-keeps
+returns-in-Is-clause-keeps c = frames_same _ c.args.self.now
 
-pub returns-in-Err-Memory-clause-keeps : goal.returns-in-Err-Memory-clause-keeps
-returns-in-Err-Memory-clause-keeps c = frames_same _ c.args.self.now
+pub returns-in-Memory-clause-keeps : goal.returns-in-Memory-clause-keeps
+returns-in-Memory-clause-keeps c = frames_same _ c.args.self.now

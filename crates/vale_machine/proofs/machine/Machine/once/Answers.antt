@@ -1,6 +1,7 @@
 use Rattle.std.proofs.Common.{◌≡◌, ◌-◌, ◌++◌, List, length, reverse, take, drop, refl, sym, ap, ◌∙◌, subst, arith}
 use Rattle.vale_registers.proofs.Bases.{lent_back}
 use Rattle.vale_turn.specs.Served.{AreFit}
+use Rattle.std.specs.Vec.{with_items}
 use Rattle.vale_turn.specs.View.{config, IfStopped, IsSafe, OnceBy}
 use Rattle.vale_machine.specs.View.{all_texts, config_of, frames_in, scene_of}
 use Rattle.vale_machine.specs.declared.machine.Machine.{Machine}
@@ -35,7 +36,7 @@ returns-clause-step c = λ taken.
     let back : w ≡ take m.cells.len (w ++ drop (length w) v) = sym (lent_back v w m.cells.len size) in
     let s = scene_of code taken m in
     let es = ap (λ b. record s { below = frames_in code (reverse m.below.items) (all_texts m) b }) (below ∙ ap (λ l. take base (take m.end l)) back) in
-    let new : Machine = record m { cells = record m.cells { items = take m.cells.len (w ++ drop (length w) v); ok = (size ∙ ap length back, m.cells.ok.1) }; top = record m.top { place = c.once_within-stop.new.place }; left = c.once_within-stop.new.left } in
+    let new : Machine = record m { cells = with_items m.cells w; top = record m.top { place = c.once_within-stop.new.place }; left = c.once_within-stop.new.left } in
     let step = subst (λ cs. OnceBy code m.top.function s c.once_within-stop.result (config m.top.function s m.top.place (drop base (take m.end cs)) m.left) c.once_within-stop.new.place (drop base (take m.end w)) c.once_within-stop.new.left) d (c.once_within-stop.ensures.step s c.requires.ticks) in
     let same = subst (λ cs. IfStopped c.once_within-stop.result ((c.once_within-stop.new.place ≡ m.top.place) × (drop base (take m.end w) ≡ drop base (take m.end cs)) × (c.once_within-stop.new.left ≡ m.left))) d c.once_within-stop.ensures.same in
     took_one code taken c.once_within-stop.result m new es refl
