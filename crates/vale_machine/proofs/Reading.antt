@@ -12,7 +12,7 @@ use Rattle.vale_code.specs.Registers.{Registers, put, read}
 use Rattle.vale_code.specs.declared.instr.Instr.{Instr}
 use Rattle.vale_code.specs.declared.instr.Instr.TheVariants as i
 use Rattle.vale_text.specs.Operations as o
-use Rattle.vale_text.specs.Steps.{byte, gives_int, gives_text, gives_truth, is_number, join, number, on_int, on_ints, on_text, slice, text_of}
+use Rattle.vale_text.specs.Steps.{gives_int, gives_text, on_int, on_ints, on_text}
 use Rattle.vale_turn.specs.Comparing.{compared}
 use Rattle.vale_turn.specs.View.{IsRight}
 use Rattle.vale_turn.proofs.Rules.{both_right, compared_is, read_cell, value_right}

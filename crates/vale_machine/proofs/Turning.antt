@@ -1,20 +1,17 @@
 -- One instruction as a turn.
-use Rattle.std.proofs.Common.{◌≡◌, ◌≤◌, ℕ, List, Option, None, true, false, refl, sym, ap, ◌∙◌, subst, arith}
+use Rattle.std.proofs.Common.{◌≡◌, ℕ, List, true, false, sym, ap, ◌∙◌, subst, arith}
 use Rattle.vale_base.specs.declared.piece.Piece.{Piece}
 use Rattle.vale_code.specs.Frames.{Config, Next, On}
 use Rattle.vale_code.specs.Frames as Frames
 use Rattle.vale_code.specs.Instructions.{fetch}
 use Rattle.vale_code.specs.Parts.{Parts}
-use Rattle.vale_code.specs.Run.{state_in, step}
-use Rattle.vale_code.specs.declared.instr.Instr.{Instr}
-use Rattle.vale_text.specs.Progress.{Begins}
+use Rattle.vale_code.specs.Run.{step}
 use Rattle.vale_turn.specs.View.{EndsBy, IsSafe, is_going}
 use Rattle.vale_turn.specs.declared.stop.Stop.{Stop}
 use Rattle.vale_turn.specs.declared.stop.Stop.TheVariants as stop
 use Rattle.vale_turn.proofs.Stretching.{safe_on}
 use Rattle.vale_machine.specs.UnderWay.{IsUnderWay, TookOne}
 use Rattle.vale_machine.specs.View.{GoesOn, IsLaid, KeepsTicks, config_of, own_cells, scene_of}
-use Rattle.vale_machine.specs.declared.machine.Frame.{Frame}
 use Rattle.vale_machine.specs.declared.machine.Machine.{Machine}
 use Rattle.vale_machine.proofs.Running.{laid_by}
 

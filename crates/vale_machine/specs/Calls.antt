@@ -1,5 +1,5 @@
 -- How the machine enters and leaves functions.
-use Rattle.std.specs.Prelude.{◌≡◌, ◌≢◌, ℕ, ◌+◌, ◌<◌, ◌≤◌, List, [], ◌∷◌, ◌++◌, length, take, drop, map, Option, Some, None, slice_get, slice_index}
+use Rattle.std.specs.Prelude.{◌≡◌, ℕ, ◌<◌, ◌≤◌, List, length, Option, Some, slice_get}
 use Rattle.vale_base.specs.declared.piece.Piece.{Piece}
 use Rattle.vale_base.specs.declared.spot.Spot.{Spot}
 use Rattle.vale_state_spec.specs.World.{Value}
@@ -7,14 +7,11 @@ use Rattle.vale_code.specs.Act as a
 use Rattle.vale_code.specs.Frames.{Next, leave}
 use Rattle.vale_code.specs.Kinds.{result_to}
 use Rattle.vale_code.specs.Parts.{Parts}
-use Rattle.vale_code.specs.Registers.{Registers, Read, give_all, read, with_result}
+use Rattle.vale_code.specs.Registers.{Registers, Read, give_all}
 use Rattle.vale_code.specs.Run.{last_state}
 use Rattle.vale_code.specs.declared.func.Func.{Func}
-use Rattle.vale_registers.specs.Cells.{value_in, values_in, HasRegister}
-use Rattle.vale_registers.specs.Texts.{IsWritten, text_at}
-use Rattle.vale_registers.specs.declared.cell.Cell.{Cell}
-use Rattle.vale_registers.specs.declared.cell.Shape.{Shape}
-use Rattle.vale_registers.specs.declared.cell.Shape.TheVariants as shape
+use Rattle.vale_registers.specs.Cells.{HasRegister}
+use Rattle.vale_registers.specs.Texts.{text_at}
 use Rattle.vale_machine.specs.View.{active, below, state_of}
 use Rattle.vale_machine.specs.declared.machine.Frame.{Frame}
 use Rattle.vale_machine.specs.declared.machine.Machine.{Machine}

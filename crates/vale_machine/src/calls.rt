@@ -59,7 +59,14 @@ impl Machine {
             Ok(()) => {}
             Err(_) => return Step::Memory,
         }
-        match pass(&mut self.cells, &mut self.texts, self.top.base, base, end, args) {
+        match pass(
+            &mut self.cells,
+            &mut self.texts,
+            self.top.base,
+            base,
+            end,
+            args,
+        ) {
             Ok(()) => {}
             Err(_) => return Step::Memory,
         }

@@ -192,7 +192,12 @@ impl Machine {
     }
 
     // The same of one that makes a text.
-    pub(crate) fn land_text(&mut self, to: u32, at: Spot, outcome: Result<Text, Fail<TrapKind>>) -> Step
+    pub(crate) fn land_text(
+        &mut self,
+        to: u32,
+        at: Spot,
+        outcome: Result<Text, Fail<TrapKind>>,
+    ) -> Step
         requires base { self.old.top.base ≤ self.old.end }
         requires end { self.old.end ≤ length self.old.cells.items }
         requires room { to < self.old.end - self.old.top.base }

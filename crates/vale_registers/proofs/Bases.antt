@@ -1,9 +1,8 @@
 -- Registers from a base on, and parts of rows.
-use Rattle.std.proofs.Common.{◌≡◌, ◌≢◌, ℕ, zero, suc, ◌+◌, ◌-◌, ◌<◌, ◌≤◌, List, [], ◌∷◌, ◌++◌, length, take, drop, get_or, Some, refl, sym, ap, ◌∙◌, arith}
+use Rattle.std.proofs.Common.{◌≡◌, ◌≢◌, ℕ, zero, suc, ◌+◌, ◌<◌, List, [], ◌∷◌, ◌++◌, length, take, drop, Some, refl, sym, ap, ◌∙◌, arith}
 use Rattle.std.specs.Prelude.{slice_set}
 use Rattle.std.proofs.lemmas.List.{take-set-le, drop-set-add}
-use Rattle.vale_state_spec.specs.World.{Value}
-use Rattle.vale_code.specs.Registers.{Registers, put, read}
+use Rattle.vale_code.specs.Registers.{put, read}
 use Rattle.vale_registers.specs.Cells.{value_in, values_in, HoldsValue}
 use Rattle.vale_registers.specs.Passing.{from_base}
 use Rattle.vale_registers.specs.declared.cell.Cell.{Cell}

@@ -1,5 +1,5 @@
 -- What registers hold, as values, where each has this text.
-use Rattle.std.specs.Prelude.{◌≡◌, ◌<◌, ℕ, zero, suc, ℤ, List, [], ◌∷◌, Option, Some, None, Bool, true, false, pos}
+use Rattle.std.specs.Prelude.{◌≡◌, ◌<◌, ℕ, suc, ℤ, List, [], ◌∷◌, Option, Some, None, Bool, true, false, pos}
 use Rattle.vale_state_spec.specs.World.{Value, Int, Truth, Text}
 use Rattle.vale_code.specs.Registers.{Registers, read}
 use Rattle.vale_registers.specs.declared.cell.Cell.{Cell}

@@ -68,7 +68,13 @@ fn move_cell(from: &Cell, to: &mut Cell, texts: &mut Row, source: usize, target:
 
 // Registers behind a row get what these of it hold.
 #[inline(always)]
-fn give(row: &[Cell], to: &mut [Cell], texts: &mut Row, base: usize, args: &[u32]) -> Result<(), Memory>
+fn give(
+    row: &[Cell],
+    to: &mut [Cell],
+    texts: &mut Row,
+    base: usize,
+    args: &[u32],
+) -> Result<(), Memory>
     requires within { AreWithin args.now base (length row.now) }
     requires count { length to.old ≡ length args.now }
     requires few { length row.now + length to.old < 2 ^ 64 }
@@ -93,7 +99,13 @@ fn blank(cells: &mut [Cell])
 
 // The registers behind a row: the first get what these of the row hold, and the others nothing.
 #[inline(always)]
-fn lay(row: &[Cell], own: &mut [Cell], texts: &mut Row, base: usize, args: &[u32]) -> Result<(), Memory>
+fn lay(
+    row: &[Cell],
+    own: &mut [Cell],
+    texts: &mut Row,
+    base: usize,
+    args: &[u32],
+) -> Result<(), Memory>
     requires within { AreWithin args.now base (length row.now) }
     requires count { length args.now ≤ length own.old }
     requires few { length row.now + length own.old < 2 ^ 64 }

@@ -14,7 +14,7 @@ use Rattle.vale_code.specs.declared.instr.Instr.{Instr}
 use Rattle.vale_code.specs.declared.instr.Instr.TheVariants as i
 use Rattle.vale_text.specs.Operations as o
 use Rattle.vale_text.specs.Steps.{Comparison, equal, not_equal, less, less_equal, greater, greater_equal, compare, gives_int, holds, on_ints, same_truth}
-use Rattle.vale_registers.specs.Cells.{value_of, values_in, HoldsInt, HoldsValue, IsShaped}
+use Rattle.vale_registers.specs.Cells.{value_of, values_in, HoldsInt, HoldsValue}
 use Rattle.vale_turn.specs.Comparing.{compared}
 use Rattle.vale_turn.specs.Served.{is_aside}
 use Rattle.vale_turn.specs.View.{HasRule, IsAside, IsRight, Leaving, Scene, active, next_of, state_at}

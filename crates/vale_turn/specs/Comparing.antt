@@ -1,5 +1,5 @@
 -- What comparisons of registers come to.
-use Rattle.std.specs.Prelude.{ℕ, List, Option, Some, None, Bool, not}
+use Rattle.std.specs.Prelude.{Option, Some, None, Bool, not}
 use Rattle.std.specs.Cmp.Lexicographic.{slice_cmp}
 use Rattle.std.specs.Ordering.{int_cmp, nat_cmp}
 use Rattle.vale_state_spec.specs.World.{Value, Int, Truth, Text}

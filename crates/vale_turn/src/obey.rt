@@ -110,7 +110,14 @@ fn leap(body: &[Instr], place: &mut usize, left: &mut u64, target: u32) -> Stop
 
 // Whether a comparison holds of what two registers hold goes to a register; texts are compared aside.
 #[inline(always)]
-fn compare(cells: &mut [Cell], place: &mut usize, to: u32, choice: u8, left: u32, right: u32) -> Stop
+fn compare(
+    cells: &mut [Cell],
+    place: &mut usize,
+    to: u32,
+    choice: u8,
+    left: u32,
+    right: u32,
+) -> Stop
     requires room { to < length cells.old }
     requires place { place.old + 1 < 2 ^ 64 }
     requires right { (t : ℕ → List ℕ) × (b : Bool) × (compared (comparison_of choice) (read (values_in t cells.old) left) (read (values_in t cells.old) right) ≡ Some b) }

@@ -5,7 +5,7 @@ use Rattle.vale_turn.proofs.Stretching.{less_fuel}
 use Rattle.vale_machine.specs.Given.{given_of}
 use Rattle.vale_machine.specs.View.{config_of}
 use Rattle.vale_machine.proofs.Keeping.{has_first}
-use Rattle.vale_machine.proofs.Running.{finishes, follows_first, follows_later, follows_on, fuel_later, going, going_laid, goes_on, over, safe_later}
+use Rattle.vale_machine.proofs.Running.{finishes, follows_first, follows_later, follows_on, fuel_later, going, going_laid, goes_on, over}
 use Rattle.vale_machine.proofs.runs.run_certified.Goals as goal
 
 pub stretches-init : goal.stretches-init

@@ -35,4 +35,3 @@ returns-clause-laid c =
     let cells = filled_new c.new-cells.result.items c.fill.new.cells.items st.func.registers c.new-cells.ensures.items
     (c.in_ok-fill.ensures ∙ ap (λ (f : Func). c.new-cells.result.items ++ replicate (f.registers - length c.new-cells.result.items) empty) (sym func)) in
     begun_laid code st.func st.found st.plain st.params c.args.ticks m c.new-2.ensures.items cells (sym (ap (λ (f : Func). f.registers) func)) same
-

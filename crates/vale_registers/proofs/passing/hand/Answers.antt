@@ -1,4 +1,4 @@
-use Rattle.std.proofs.Common.{◌≡◌, ◌+◌, ◌-◌, ◌<◌, ◌++◌, Some, None, length, take, drop, sym, ap, ◌∙◌, subst, arith}
+use Rattle.std.proofs.Common.{◌≡◌, ◌-◌, ◌<◌, ◌++◌, Some, length, take, drop, sym, ap, ◌∙◌, subst, arith}
 use Rattle.vale_code.specs.Registers.{read}
 use Rattle.vale_registers.specs.Cells.{HasRegister, HoldsValue, values_in}
 use Rattle.vale_registers.specs.Passing.{IsHanded}

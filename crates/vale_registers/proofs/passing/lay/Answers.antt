@@ -1,4 +1,4 @@
-use Rattle.std.proofs.Common.{◌≡◌, ◌-◌, ◌++◌, length, ◌∙◌, arith, length-append}
+use Rattle.std.proofs.Common.{◌≡◌, ◌-◌, ◌++◌, length, arith, length-append}
 use Rattle.vale_registers.proofs.Passes.{laid}
 use Rattle.vale_registers.proofs.passing.lay.Goals as goal
 

@@ -1,11 +1,6 @@
-use Rattle.std.proofs.Common.{◌≡◌, ◌≢◌, ◌<◌, ◌≤◌, ◌+◌, [], length, get_or, sym, ap, ◌∙◌, arith}
-use Rattle.std.specs.Prelude.{slice_set}
-use Rattle.std.proofs.lemmas.List.{get_or_read, length-set}
-use Rattle.vale_registers.specs.Shares.{share_text, texts_in}
-use Rattle.vale_registers.specs.Texts.{text_at}
-use Rattle.vale_registers.specs.declared.row.Share.{Share}
-use Rattle.vale_registers.specs.declared.row.Share.TheVariants as share
-use Rattle.vale_registers.proofs.Rows.{found, past, written_else, written_here}
+use Rattle.std.proofs.Common.{sym, ap, ◌∙◌, arith}
+use Rattle.vale_registers.specs.Shares.{share_text}
+use Rattle.vale_registers.proofs.Rows.{found, past}
 use Rattle.vale_registers.proofs.row.held.Goals as goal
 
 pub returns-then-register-shares : goal.returns-then-register-shares

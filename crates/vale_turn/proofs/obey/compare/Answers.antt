@@ -52,9 +52,11 @@ ordered-truth-requires c =
     let h = c.requires.right in
     let k = comparison_of c.args.choice in
     let first = to_z-of_z w64 c.int_at-first.result (search rules) in
-    let second = to_z-of_z w64 c.int_at-second.result (search rules) in
-    (h.1, ap (λ z. compared k (Some (Int z)) (Some (Int (to_z w64 (of_z w64 c.int_at-second.result))))) first ∙ ap (λ z. compared k (Some (Int c.int_at-first.result)) (Some (Int z))) second
-        ∙ ap (λ u. compared k u (Some (Int c.int_at-second.result))) (sym (c.int_at-first.ensures h.0)) ∙ ap (λ u. compared k (read (values_in h.0 c.args.cells.now) c.args.left) u) (sym (c.int_at-second.ensures h.0)) ∙ h.2)
+    let second = to_z-of_z w64 c.int_at-second.result (search rules) in (
+      h.1,
+      ap (λ z. compared k (Some (Int z)) (Some (Int (to_z w64 (of_z w64 c.int_at-second.result))))) first ∙ ap (λ z. compared k (Some (Int c.int_at-first.result)) (Some (Int z))) second
+          ∙ ap (λ u. compared k u (Some (Int c.int_at-second.result))) (sym (c.int_at-first.ensures h.0)) ∙ ap (λ u. compared k (read (values_in h.0 c.args.cells.now) c.args.left) u) (sym (c.int_at-second.ensures h.0)) ∙ h.2,
+    )
 
 pub matched-truth-requires : goal.matched-truth-requires
 matched-truth-requires c =
@@ -68,7 +70,7 @@ returns-in-Int-clause-step c = λ code function ticks s.
     let first = to_z-of_z w64 c.int_at-first.result (search rules) in
     let second = to_z-of_z w64 c.int_at-second.result (search rules) in
     let e = ap (λ u. compared k u (read (values_in s.text c.args.cells.now) c.args.right)) (c.int_at-first.ensures s.text) ∙ ap (λ u. compared k (Some (Int c.int_at-first.result)) u) (c.int_at-second.ensures s.text)
-        ∙ ap (λ z. compared k (Some (Int z)) (Some (Int c.int_at-second.result))) (sym first) ∙ ap (λ z. compared k (Some (Int (to_z w64 (of_z w64 c.int_at-first.result)))) (Some (Int z))) (sym second) ∙ c.ordered-truth.ensures in
+    ∙ ap (λ z. compared k (Some (Int z)) (Some (Int c.int_at-second.result))) (sym first) ∙ ap (λ z. compared k (Some (Int (to_z w64 (of_z w64 c.int_at-first.result)))) (Some (Int z))) (sym second) ∙ c.ordered-truth.ensures in
     compared_is code function s c.args.place.now c.args.cells.now ticks c.args.to c.args.choice c.args.left c.args.right c.ordered-truth.result e
     ∙ ap (λ regs. onward (active function s c.args.place.now c.args.cells.now) regs s.below (state_at s ticks)) (sym (c.set_truth.ensures s.text))
 

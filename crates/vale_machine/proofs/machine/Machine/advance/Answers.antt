@@ -1,5 +1,3 @@
-use Rattle.std.proofs.Common.{arith}
-use Rattle.vale_machine.specs.View.{config_of}
 use Rattle.vale_machine.proofs.Running.{later_under_way}
 use Rattle.vale_machine.proofs.machine.Machine.advance.Goals as goal
 

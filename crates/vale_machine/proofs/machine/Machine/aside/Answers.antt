@@ -1,4 +1,4 @@
-use Rattle.std.proofs.Common.{Some, ap, sym, ◌∙◌, subst, rules}
+use Rattle.std.proofs.Common.{Some, ap, sym, ◌∙◌, rules}
 use Rattle.std.proofs.lemmas.Int.{to_z-of_z}
 use mir.Syntax.{w64}
 use Rattle.vale_state_spec.specs.World.{Int}
@@ -6,7 +6,7 @@ use Rattle.vale_code.specs.Instructions.{onward}
 use Rattle.vale_code.specs.Registers.{put}
 use Rattle.vale_machine.specs.View.{active, below, registers_of, state_of}
 use Rattle.vale_machine.specs.Aside.{next_in}
-use Rattle.vale_machine.proofs.Getting.{frames_kept, goes_on}
+use Rattle.vale_machine.proofs.Getting.{goes_on}
 use Rattle.vale_machine.proofs.Reading.{compared_here, comparing, held, joined, measured, measured_here, numbered, picked, shows, quoted, sliced, spelled, tested}
 use Rattle.vale_machine.proofs.machine.Machine.aside.Goals as goal
 

@@ -42,9 +42,11 @@ ordered-requires c =
     let h = c.requires.right in
     let k = comparison_of c.args.choice in
     let first = to_z-of_z w64 c.int-first.result (search rules) in
-    let second = to_z-of_z w64 c.int-second.result (search rules) in
-    (h.0, ap (λ z. compared k (Some (Int z)) (Some (Int (to_z w64 (of_z w64 c.int-second.result))))) first ∙ ap (λ z. compared k (Some (Int c.int-first.result)) (Some (Int z))) second
-        ∙ ap (λ u. compared k u (Some (Int c.int-second.result))) (sym c.int-first.ensures) ∙ ap (λ u. compared k (read (registers_of m) c.args.left) u) (sym c.int-second.ensures) ∙ h.1)
+    let second = to_z-of_z w64 c.int-second.result (search rules) in (
+      h.0,
+      ap (λ z. compared k (Some (Int z)) (Some (Int (to_z w64 (of_z w64 c.int-second.result))))) first ∙ ap (λ z. compared k (Some (Int c.int-first.result)) (Some (Int z))) second
+          ∙ ap (λ u. compared k u (Some (Int c.int-second.result))) (sym c.int-first.ensures) ∙ ap (λ u. compared k (read (registers_of m) c.args.left) u) (sym c.int-second.ensures) ∙ h.1,
+    )
 
 pub returns-in-Int : goal.returns-in-Int
 returns-in-Int c =

@@ -1,7 +1,7 @@
 use Rattle.std.proofs.lemmas.Int.{to_z-of_z}
 use mir.Syntax.{w64}
 use Rattle.std.proofs.Common.{◌<◌, length, rules, Some, sym, ap, ◌∙◌, subst}
-use Rattle.vale_state_spec.specs.World.{Int, Truth, Text}
+use Rattle.vale_state_spec.specs.World.{Int}
 use Rattle.vale_code.specs.Instructions.{onward}
 use Rattle.vale_code.specs.Registers.{put}
 use Rattle.vale_registers.specs.Cells.{IsShaped}

@@ -1,4 +1,4 @@
-use Rattle.std.proofs.Common.{[], Some, None, sym, ap, ◌∙◌, subst, arith}
+use Rattle.std.proofs.Common.{[], sym, subst, arith}
 use Rattle.vale_code.specs.Frames.{Next}
 use Rattle.vale_turn.specs.declared.stop.Stop.{Stop}
 use Rattle.vale_turn.specs.declared.stop.Stop.TheVariants as stop

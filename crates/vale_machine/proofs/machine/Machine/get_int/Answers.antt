@@ -1,4 +1,4 @@
-use Rattle.std.proofs.Common.{Some, refl, ap, rules}
+use Rattle.std.proofs.Common.{Some, ap, rules}
 use Rattle.std.proofs.lemmas.Int.{to_z-of_z}
 use mir.Syntax.{w64}
 use Rattle.vale_state_spec.specs.World.{Int}

@@ -1,4 +1,4 @@
-use Rattle.std.proofs.Common.{◌≡◌, ◌-◌, ◌++◌, List, length, reverse, take, drop, refl, sym, ap, ◌∙◌, subst, arith}
+use Rattle.std.proofs.Common.{◌≡◌, ◌-◌, ◌++◌, length, reverse, take, drop, refl, sym, ap, ◌∙◌, subst, arith}
 use Rattle.vale_registers.proofs.Bases.{lent_back}
 use Rattle.vale_turn.specs.Served.{AreFit}
 use Rattle.std.specs.Vec.{with_items}

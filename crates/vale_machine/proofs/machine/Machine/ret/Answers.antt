@@ -1,4 +1,4 @@
-use Rattle.std.proofs.Common.{◌≡◌, ◌≤◌, ◌<◌, ◌+◌, ◌∷◌, ◌++◌, [], None, length, drop, take, reverse, refl, sym, ap, ◌∙◌, subst, arith}
+use Rattle.std.proofs.Common.{◌≡◌, ◌<◌, ◌+◌, refl, sym, ◌∙◌, subst, arith}
 use Rattle.vale_code.specs.Registers.{read}
 use Rattle.vale_registers.specs.Cells.{values_in}
 use Rattle.vale_registers.specs.Passing.{IsHanded}

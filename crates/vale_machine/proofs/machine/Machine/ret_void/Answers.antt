@@ -1,4 +1,4 @@
-use Rattle.std.proofs.Common.{None, refl, arith}
+use Rattle.std.proofs.Common.{None, refl}
 use Rattle.vale_machine.specs.declared.machine.Machine.{Machine}
 use Rattle.vale_machine.proofs.Leaving.{base_back, goes_back, left_by, lies_back, none_left, nothing_below, nothing_handed}
 use Rattle.vale_machine.proofs.machine.Machine.ret_void.Goals as goal

@@ -1,4 +1,4 @@
-use Rattle.std.proofs.Common.{Some, refl, sym, ap, ◌∙◌, subst}
+use Rattle.std.proofs.Common.{Some, refl, sym, ap, subst}
 use Rattle.vale_state_spec.specs.World.{Text}
 use Rattle.vale_code.specs.Registers.{put}
 use Rattle.vale_registers.specs.Cells.{empty}

@@ -1,7 +1,6 @@
-use Rattle.std.proofs.Common.{◌<◌, length, Some, sym, ap, ◌∙◌, subst}
+use Rattle.std.proofs.Common.{◌<◌, length, sym, subst}
 use Rattle.vale_registers.specs.Cells.{IsShaped}
 use Rattle.vale_registers.proofs.Registers.{int_shaped, text_shaped, truth_shaped, within}
-use Rattle.vale_machine.specs.Printing.{shown_in}
 use Rattle.vale_machine.specs.View.{own_cells}
 use Rattle.vale_machine.proofs.Reading.{not_shown, shown_value}
 use Rattle.vale_machine.proofs.machine.Machine.shown.Goals as goal

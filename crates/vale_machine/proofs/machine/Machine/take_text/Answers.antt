@@ -1,4 +1,4 @@
-use Rattle.vale_machine.proofs.Getting.{frames_kept, goes_on, kept_as}
+use Rattle.vale_machine.proofs.Getting.{frames_kept, goes_on}
 use Rattle.vale_machine.proofs.machine.Machine.take_text.Goals as goal
 
 pub returns-in-Ok-clause-step : goal.returns-in-Ok-clause-step

@@ -1,4 +1,4 @@
-use Rattle.std.proofs.Common.{Some, sym, ap, ◌∙◌, subst}
+use Rattle.std.proofs.Common.{sym, ap, ◌∙◌, subst}
 use Rattle.vale_code.specs.Registers.{read}
 use Rattle.vale_registers.specs.Cells.{HoldsTruth, values_in}
 use Rattle.vale_machine.specs.View.{own_texts}

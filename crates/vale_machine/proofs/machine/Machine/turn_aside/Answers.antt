@@ -1,4 +1,4 @@
-use Rattle.std.proofs.Common.{[], sym, ap, ◌∙◌, subst, arith}
+use Rattle.std.proofs.Common.{[], sym, subst, arith}
 use Rattle.vale_machine.specs.View.{Stepped}
 use Rattle.vale_machine.proofs.Running.{laid_going, right_here, room_here, same_aside, step_here}
 use Rattle.vale_machine.proofs.machine.Machine.turn_aside.Goals as goal

@@ -1,5 +1,5 @@
-use Rattle.std.proofs.Common.{◌≡◌, List, [], append-nil, sym, ap, ◌∙◌, subst, arith}
-use Rattle.vale_code.specs.Frames.{Config, Next}
+use Rattle.std.proofs.Common.{List, [], append-nil, sym, ap, ◌∙◌, subst, arith}
+use Rattle.vale_code.specs.Frames.{Next}
 use Rattle.vale_code.specs.Run.{step}
 use Rattle.vale_base.specs.declared.piece.Piece.{Piece}
 use Rattle.vale_text.specs.Progress.{Begins}
