@@ -1,5 +1,6 @@
 -- Calls of functions, of built-in functions and of constructors.
-use Rattle.std.proofs.Common.{◌≡◌, ℕ, ◌+◌, ◌≤◌, List, [], ◌∷◌, length, Some, true, not, ◌&&◌, refl, sym, subst, arith}
+use Rattle.std.proofs.Common.{◌≡◌, ℕ, ◌+◌, ◌≤◌, List, [], ◌∷◌, length, Some, true, not, ◌&&◌, nat_le, refl, sym, subst, arith}
+use Rattle.vale_base.specs.Limits.{width_limit}
 use Rattle.vale_state_spec.specs.State.{State, make, len, push, pop}
 use Rattle.vale_state_spec.specs.World.{Value}
 use Rattle.vale_base.specs.declared.spot.Spot.{Spot}
@@ -22,18 +23,18 @@ use Rattle.vale_lowering.specs.Instructions.{only_if, unary_code, registers_from
 use Rattle.vale_lowering.proofs.Registers.{Base, with_at, with_all, with_all_below, one_above, Stand}
 use Rattle.vale_lowering.proofs.Reaches.{Where, conf, calls_in, Post}
 use Rattle.vale_lowering_objects.specs.Destruction.{SameKinds}
-use Rattle.vale_lowering_objects.specs.Scopes.{Gives, void, copy, owner, is_value, is_owner, Scope, Gone, comes, Around}
+use Rattle.vale_lowering_objects.specs.Scopes.{Gives, void, copy, owner, is_value, is_owner, agree, Scope, Gone, comes, Around}
 use Rattle.vale_lowering_objects.specs.Lowered.{len_code, built_in_code, make_code, copies_code, is_copied, are_copied, callee_code}
 use Rattle.vale_lowering_objects.proofs.Origins.{pops, pushes, lengths}
 use Rattle.vale_lowering_objects.proofs.Owes.{IsHere, Follows}
 use Rattle.vale_lowering_objects.proofs.BuiltIns.{built_ins as plain_built_ins}
 use Rattle.vale_lowering_objects.proofs.Calls.{call_runs}
 use Rattle.vale_lowering_objects.specs.Program.{IsCode}
-use Rattle.vale_lowering_objects.proofs.Registers.{Falls, Agrees, agrees_down, top_read, all_stand, and_second}
+use Rattle.vale_lowering_objects.proofs.Registers.{Falls, Agrees, agrees_down, top_read, all_stand, and_first, and_second}
 use Rattle.vale_lowering_objects.proofs.Reaches.{In, All, as_many, Runs, weaker, is_stuck, only_if_runs}
 use Rattle.vale_lowering_objects.proofs.Drops.{Without, destroys}
 use Rattle.vale_lowering_objects.proofs.Steps.{make_runs}
-use Rattle.vale_lowering_objects.proofs.Posts.{given_same, dropped, given}
+use Rattle.vale_lowering_objects.proofs.Posts.{agree_same, given_same, dropped, given}
 
 module _ (code : Code) (functions : List Function) (p0 : Parts) (is_code : IsCode code p0 functions) (k : Where) (out : Gives) (is : IsHere code k) (n : ℕ) (again : Again) (follows : Follows code functions p0 again n) where
   abbrev kinds : SameKinds code functions p0
@@ -143,10 +144,15 @@ module _ (code : Code) (functions : List Function) (p0 : Parts) (is_code : IsCod
   -- an object is made
   pub makes : (x : Ty) (at : Spot) (q : Gives) (vs : List Value) (qs : List Gives) (p h : ℕ) (s : Scope) (g : Gone) (base : Base) (l : Locals) (regs : Registers) (w : State) → Falls h s → All qs h s base g vs l regs → w.left ≤ n → Ran (make_code p0 q x qs h) (In q h s base g) p regs w (made again at x vs (calls_in k) l w)
   makes x at q vs qs p h s g base l regs w fa ag few has =
-      given code k out n q owner (comes g) (i.Make h (kind_of p0 x) (registers_from h (length qs)) ∷ []) p h s base regs w (made again at x vs (calls_in k) l w)
+      only_if_runs code k out n (agree q owner && nat_le (length qs) width_limit) h p (i.Make h (kind_of p0 x) (registers_from h (length qs)) ∷ []) (In q h s base g) regs w (made again at x vs (calls_in k) l w)
+      (λ both.
+      let many = as_many qs vs ag.0 in
+      let small = and_second (agree q owner) (nat_le (length qs) width_limit) both in
+      let few_values : length vs ≤ width_limit = grind (arith, small, many) in
+      subst (λ z. Ran (i.Make h (kind_of p0 x) (registers_from h (length qs)) ∷ []) (In z h s base g) p regs w (made again at x vs (calls_in k) l w)) (sym (agree_same q owner (and_first (agree q owner) (nat_le (length qs) width_limit) both)))
       (subst (λ z. Ran (i.Make h (kind_of p0 x) (registers_from h z) ∷ []) (In owner h s base g) p regs w (made again at x vs (calls_in k) l w)) (as_many qs vs ag.0)
       (subst (λ z. Ran (i.Make h (kind_of p0 x) (registers_from h (length vs)) ∷ []) (In owner h s base g) p regs w ((tick >>= (λ u. step at (make (kind_of z x) vs))) (calls_in k) l w)) (sym follows.same)
-      (make_runs code k out n (kind_of p0 x) at vs p h s g base l regs w fa (stand_here qs vs h s g base l regs fa ag) (below_all qs vs h s g base l regs fa ag) few))) has
+      (make_runs code k out n (kind_of p0 x) at vs few_values p h s g base l regs w fa (stand_here qs vs h s g base l regs fa ag) (below_all qs vs h s g base l regs fa ag) few)))) has
 
   pub callee_runs : (q : Gives) (m : NameAt) (f : Callee) (x : Ty) (vs : List Value) (qs : List Gives) (p h : ℕ) (s : Scope) (g : Gone) (base : Base) (l : Locals) (regs : Registers) (w : State) → Falls h s → All qs h s base g vs l regs → w.left ≤ n → Ran (callee_code a q m f x qs h) (In q h s base g) p regs w (callee_run again m f vs (calls_in k) l w)
   callee_runs q m (built_in f) x vs qs p h s g base l regs w fa ag few has = built_ins f x qs q vs p h s g base l regs w m.at fa ag few has

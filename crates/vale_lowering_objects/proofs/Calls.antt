@@ -33,14 +33,15 @@ use Rattle.vale_lowering.specs.Instructions.{registers_from, only_if}
 use Rattle.vale_lowering.specs.Scopes.{number_of_function, result_type}
 use Rattle.vale_lowering.proofs.Lookups.{found_function, passes}
 use Rattle.vale_lowering.proofs.Registers.{Base, with_at, with_all, with_all_below, Stand}
-use Rattle.vale_lowering.proofs.Reaches.{Where, active, conf, calls_in, Post, Comes, does}
+use Rattle.vale_lowering.proofs.Reaches.{Where, active, conf, calls_in, Post, does}
 use Rattle.vale_lowering_objects.specs.Program.{IsLowered, IsCode, code_type, form_number, given_all}
 use Rattle.vale_lowering_objects.specs.Scopes.{Gives, void, copy, owner, gives_of, agree, all_agree, Scope, Gone}
 use Rattle.vale_lowering_objects.specs.Lowered.{param_gives, param_gives_of, result_gives, may_be_called, is_destructor}
 use Rattle.vale_lowering_objects.proofs.Registers.{Fits, Falls, Agrees, agrees_put, agrees_down, all_stand, and_first, and_second}
 use Rattle.vale_lowering_objects.proofs.Reaches.{In, FitAll, as_many, All, Reaches, NextReaches, Runs, by_next, is_stuck, only_if_runs}
-use Rattle.vale_lowering_objects.proofs.Owes.{ComesBack, begins, Follows}
+use Rattle.vale_lowering_objects.proofs.Owes.{begins, Follows}
 use Rattle.vale_lowering_objects.proofs.Steps.{stand_kept, keeping}
+use Rattle.vale_lowering_objects.proofs.Ways.{Comes, ComesBack}
 
 pub agree_same : (q r : Gives) → agree q r ≡ true → q ≡ r
 agree_same void void e = refl
@@ -251,12 +252,12 @@ module _ (code : Code) (functions : List Function) (p0 : Parts) (k : Where) (out
           where
             by : GivenAll p0 (head_params (head_of f)) h vs regs → Reaches code k out n (p + 1) (In (result_gives f) h s base g) (conf k p regs w) (called_by false again f vs frame (calls_in k) l w)
             by (inl (after, is, same)) =
-                by_next code k out n p (p + 1) _ regs w instr _ (called_by false again f vs frame (calls_in k) l w) at
+                by_next code k out n p (p + 1) _ regs w instr _ (called_by false again f vs frame (calls_in k) l w) tt at
                 (instruction ∙ ap (λ o. with_read o w (called_with Plain low.func)) is
                 ∙ ap (λ t. enter number Plain low.func (record { what = t; at = m.at }) (result_to low.func.result h) (given_all (head_params (head_of f)) vs) (Running (active k (p + 1) after) ∷ k.below) w) named)
                 (enters after same)
             by (inr is) =
-                by_next code k out n p (p + 1) _ regs w instr (Over Wrong None w) (called_by false again f vs frame (calls_in k) l w) at
+                by_next code k out n p (p + 1) _ regs w instr (Over Wrong None w) (called_by false again f vs frame (calls_in k) l w) tt at
                 (instruction ∙ ap (λ o. with_read o w (called_with Plain low.func)) is) (inl refl)
 
       by_function : (q : Gives) (o : Option Function) → first_function (has_name m.name.0) functions ≡ o → Runs code k out n (only_if (may_be_called p0 q qs o) h (instr ∷ [])) (In q h s base g) p regs w (called again o vs frame (calls_in k) l w)

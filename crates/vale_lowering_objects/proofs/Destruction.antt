@@ -23,9 +23,10 @@ use Rattle.vale_code.specs.Parts.{Parts as Code}
 use Rattle.vale_code.specs.Registers.{registers_for}
 use Rattle.vale_code.specs.Run.{exec, step, then_go}
 use Rattle.vale_code.specs.declared.func.Func.{Func}
-use Rattle.vale_lowering.proofs.Reaches.{Comes, comes_on, comes_stops}
-use Rattle.vale_lowering.proofs.Calls.{CameBack, ComesBack}
 use Rattle.vale_lowering_objects.specs.Destruction.{IsDestructor, SameDestructor, SameKinds}
+use Rattle.vale_lowering_objects.specs.Scopes.{void}
+use Rattle.vale_lowering_objects.proofs.LawfulSteps.{LawfulConfig, LawfulNext, destroy_next}
+use Rattle.vale_lowering_objects.proofs.Ways.{Comes, CameBack, ComesBack, comes_refl, comes_on, comes_stops, comes_fails, steps_to}
 
 -- an owner or an isolate
 abbrev pub IsOwned : Value → Type 0
@@ -39,7 +40,7 @@ IsOwned (Ref n) = ⊥
 module _ (code : Code) (functions : List Function) where
   -- what is under way comes back to the frame `after`, with nothing
   abbrev pub Back : ℕ → Locals → Frame → List Frame → Config → Result (Option Value) → Type 0
-  Back n l after below c r = ComesBack code n l false None after below c r
+  Back n l after below c r = ComesBack code n l void None after below c r
 
   -- the same, of what a step leads to
   abbrev pub NextBack : ℕ → Locals → Frame → List Frame → Next → Result (Option Value) → Type 0
@@ -151,41 +152,43 @@ module _ (code : Code) (functions : List Function) where
         d : Config
         d = record { top = after'; below = below'; state = w }
 
-        came_back : (q : Result (Option Value)) → CameBack code n l false None after below d q → CameBack code n l false None after below c q
+        came_back : (q : Result (Option Value)) → CameBack code n l void None after below d q → CameBack code n l void None after below c q
         came_back (goes v k u) b = (comes_on code c d _ a.0 b.0, b.1, b.2, b.3)
         came_back (returned v u) b = absurd b
         came_back (ended e u) b = comes_stops code c d e u a.0 b
 
         comes_back : Back n l after below d (go None l w) → Back n l after below c (go None l w)
-        comes_back (inl (u, s)) = inl (u, comes_stops code c d Wrong u a.0 s)
+        comes_back (inl x) = inl (comes_fails code c d a.0 x)
         comes_back (inr b) = inr (came_back (go None l w) b)
     back_then l after after' below below' c (returned v w) go (inr a) f = absurd a
     back_then l after after' below below' c (ended e w) go (inr a) f = inr a
 
     -- a step leads there
-    stepped : (l : Locals) (after : Frame) (below : List Frame) (c : Config) (next : Next) (r : Result (Option Value)) → step code c ≡ next → NextBack n l after below next r → Back n l after below c r
-    stepped l after below c (On d) r e a = by r a
+    stepped : (l : Locals) (after : Frame) (below : List Frame) (c : Config) (next : Next) (r : Result (Option Value)) → (LawfulConfig c → LawfulNext next) → step code c ≡ next → NextBack n l after below next r → Back n l after below c r
+    stepped l after below c (On d) r h e a = by r a
       where
         comes : Comes code c d
-        comes = record { by = λ m. (suc m, ap (λ x. then_go x (exec code m)) e) }
+        comes = steps_to code c d e h
 
-        came : (q : Result (Option Value)) → CameBack code n l false None after below d q → CameBack code n l false None after below c q
+        came : (q : Result (Option Value)) → CameBack code n l void None after below d q → CameBack code n l void None after below c q
         came (goes v k u) b = (comes_on code c d _ comes b.0, b.1, b.2, b.3)
         came (returned v u) b = absurd b
         came (ended o u) b = comes_stops code c d o u comes b
 
         by : (q : Result (Option Value)) → Back n l after below d q → Back n l after below c q
-        by q (inl (u, s)) = inl (u, comes_stops code c d Wrong u comes s)
+        by q (inl x) = inl (comes_fails code c d comes x)
         by q (inr b) = inr (came q b)
-    stepped l after below c (Over o v u) r e (inl is) = inl (u, (1, v, ap (λ x. then_go x (exec code 0)) e ∙ ap (λ y. Some (record { end = y; value = v; state = u })) is))
-    stepped l after below c (Over o v u) r e (inr is) = subst (Back n l after below c) (sym is) (inr (1, v, ap (λ x. then_go x (exec code 0)) e))
+    stepped l after below c (Over o v u) r h e (inl is) = inl (inl (u, (1, v, ap (λ x. then_go x (exec code 0)) e ∙ ap (λ y. Some (record { end = y; value = v; state = u })) is)))
+    stepped l after below c (Over o v u) r h e (inr is) = subst (Back n l after below c) (sym is) (inr (1, v, ap (λ x. then_go x (exec code 0)) e))
 
     -- two configurations that do the same
-    alike : (l : Locals) (after : Frame) (below : List Frame) (c d : Config) (r : Result (Option Value)) → ((m : ℕ) → exec code m c ≡ exec code m d) → Back n l after below d r → Back n l after below c r
-    alike l after below c d r e (inl (u, s)) = inl (u, (s.0, s.1, e s.0 ∙ s.2))
-    alike l after below c d (goes v k u) e (inr a) = inr (record { by = λ m. let x = a.0.by m in (x.0, e x.0 ∙ x.1) }, a.1, a.2, a.3)
-    alike l after below c d (returned v u) e (inr a) = absurd a
-    alike l after below c d (ended o u) e (inr a) = inr (a.0, a.1, e a.0 ∙ a.2)
+    alike : (l : Locals) (after : Frame) (below : List Frame) (c d : Config) (r : Result (Option Value)) → (LawfulConfig c → LawfulConfig d) → ((m : ℕ) → exec code m c ≡ exec code m d) → Back n l after below d r → Back n l after below c r
+    alike l after below c d r h e (inl (inl (u, s))) = inl (inl (u, (s.0, s.1, e s.0 ∙ s.2)))
+    alike l after below c d r h e (inl (inr f)) = inl (inr (λ x. f (h x)))
+    alike l after below c d (goes v k u) h e (inr a) =
+        inr (record { way = record { by = λ m. let x = a.0.way.by m in (x.0, e x.0 ∙ x.1) }; lawful = λ x. a.0.lawful (h x) }, a.1, a.2, a.3)
+    alike l after below c d (returned v u) h e (inr a) = absurd a
+    alike l after below c d (ended o u) h e (inr a) = inr (a.0, a.1, e a.0 ∙ a.2)
 
     module _ (frame : FrameAt) (after : Frame) (below : List Frame) where
       abbrev holding : List Value → State → Config
@@ -218,19 +221,19 @@ module _ (code : Code) (functions : List Function) where
       owned : (v : Value) (vs : List Value) (l : Locals) (w : State) → w.left ≤ n → IsOwned v → step code (holding (v ∷ vs) w) ≡ code_destroy.destroy code v frame.at (Dropping (record { call = frame; rest = vs }) ∷ after ∷ below) w → ((u : State) → u.left ≤ n → Back n l after below (holding vs u) (meant vs l u)) → Back n l after below (holding (v ∷ vs) w) (meant (v ∷ vs) l w)
       owned v vs l w few own e rest =
           back_then l after (Dropping (record { call = frame; rest = vs })) below (after ∷ below) (holding (v ∷ vs) w) (drop again frame.at (Some v) (frame ∷ under (after ∷ below)) l w) (λ u. drop_values again frame.at vs (frame ∷ under (after ∷ below)))
-          (stepped l (Dropping (record { call = frame; rest = vs })) (after ∷ below) (holding (v ∷ vs) w) (code_destroy.destroy code v frame.at (Dropping (record { call = frame; rest = vs }) ∷ after ∷ below) w) (drop again frame.at (Some v) (frame ∷ under (after ∷ below)) l w) e
+          (stepped l (Dropping (record { call = frame; rest = vs })) (after ∷ below) (holding (v ∷ vs) w) (code_destroy.destroy code v frame.at (Dropping (record { call = frame; rest = vs }) ∷ after ∷ below) w) (drop again frame.at (Some v) (frame ∷ under (after ∷ below)) l w) (λ h. destroy_next code v frame.at (Dropping (record { call = frame; rest = vs }) ∷ after ∷ below) w h.2 (tt, h.1)) e
           (drop_runs v frame.at (Dropping (record { call = frame; rest = vs })) (after ∷ below) l w own few))
           rest
 
       -- the frame of a destruction drops the values in order
       pub values_run : (vs : List Value) (l : Locals) (w : State) → w.left ≤ n → Back n l after below (holding vs w) (meant vs l w)
-      values_run [] l w few = stepped l after below (holding [] w) (on after below w) (goes None l w) refl (inr (record { by = λ m. (m, refl) }, refl, tt, few))
+      values_run [] l w few = stepped l after below (holding [] w) (on after below w) (goes None l w) (λ h. (h.1.0, h.1.1, h.2)) refl (inr (comes_refl code (record { top = after; below = below; state = w }), refl, tt, few))
       values_run (Own q ∷ vs) l w few = owned (Own q) vs l w few tt refl (λ u less. values_run vs l u less)
       values_run (Iso q ∷ vs) l w few = owned (Iso q) vs l w few tt refl (λ u less. values_run vs l u less)
-      values_run (Int z ∷ vs) l w few = alike l after below (holding (Int z ∷ vs) w) (holding vs w) (meant vs l w) (int_skipped z vs w) (values_run vs l w few)
-      values_run (Truth b ∷ vs) l w few = alike l after below (holding (Truth b ∷ vs) w) (holding vs w) (meant vs l w) (truth_skipped b vs w) (values_run vs l w few)
-      values_run (Text t ∷ vs) l w few = alike l after below (holding (Text t ∷ vs) w) (holding vs w) (meant vs l w) (text_skipped t vs w) (values_run vs l w few)
-      values_run (Ref q ∷ vs) l w few = alike l after below (holding (Ref q ∷ vs) w) (holding vs w) (meant vs l w) (ref_skipped q vs w) (values_run vs l w few)
+      values_run (Int z ∷ vs) l w few = alike l after below (holding (Int z ∷ vs) w) (holding vs w) (meant vs l w) (λ h. h) (int_skipped z vs w) (values_run vs l w few)
+      values_run (Truth b ∷ vs) l w few = alike l after below (holding (Truth b ∷ vs) w) (holding vs w) (meant vs l w) (λ h. h) (truth_skipped b vs w) (values_run vs l w few)
+      values_run (Text t ∷ vs) l w few = alike l after below (holding (Text t ∷ vs) w) (holding vs w) (meant vs l w) (λ h. h) (text_skipped t vs w) (values_run vs l w few)
+      values_run (Ref q ∷ vs) l w few = alike l after below (holding (Ref q ∷ vs) w) (holding vs w) (meant vs l w) (λ h. h) (ref_skipped q vs w) (values_run vs l w few)
 
   -- ---- by induction on the ticks
 

@@ -64,13 +64,13 @@ module _ (code : Code) (functions : List Function) (p : Parts) (kinds : SameKind
 
       owned : (v : Value) → read regs r ≡ Some v → IsOwned v → Reaches code k out n (q + 1) (Without r l regs) (conf k q regs w) (drop again at (Some v) (calls_in k) l w)
       owned v e own =
-          by_next code k out n q (q + 1) (Without r l regs) regs w (i.Destroy r at) (next v) (drop again at (Some v) (calls_in k) l w) has.0 (leads v e)
+          by_next code k out n q (q + 1) (Without r l regs) regs w (i.Destroy r at) (next v) (drop again at (Some v) (calls_in k) l w) tt has.0 (leads v e)
           (next_reaches (q + 1) r l regs (put regs r None) (next v) (drop again at (Some v) (calls_in k) l w) kept
           (drop_runs code functions p kinds n again follows.same follows.fields follows.destructors v at after k.below l w own few))
 
       other : (v : Value) → read regs r ≡ Some v → next v ≡ Over Wrong None w → Reaches code k out n (q + 1) (Without r l regs) (conf k q regs w) (drop again at (Some v) (calls_in k) l w)
       other v e wrong =
-          by_next code k out n q (q + 1) (Without r l regs) regs w (i.Destroy r at) (Over Wrong None w) (drop again at (Some v) (calls_in k) l w) has.0 (leads v e ∙ wrong) (inl refl)
+          by_next code k out n q (q + 1) (Without r l regs) regs w (i.Destroy r at) (Over Wrong None w) (drop again at (Some v) (calls_in k) l w) tt has.0 (leads v e ∙ wrong) (inl refl)
 
       by : (v : Value) → read regs r ≡ Some v → Reaches code k out n (q + 1) (Without r l regs) (conf k q regs w) (drop again at (Some v) (calls_in k) l w)
       by (Own m) e = owned (Own m) e tt

@@ -16,12 +16,13 @@ use Rattle.vale_code.specs.Registers.{Registers, read, put, kept}
 use Rattle.vale_code.specs.declared.instr.Instr.{Instr}
 use Rattle.vale_code.specs.declared.instr.Instr.TheVariants as i
 use Rattle.vale_lowering.proofs.Registers.{Base, with_at, one_above, pick_other, read_put}
-use Rattle.vale_lowering.proofs.Reaches.{Where, active, conf, calls_in, moves}
+use Rattle.vale_lowering.proofs.Reaches.{Where, active, conf, calls_in}
 use Rattle.vale_lowering_objects.specs.Scopes.{Gives, owner, agree, Scope, Gone, After}
 use Rattle.vale_lowering_objects.specs.Lowered.{freeze_code, thaw_code, if_comes}
 use Rattle.vale_lowering_objects.proofs.Origins.{Yields, surely_yields}
 use Rattle.vale_lowering_objects.proofs.Posts.{agree_same}
 use Rattle.vale_lowering_objects.proofs.Reaches.{Then, In, Reaches, NextReaches, Runs, wrongs, by_next, ends_at, ended_by, only_if_runs}
+use Rattle.vale_lowering_objects.proofs.Ways.{moves}
 use Rattle.vale_lowering_objects.proofs.Registers.{Falls, Agrees, agrees_put, agrees_down, top_read}
 use Rattle.vale_lowering_objects.proofs.Steps.{keeping}
 
@@ -37,7 +38,7 @@ module _ (code : Code) (k : Where) (out : Gives) (n : ℕ) where
   -- the region is opened, where the depth allows it
   pub freezes : (q1 q : Gives) (at : Spot) (p h : ℕ) (s : Scope) (base : Base) (l : Locals) (regs : Registers) (w : State) (part : ℕ → List Instr) (o : After) (ends : List Instr) (r : Result (Option Value)) (finish : Option Value → Locals → State → Result (Option Value)) (rest : Locals → State → Result (Option Value)) → rest l w ≡ then_do r finish → Runs code k out n (part (p + 1)) (Then o (In q1 h s base)) (p + 1) regs (freeze w) r → ((g : Gone) (v : Option Value) (l : Locals) (w : State) (regs : Registers) (z : ℕ) → In q1 h s base g v l regs → w.left ≤ n → Runs code k out n ends (In q h s base g) z regs w (finish v l w)) → Runs code k out n (freeze_code at p part o ends) (Then o (In q h s base)) p regs w (then_do (deep 1 at (calls_in k) l w) (λ u. rest))
   freezes q1 q at p h s base l regs w part o ends r finish rest is run thaws has =
-      by_next code k out n p (p + length (freeze_code at p part o ends)) (Then o (In q h s base)) regs w (i.Freeze at) _ (then_do (deep 1 at (calls_in k) l w) (λ u. rest)) has.0 refl (by_depth (has_depth 1 (calls_in k) w))
+      by_next code k out n p (p + length (freeze_code at p part o ends)) (Then o (In q h s base)) regs w (i.Freeze at) _ (then_do (deep 1 at (calls_in k) l w) (λ u. rest)) tt has.0 refl (by_depth (has_depth 1 (calls_in k) w))
     where
       inner : List Instr
       inner = if_comes (p + 1) (part (p + 1)) o (λ place g. ends)
@@ -73,7 +74,7 @@ module _ (code : Code) (k : Where) (out : Gives) (n : ℕ) where
         bad v e wrong = wrongs code k out n p (p + 1) (In owner h s base g) regs w (i.ThawMerge h h) (goes (Some v) l (thaw merged w)) w None has.0 (ap next e ∙ wrong)
 
         by : (v : Value) → Agrees (h + 1) s g l (with_at h (Some v) base) regs → read regs h ≡ Some v → Reaches code k out n (p + 1) (In owner h s base g) (conf k p regs w) (goes (Some v) l (thaw merged w))
-        by (Own m) ag e = inr (put (put regs h None) h (Some (Own m)), moves code k n p regs w (i.ThawMerge h h) _ has.0 (ap next e), owner_put (Own m) (Own m) ag, few)
+        by (Own m) ag e = inr (put (put regs h None) h (Some (Own m)), moves code k n p regs w (i.ThawMerge h h) _ tt has.0 (ap next e), owner_put (Own m) (Own m) ag, few)
         by (Iso m) ag e = bad (Iso m) e refl
         by (Int z) ag e = bad (Int z) e refl
         by (Truth b) ag e = bad (Truth b) e refl
@@ -92,7 +93,7 @@ module _ (code : Code) (k : Where) (out : Gives) (n : ℕ) where
         bad v e wrong = wrongs code k out n p (p + 1) (In owner h s base g) regs w (i.ThawKeep h h) (goes (isolated (Some v)) l (thaw (end_of_isolate (Some v)) w)) w None has.0 (ap next e ∙ wrong)
 
         by : (v : Value) → Agrees (h + 1) s g l (with_at h (Some v) base) regs → read regs h ≡ Some v → Reaches code k out n (p + 1) (In owner h s base g) (conf k p regs w) (goes (isolated (Some v)) l (thaw (end_of_isolate (Some v)) w))
-        by (Own m) ag e = inr (put (put regs h None) h (Some (Iso m)), moves code k n p regs w (i.ThawKeep h h) _ has.0 (ap next e), owner_put (Own m) (Iso m) ag, few)
+        by (Own m) ag e = inr (put (put regs h None) h (Some (Iso m)), moves code k n p regs w (i.ThawKeep h h) _ tt has.0 (ap next e), owner_put (Own m) (Iso m) ag, few)
         by (Iso m) ag e = bad (Iso m) e refl
         by (Int z) ag e = bad (Int z) e refl
         by (Truth b) ag e = bad (Truth b) e refl
@@ -101,7 +102,7 @@ module _ (code : Code) (k : Where) (out : Gives) (n : ℕ) where
 
     -- or they are removed
     clears_region : (q : Gives) (v : Option Value) → In q h s base g v l regs → Runs code k out n (i.ThawClear ∷ []) (In q h s base g) p regs w (goes v l (thaw cleared w))
-    clears_region q v ag has = inr (regs, moves code k n p regs w i.ThawClear _ has.0 refl, ag, few)
+    clears_region q v ag has = inr (regs, moves code k n p regs w i.ThawClear _ tt has.0 refl, ag, few)
 
     pub thaws : (b : Bool) (q : Gives) (v : Option Value) → In q h s base g v l regs → Runs code k out n (thaw_code b q h) (In q h s base g) p regs w (goes v l (thaw (end_of_block b) w))
     thaws true q v ag has =
@@ -115,7 +116,7 @@ module _ (code : Code) (k : Where) (out : Gives) (n : ℕ) where
     -- an isolate's objects join the innermost region
     pub merges : (v : Value) → Agrees (h + 1) s g l (with_at h (Some v) base) regs → Runs code k out n (i.Merge h h ∷ []) (In owner h s base g) p regs w (model.answered at (merge v w) (calls_in k) l w)
     merges v ag has =
-        surely_yields code k out n (In owner h s base g) p h l regs (kept h v regs) w (i.Merge h h) at few has.0
+        surely_yields code k out n (In owner h s base g) p h l regs (kept h v regs) w (i.Merge h h) at few has.0 tt
         (λ u. (
           tt,
           agrees_put s g l base base h h (Some u) (kept h v regs) fa (omega arith) (λ r lt. refl)

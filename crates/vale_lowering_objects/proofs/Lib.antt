@@ -2,9 +2,13 @@ mod BuiltIns
 mod Callees
 mod Calls
 mod Codes
+mod Counts
 mod Destruction
 mod Drops
 mod Freezes
+mod Input
+mod Lawful
+mod LawfulSteps
 pub mod Kept
 mod Main
 mod ObjectTexts
@@ -20,3 +24,4 @@ mod Registers
 mod Steps
 mod Stores
 mod Tree
+mod Ways

@@ -1,6 +1,6 @@
 -- Programs with objects, by computation: their code does what they mean, and isn't stuck. A program stands here as its tree.
 use Rattle.std.proofs.Common.{◌≡◌, ℕ, List, [], ◌∷◌, ◌++◌, Option, Some, None, refl}
-use Rattle.std.specs.Prelude.{true, false, codes, pos}
+use Rattle.std.specs.Prelude.{ℤ, true, false, codes, pos}
 use Rattle.std.specs.Fmt.{signed_decimal}
 use Rattle.vale_state_spec.specs.Outcome.{Outcome, End, Done}
 use Rattle.vale_state_spec.specs.State.{Given, no_input, numbers}
@@ -12,7 +12,7 @@ use Rattle.vale_syntax.specs.declared.tree.UnaryOp.TheVariants.{Borrow, Merge, M
 use Rattle.vale_rules_spec.specs.Judged.{Judged, fine, faulty}
 use Rattle.vale_rules_spec.specs.Typed.{Typed}
 use Rattle.vale_rules_spec.specs.Typing.{typed}
-use Rattle.vale_syntax.specs.Tree.{pure, iso, str_type, quote, while, more_elses, else_if, paren, no_else, int_type, bool_type, named_type, array_type, number, truth, name, call, steps, field, index, no_steps, more_steps, no_exprs, more_exprs, chain, link, no_links, more_links, unary, array, branch, otherwise, form, block, declare, return_value, destructure, set, form_stmt, express, no_stmts, last, more_stmts, param, head, function, function_item, struct_item, field_decl, Tree, tree}
+use Rattle.vale_syntax.specs.Tree.{pure, iso, str_type, quote, while, foreach, more_elses, else_if, paren, no_else, int_type, bool_type, named_type, array_type, number, truth, name, call, steps, field, index, no_steps, more_steps, no_exprs, more_exprs, chain, link, no_links, more_links, unary, array, branch, otherwise, form, block, declare, return_value, destructure, set, form_stmt, express, no_stmts, last, more_stmts, param, head, function, function_item, struct_item, field_decl, Tree, tree}
 use Rattle.vale_model.specs.Meaning.{meaning}
 use Rattle.vale_code.specs.Run.{run_code}
 use Rattle.vale_code.specs.Parts.{Parts as Code}
@@ -196,3 +196,46 @@ regions_mean = refl
 
 regions_run : run regions 1000 ≡ mean regions 1000
 regions_run = refl
+
+-- ---- counted loops
+
+-- struct S { a int; }
+-- func f(k int) int {
+--   t = S(k);
+--   foreach i in 0..9 {
+--     u = S(i);
+--     if i == k { return u.a; }
+--     set i = 7;
+--   }
+--   return 20;
+-- }
+-- func main() {
+--   xs = []int(5, 6);
+--   foreach i in 0..len(&xs) {
+--     s = S(xs[i]);
+--     println(s.a + f(i + 1));
+--   }
+-- }
+abbrev counts : Tree
+counts = tree (codes "S" ∷ codes "a" ∷ codes "f" ∷ codes "k" ∷ codes "t" ∷ codes "i" ∷ codes "u" ∷ codes "main" ∷ codes "xs" ∷ codes "len" ∷ codes "s" ∷ codes "println" ∷ []) (struct_item (n 0 1 8) (field_decl (n 1 1 12) false (int_type (at 1 14)) ∷ []) ∷ function_item (function (head false (n 2 2 6) (param (n 3 2 8) (int_type (at 2 10)) ∷ []) (Some (int_type (at 2 15)))) (block (at 2 19) (at 10 1) (more_stmts (declare (n 4 3 3) (call (n 0 3 7) (more_exprs (name (n 3 3 9)) no_exprs))) (more_stmts (foreach (at 4 3) (n 5 4 11) (number (at 4 16) (pos 0)) (number (at 4 19) (pos 9)) (block (at 4 21) (at 8 3) (more_stmts (declare (n 6 5 5) (call (n 0 5 9) (more_exprs (name (n 5 5 11)) no_exprs))) (more_stmts (form_stmt (branch (at 6 5) (chain (name (n 5 6 8)) (more_links (link (at 6 10) Equal (name (n 3 6 13))) no_links)) (block (at 6 15) (at 6 29) (more_stmts (return_value (at 6 17) (steps (name (n 6 6 24)) (more_steps (field (at 6 25) (record { 0 = 1 })) no_steps))) no_stmts)) no_else)) (more_stmts (express (set (at 7 5) (name (n 5 7 9)) (number (at 7 13) (pos 7)))) no_stmts))))) (more_stmts (return_value (at 9 3) (number (at 9 10) (pos 20))) no_stmts))))) ∷ function_item (function (head false (n 7 11 6) [] None) (block (at 11 13) (at 17 1) (more_stmts (declare (n 8 12 3) (array (at 12 8) (int_type (at 12 10)) (more_exprs (number (at 12 14) (pos 5)) (more_exprs (number (at 12 17) (pos 6)) no_exprs)))) (more_stmts (foreach (at 13 3) (n 5 13 11) (number (at 13 16) (pos 0)) (call (n 9 13 19) (more_exprs (unary (at 13 23) Borrow (name (n 8 13 24))) no_exprs)) (block (at 13 28) (at 16 3) (more_stmts (declare (n 10 14 5) (call (n 0 14 9) (more_exprs (steps (name (n 8 14 11)) (more_steps (index (at 14 13) (name (n 5 14 14))) no_steps)) no_exprs))) (more_stmts (express (call (n 11 15 5) (more_exprs (chain (steps (name (n 10 15 13)) (more_steps (field (at 15 14) (record { 0 = 1 })) no_steps)) (more_links (link (at 15 17) Add (call (n 2 15 19) (more_exprs (chain (name (n 5 15 21)) (more_links (link (at 15 23) Add (number (at 15 25) (pos 1))) no_links)) no_exprs))) no_links)) no_exprs))) no_stmts)))) no_stmts)))) ∷ [])
+
+-- each turn's object dies at its end; at the `return` u and then t do, and at the end xs
+counts_mean : mean counts 1000 ≡ gives (piece 13 (line 6) ∷ piece 28 (line 8) ∷ []) Done 30
+counts_mean = refl
+
+counts_run : run counts 1000 ≡ mean counts 1000
+counts_run = refl
+
+counts_are_cut : run counts 9 ≡ mean counts 9
+counts_are_cut = refl
+
+-- func main(xs []int) { foreach i in xs[0]..xs[1] { println(i); } }
+abbrev counts_input : Tree
+counts_input = tree (codes "main" ∷ codes "xs" ∷ codes "i" ∷ codes "println" ∷ []) (function_item (function (head false (n 0 1 6) (param (n 1 1 11) (array_type (at 1 14) (int_type (at 1 16))) ∷ []) None) (block (at 1 21) (at 1 65) (more_stmts (foreach (at 1 23) (n 2 1 31) (steps (name (n 1 1 36)) (more_steps (index (at 1 38) (number (at 1 39) (pos 0))) no_steps)) (steps (name (n 1 1 43)) (more_steps (index (at 1 45) (number (at 1 46) (pos 1))) no_steps)) (block (at 1 49) (at 1 63) (more_stmts (express (call (n 3 1 51) (more_exprs (name (n 2 1 59)) no_exprs))) no_stmts))) no_stmts))) ∷ [])
+
+abbrev of_input : List ℤ → ℕ → Option Outcome
+of_input zs ticks = run_typed (typed counts_input) (numbers zs) ticks
+
+-- up to the greatest int
+counts_up : of_input (pos 9223372036854775806 ∷ pos 9223372036854775807 ∷ []) 1000 ≡ mean_typed (typed counts_input) (numbers (pos 9223372036854775806 ∷ pos 9223372036854775807 ∷ [])) 1000
+counts_up = refl

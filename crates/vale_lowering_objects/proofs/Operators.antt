@@ -22,14 +22,16 @@ use Rattle.vale_code.specs.declared.instr.Instr.{Instr}
 use Rattle.vale_code.specs.declared.instr.Instr.TheVariants as i
 use Rattle.vale_lowering.specs.Instructions.{operator, unary_code, and_code}
 use Rattle.vale_lowering.proofs.Operators.{reads_two, reads_one}
-use Rattle.vale_lowering.proofs.Reaches.{Where, active, conf, calls_in, does, moves}
+use Rattle.vale_lowering.proofs.Reaches.{Where, active, conf, calls_in, does}
 use Rattle.vale_lowering.proofs.Registers.{Base, with_at, one_above, two_above, pick_same, pick_other, read_put}
 use Rattle.vale_lowering_objects.specs.Scopes.{Gives, copy, Scope, Gone, After, comes, closes, same_gone}
 use Rattle.vale_lowering_objects.specs.Lowered.{link_after, link_code, then_code, sides}
+use Rattle.vale_lowering_objects.proofs.LawfulSteps.{LawfulInstr}
 use Rattle.vale_lowering_objects.proofs.Operations as fit
 use Rattle.vale_lowering_objects.proofs.Reaches.{Then, In, Val, Reaches, Runs, wrongs, comes_reaches, ends_at, stays_at, is_stuck, only_if_runs, joined_last, values, chooses, sides_run, brought_back, closes_meet}
 use Rattle.vale_lowering_objects.proofs.Registers.{Falls, falls_up, Agrees, agrees_down, agrees_met, top_read, next_read}
 use Rattle.vale_lowering_objects.proofs.Steps.{Answers, answers, surely}
+use Rattle.vale_lowering_objects.proofs.Ways.{moves}
 
 module _ (code : Parts) (k : Where) (out : Gives) (n : ℕ) where
   -- ---- an instruction between two registers
@@ -37,22 +39,22 @@ module _ (code : Parts) (k : Where) (out : Gives) (n : ℕ) where
   module _ (p h : ℕ) (s : Scope) (g : Gone) (base : Base) (l : Locals) (regs : Registers) (w : State) (at : Spot) (v u : Value) (fa : Falls h s) (ag : Agrees h s g l base regs) (few : w.left ≤ n) (first : read regs h ≡ Some v) (second : read regs (h + 1) ≡ Some u) where
     compares : (choice : ℕ) (c : o.Comparison) → fetch code k.function p ≡ Some (i.Cmp h choice h (h + 1)) → does code k n p regs w (i.Cmp h choice h (h + 1)) ≡ with_value (read regs h) w (λ v. with_value (read regs (h + 1)) w (λ u. steps.certain (active k p regs) (Some h) regs k.below w (o.compare c v u w))) → Reaches code k out n (p + 1) (In copy h s base g) (conf k p regs w) (answered at (o.compare c v u w) (calls_in k) l w)
     compares choice c e d =
-        surely code k out n p h s g base l regs w (i.Cmp h choice h (h + 1)) at (o.compare c v u w) fa ag few (fit.compare_answers w c v u) e
+        surely code k out n p h s g base l regs w (i.Cmp h choice h (h + 1)) at (o.compare c v u w) tt fa ag few (fit.compare_answers w c v u) e
         (d ∙ reads_two regs w h (h + 1) v u (λ v u. steps.certain (active k p regs) (Some h) regs k.below w (o.compare c v u w)) first second)
 
     -- one that may trap; a is what it does with two values, which is b or fails
-    one_of : (x : Instr) (a : Value → Value → Answer) (b : Answer) → (a v u ≡ b) ⊎ (a v u ≡ fails) → Answers w (a v u) → fetch code k.function p ≡ Some x → does code k n p regs w x ≡ with_value (read regs h) w (λ v. with_value (read regs (h + 1)) w (λ u. steps.answered (active k p regs) (Some h) regs at k.below w (a v u))) → Reaches code k out n (p + 1) (In copy h s base g) (conf k p regs w) (answered at b (calls_in k) l w)
-    one_of x a b (inl is) fits e d =
+    one_of : (x : Instr) (a : Value → Value → Answer) (b : Answer) → LawfulInstr code x → (a v u ≡ b) ⊎ (a v u ≡ fails) → Answers w (a v u) → fetch code k.function p ≡ Some x → does code k n p regs w x ≡ with_value (read regs h) w (λ v. with_value (read regs (h + 1)) w (λ u. steps.answered (active k p regs) (Some h) regs at k.below w (a v u))) → Reaches code k out n (p + 1) (In copy h s base g) (conf k p regs w) (answered at b (calls_in k) l w)
+    one_of x a b lawful (inl is) fits e d =
         subst (λ y. Reaches code k out n (p + 1) (In copy h s base g) (conf k p regs w) (answered at y (calls_in k) l w)) is
-        (answers code k out n p h s g base l regs w x at (a v u) fa ag few fits e
+        (answers code k out n p h s g base l regs w x at (a v u) lawful fa ag few fits e
         (d ∙ reads_two regs w h (h + 1) v u (λ v u. steps.answered (active k p regs) (Some h) regs at k.below w (a v u)) first second))
-    one_of x a b (inr is) fits e d =
+    one_of x a b lawful (inr is) fits e d =
         wrongs code k out n p (p + 1) (In copy h s base g) regs w x (answered at b (calls_in k) l w) w None e
         (d ∙ reads_two regs w h (h + 1) v u (λ v u. steps.answered (active k p regs) (Some h) regs at k.below w (a v u)) first second
         ∙ ap (λ y. steps.answered (active k p regs) (Some h) regs at k.below w y) is)
 
     adds : fetch code k.function p ≡ Some (i.Add h h (h + 1) at) → Reaches code k out n (p + 1) (In copy h s base g) (conf k p regs w) (answered at (plus v u w) (calls_in k) l w)
-    adds e = one_of (i.Add h h (h + 1) at) (λ v u. o.add v u w) (plus v u w) (fit.adds w v u) (fit.ints_answer w number.add v u) e refl
+    adds e = one_of (i.Add h h (h + 1) at) (λ v u. o.add v u w) (plus v u w) tt (fit.adds w v u) (fit.ints_answer w number.add v u) e refl
 
     operates : (op : BinaryOp) (x : Ty) → fetch code k.function p ≡ Some (operator op x at h) → Reaches code k out n (p + 1) (In copy h s base g) (conf k p regs w) (answered at (operated op v u w) (calls_in k) l w)
     operates op.Equal x e = compares 0 o.equal e refl
@@ -61,7 +63,7 @@ module _ (code : Parts) (k : Where) (out : Gives) (n : ℕ) where
     operates op.LessEqual x e = compares 3 o.less_equal e refl
     operates op.Greater x e = compares 4 o.greater e refl
     operates op.GreaterEqual x e = compares 5 o.greater_equal e refl
-    operates op.Add y.str e = one_of (i.Join h h (h + 1) at) (λ v u. o.join v u w) (plus v u w) (fit.joins w v u) (fit.join_answers w v u) e refl
+    operates op.Add y.str e = one_of (i.Join h h (h + 1) at) (λ v u. o.join v u w) (plus v u w) tt (fit.joins w v u) (fit.join_answers w v u) e refl
     operates op.Add y.void e = adds e
     operates op.Add y.int e = adds e
     operates op.Add y.bool e = adds e
@@ -70,10 +72,10 @@ module _ (code : Parts) (k : Where) (out : Gives) (n : ℕ) where
     operates op.Add (y.ref x) e = adds e
     operates op.Add (y.imm x) e = adds e
     operates op.Add (y.iso x) e = adds e
-    operates op.Sub x e = one_of (i.Sub h h (h + 1) at) (λ v u. o.sub v u w) (o.sub v u w) (inl refl) (fit.ints_answer w number.sub v u) e refl
-    operates op.Mul x e = one_of (i.Mul h h (h + 1) at) (λ v u. o.mul v u w) (o.mul v u w) (inl refl) (fit.ints_answer w number.mul v u) e refl
-    operates op.Div x e = one_of (i.Div h h (h + 1) at) (λ v u. o.div v u w) (o.div v u w) (inl refl) (fit.ints_answer w number.div v u) e refl
-    operates op.Rem x e = one_of (i.Rem h h (h + 1) at) (λ v u. o.rem v u w) (o.rem v u w) (inl refl) (fit.ints_answer w number.rem v u) e refl
+    operates op.Sub x e = one_of (i.Sub h h (h + 1) at) (λ v u. o.sub v u w) (o.sub v u w) tt (inl refl) (fit.ints_answer w number.sub v u) e refl
+    operates op.Mul x e = one_of (i.Mul h h (h + 1) at) (λ v u. o.mul v u w) (o.mul v u w) tt (inl refl) (fit.ints_answer w number.mul v u) e refl
+    operates op.Div x e = one_of (i.Div h h (h + 1) at) (λ v u. o.div v u w) (o.div v u w) tt (inl refl) (fit.ints_answer w number.div v u) e refl
+    operates op.Rem x e = one_of (i.Rem h h (h + 1) at) (λ v u. o.rem v u w) (o.rem v u w) tt (inl refl) (fit.ints_answer w number.rem v u) e refl
     operates op.Or x e = wrongs code k out n p (p + 1) (In copy h s base g) regs w (i.Truth h 2) (ended Wrong w) w None e refl
     operates op.And x e = wrongs code k out n p (p + 1) (In copy h s base g) regs w (i.Truth h 2) (ended Wrong w) w None e refl
 
@@ -146,8 +148,8 @@ module _ (code : Parts) (k : Where) (out : Gives) (n : ℕ) where
     negates : Runs code k out n (unary_code unary.Minus at h) (In copy h s base g) p regs w (answered at (o.minus v w) (calls_in k) l w)
     negates has =
         ends_at code k out n (p + 1 + 1) (p + 2) (In copy h s base g) (conf k p regs w) _ (omega arith)
-        (comes_reaches code k out n (p + 1 + 1) (In copy h s base g) (conf k p regs w) (conf k (p + 1) regs1 w) _ (moves code k n p regs w (i.Int (h + 1) (pos 0)) _ has.0 refl)
-        (answers code k out n (p + 1) h s g base l regs1 w (i.Sub h (h + 1) h at) at (o.minus v w) fa
+        (comes_reaches code k out n (p + 1 + 1) (In copy h s base g) (conf k p regs w) (conf k (p + 1) regs1 w) _ (moves code k n p regs w (i.Int (h + 1) (pos 0)) _ refl has.0 refl)
+        (answers code k out n (p + 1) h s g base l regs1 w (i.Sub h (h + 1) h at) at (o.minus v w) tt fa
         (agrees_down s g l base base h h regs regs1 fa (omega arith) (λ r lt. refl) (λ r lt. let ne : r ≢ h + 1 = omega arith in read_put regs (h + 1) r (Some (Int (pos 0))) ∙ pick_other r (h + 1) (Some (Int (pos 0))) (read regs r) ne) kept)
         few (fit.minus_answers w v) has.1.0
         (reads_two regs1 w (h + 1) h (Int (pos 0)) v (λ v u. steps.answered (active k (p + 1) regs1) (Some h) regs1 at k.below w (o.sub v u w))
@@ -164,7 +166,7 @@ module _ (code : Parts) (k : Where) (out : Gives) (n : ℕ) where
     pub unary_runs : (op : UnaryOp) → Runs code k out n (unary_code op at h) (In copy h s base g) p regs w (unary_run at op v (calls_in k) l w)
     unary_runs unary.Minus has = negates has
     unary_runs unary.Not has =
-        surely code k out n p h s g base l regs w (i.Not h h) at (o.opposite v w) fa kept few (fit.opposite_answers w v) has.0
+        surely code k out n p h s g base l regs w (i.Not h h) at (o.opposite v w) tt fa kept few (fit.opposite_answers w v) has.0
         (reads_one regs w h v (λ v. steps.certain (active k p regs) (Some h) regs k.below w (o.opposite v w)) read_here)
     unary_runs unary.Borrow has = is_stuck code k out n p (p + 1) h (In copy h s base g) regs w (unary_run at unary.Borrow v (calls_in k) l w) has
     unary_runs unary.Merge has = is_stuck code k out n p (p + 1) h (In copy h s base g) regs w (unary_run at unary.Merge v (calls_in k) l w) has

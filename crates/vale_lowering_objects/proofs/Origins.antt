@@ -20,12 +20,14 @@ use Rattle.vale_code.specs.declared.instr.Instr.TheVariants as i
 use Rattle.vale_lowering.specs.Instructions.{only_if}
 use Rattle.vale_lowering.proofs.Operators.{reads_two}
 use Rattle.vale_lowering.proofs.Registers.{Held, Base, with_at, one_above, pick_same}
-use Rattle.vale_lowering.proofs.Reaches.{Where, active, conf, calls_in, Post, does, moves, stops}
+use Rattle.vale_lowering.proofs.Reaches.{Where, active, conf, calls_in, Post, does, stops}
 use Rattle.vale_lowering_objects.specs.Scopes.{Gives, void, copy, owner, is_value, Entry, Scope, find, Gone, is_gone, After, comes, never, then_after}
 use Rattle.vale_lowering_objects.specs.Lowered.{Origin, at_hand, reference, origin_of, lend_local, is_there, from_local, stays_of, free_register, load_field, load_element, swap_field, swap_element as swap_code, then_code}
+use Rattle.vale_lowering_objects.proofs.LawfulSteps.{LawfulInstr}
 use Rattle.vale_lowering_objects.proofs.Registers.{Fits, Holds, Falls, Agrees, agrees_put, agrees_down, look_above, Meets, meets, and_first}
 use Rattle.vale_lowering_objects.proofs.Reaches.{Then, In, Val, Reaches, Runs, wrongs, is_stuck, only_if_runs, one_after, joined, values}
 use Rattle.vale_lowering_objects.proofs.Steps.{keeping, sets}
+use Rattle.vale_lowering_objects.proofs.Ways.{moves}
 
 pub some_fits : (q : Gives) (v : Value) → is_value q ≡ true → Fits q (Some v)
 some_fits void v e = absurd (cc)
@@ -181,16 +183,16 @@ abbrev pub Out : Gives → ℕ → Scope → Base → Gone → Post (Option Valu
 Out q h s base g v l regs = In q h s base g v (outer l) regs
 
 module _ (code : Code) (k : Where) (out : Gives) (n : ℕ) where
-  module _ (post : Post (Option Value)) (p h : ℕ) (l : Locals) (regs regs' : Registers) (w : State) (x : Instr) (at : Spot) (few : w.left ≤ n) (has : fetch code k.function p ≡ Some x) (puts : (v : Value) → post (Some v) l (put regs' h (Some v))) where
+  module _ (post : Post (Option Value)) (p h : ℕ) (l : Locals) (regs regs' : Registers) (w : State) (x : Instr) (at : Spot) (few : w.left ≤ n) (has : fetch code k.function p ≡ Some x) (lawful : LawfulInstr code x) (puts : (v : Value) → post (Some v) l (put regs' h (Some v))) where
     pub yields : (a : Answer) → Yields w a → does code k n p regs w x ≡ answered (active k p regs) (Some h) regs' at k.below w a → Reaches code k out n (p + 1) post (conf k p regs w) (model.answered at a (calls_in k) l w)
     yields (gives None u) y e = absurd y
-    yields (gives (Some v) u) y e = inr (put regs' h (Some v), moves code k n p regs w x _ has e, puts v, omega (arith, y, few))
+    yields (gives (Some v) u) y e = inr (put regs' h (Some v), moves code k n p regs w x _ lawful has e, puts v, omega (arith, y, few))
     yields (traps t) y e = inr (stops code k n p regs w w x _ None has e)
     yields fails y e = wrongs code k out n p (p + 1) post regs w x (ended Wrong w) w None has e
 
     pub surely_yields : (a : Answer) → Yields w a → does code k n p regs w x ≡ certain (active k p regs) (Some h) regs' k.below w a → Reaches code k out n (p + 1) post (conf k p regs w) (model.answered at a (calls_in k) l w)
     surely_yields (gives None u) y e = absurd y
-    surely_yields (gives (Some v) u) y e = inr (put regs' h (Some v), moves code k n p regs w x _ has e, puts v, omega (arith, y, few))
+    surely_yields (gives (Some v) u) y e = inr (put regs' h (Some v), moves code k n p regs w x _ lawful has e, puts v, omega (arith, y, few))
     surely_yields (traps t) y e = wrongs code k out n p (p + 1) post regs w x (model.answered at (traps t) (calls_in k) l w) w None has e
     surely_yields fails y e = wrongs code k out n p (p + 1) post regs w x (ended Wrong w) w None has e
 
@@ -223,7 +225,7 @@ module _ (code : Code) (k : Where) (out : Gives) (n : ℕ) where
     loads (reference r) None st has = is_stuck code k out n p (p + 1) h (In copy h s base g) regs w (ended Wrong w) has
     loads (reference r) (Some f) st has =
         subst (λ a. Reaches code k out n (p + 1) (In copy h s base g) (conf k p regs w) (model.answered at a (calls_in k) l w)) (load_same f st.0 v w st.2)
-        (yields (In copy h s base g) p h l regs regs w (i.Load h r f at) at few has.0 puts (load f st.0 w) (load_yields f st.0 w)
+        (yields (In copy h s base g) p h l regs regs w (i.Load h r f at) at few has.0 tt puts (load f st.0 w) (load_yields f st.0 w)
         (ap (λ o. with_value o w (λ u. answered (active k p regs) (Some h) regs at k.below w (load f u w))) st.1))
     loads (at_hand r) (Some f) st has = by st.0 st.1 st.2
       where
@@ -236,7 +238,7 @@ module _ (code : Code) (k : Where) (out : Gives) (n : ℕ) where
         by : (u : Value) → read regs r ≡ Some u → name_of u ≡ name_of v → Reaches code k out n (p + 1) (In copy h s base g) (conf k p regs w) (model.answered at (load f v w) (calls_in k) l w)
         by (Own m) e same =
             subst (λ a. Reaches code k out n (p + 1) (In copy h s base g) (conf k p regs w) (model.answered at a (calls_in k) l w)) (load_same f (Own m) v w same)
-            (surely_yields (In copy h s base g) p h l regs regs w (i.LoadOwn h r f) at few has.0 puts (load f (Own m) w) (load_yields f (Own m) w) (ap next e))
+            (surely_yields (In copy h s base g) p h l regs regs w (i.LoadOwn h r f) at few has.0 tt puts (load f (Own m) w) (load_yields f (Own m) w) (ap next e))
         by (Iso m) e same = bad (Iso m) e refl
         by (Int z) e same = bad (Int z) e refl
         by (Truth b) e same = bad (Truth b) e refl
@@ -246,7 +248,7 @@ module _ (code : Code) (k : Where) (out : Gives) (n : ℕ) where
     pub elements : (o : Origin) (j : ℕ) (x : Value) → Starts o v regs → read regs j ≡ Some x → Runs code k out n (load_element o j at h) (In copy h s base g) p regs w (model.answered at (element v x w) (calls_in k) l w)
     elements (reference r) j x st index has =
         subst (λ a. Reaches code k out n (p + 1) (In copy h s base g) (conf k p regs w) (model.answered at a (calls_in k) l w)) (element_same x st.0 v w st.2)
-        (yields (In copy h s base g) p h l regs regs w (i.Elem h r j at) at few has.0 puts (element st.0 x w) (element_yields st.0 x w)
+        (yields (In copy h s base g) p h l regs regs w (i.Elem h r j at) at few has.0 tt puts (element st.0 x w) (element_yields st.0 x w)
         (reads_two regs w r j st.0 x (λ u x. answered (active k p regs) (Some h) regs at k.below w (element u x w)) st.1 index))
     elements (at_hand r) j x st index has = by st.0 st.1 st.2
       where
@@ -262,7 +264,7 @@ module _ (code : Code) (k : Where) (out : Gives) (n : ℕ) where
         by : (u : Value) → read regs r ≡ Some u → name_of u ≡ name_of v → Reaches code k out n (p + 1) (In copy h s base g) (conf k p regs w) (model.answered at (element v x w) (calls_in k) l w)
         by (Own m) e same =
             subst (λ a. Reaches code k out n (p + 1) (In copy h s base g) (conf k p regs w) (model.answered at a (calls_in k) l w)) (element_same x (Own m) v w same)
-            (living_yields (In copy h s base g) p h l regs regs w (i.ElemOwn h r j at) at few has.0 puts (element (Own m) x w) (element_yields (Own m) x w) (ap next e ∙ ap (after m) index))
+            (living_yields (In copy h s base g) p h l regs regs w (i.ElemOwn h r j at) at few has.0 tt puts (element (Own m) x w) (element_yields (Own m) x w) (ap next e ∙ ap (after m) index))
         by (Iso m) e same = bad (Iso m) e refl
         by (Int z) e same = bad (Int z) e refl
         by (Truth b) e same = bad (Truth b) e refl
@@ -287,7 +289,7 @@ module _ (code : Code) (k : Where) (out : Gives) (n : ℕ) where
     swaps (reference r) None st has = is_stuck code k out n p (p + 1) h (Out q h s base g) regs w (ended Wrong w) has
     swaps (reference r) (Some f) st has =
         subst (λ a. Reaches code k out n (p + 1) (Out q h s base g) (conf k p regs w) (model.answered at a (calls_in k) l w)) (swap_same f new st.0 v w st.2)
-        (yields (Out q h s base g) p h l regs (left new) w (i.Swap h r f h at) at few has.0 swapped (swap f st.0 new w) (swap_yields f st.0 new w)
+        (yields (Out q h s base g) p h l regs (left new) w (i.Swap h r f h at) at few has.0 tt swapped (swap f st.0 new w) (swap_yields f st.0 new w)
         (reads_two regs w r h st.0 new (λ u new. answered (active k p regs) (Some h) (left new) at k.below w (swap f u new w)) st.1 waits))
     swaps (at_hand r) (Some f) st has = by st.0 st.1 st.2
       where
@@ -303,7 +305,7 @@ module _ (code : Code) (k : Where) (out : Gives) (n : ℕ) where
         by : (u : Value) → read regs r ≡ Some u → name_of u ≡ name_of v → Reaches code k out n (p + 1) (Out q h s base g) (conf k p regs w) (model.answered at (swap f v new w) (calls_in k) l w)
         by (Own m) e same =
             subst (λ a. Reaches code k out n (p + 1) (Out q h s base g) (conf k p regs w) (model.answered at a (calls_in k) l w)) (swap_same f new (Own m) v w same)
-            (surely_yields (Out q h s base g) p h l regs (left new) w (i.SwapOwn h r f h) at few has.0 swapped (swap f (Own m) new w) (swap_yields f (Own m) new w) (ap next e ∙ ap (after m) waits))
+            (surely_yields (Out q h s base g) p h l regs (left new) w (i.SwapOwn h r f h) at few has.0 tt swapped (swap f (Own m) new w) (swap_yields f (Own m) new w) (ap next e ∙ ap (after m) waits))
         by (Iso m) e same = bad (Iso m) e refl
         by (Int z) e same = bad (Int z) e refl
         by (Truth b) e same = bad (Truth b) e refl
@@ -313,7 +315,7 @@ module _ (code : Code) (k : Where) (out : Gives) (n : ℕ) where
     pub swaps_element : (o : Origin) (j : ℕ) (x : Value) → Starts o v regs → read regs j ≡ Some x → Runs code k out n (swap_code o j at h) (Out q h s base g) p regs w (model.answered at (swap_element v x new w) (calls_in k) l w)
     swaps_element (reference r) j x st index has =
         subst (λ a. Reaches code k out n (p + 1) (Out q h s base g) (conf k p regs w) (model.answered at a (calls_in k) l w)) (swap_element_same x new st.0 v w st.2)
-        (yields (Out q h s base g) p h l regs (left new) w (i.SwapEl h r j h at) at few has.0 swapped (swap_element st.0 x new w) (swap_element_yields st.0 x new w)
+        (yields (Out q h s base g) p h l regs (left new) w (i.SwapEl h r j h at) at few has.0 tt swapped (swap_element st.0 x new w) (swap_element_yields st.0 x new w)
         (ap (λ o. with_value o w (λ u. with_value (read regs j) w (λ x. with_value (read regs h) w (λ new. answered (active k p regs) (Some h) (left new) at k.below w (swap_element u x new w))))) st.1
         ∙ reads_two regs w j h x new (λ x new. answered (active k p regs) (Some h) (left new) at k.below w (swap_element st.0 x new w)) index waits))
     swaps_element (at_hand r) j x st index has = by st.0 st.1 st.2
@@ -327,7 +329,7 @@ module _ (code : Code) (k : Where) (out : Gives) (n : ℕ) where
         by : (u : Value) → read regs r ≡ Some u → name_of u ≡ name_of v → Reaches code k out n (p + 1) (Out q h s base g) (conf k p regs w) (model.answered at (swap_element v x new w) (calls_in k) l w)
         by (Own m) e same =
             subst (λ a. Reaches code k out n (p + 1) (Out q h s base g) (conf k p regs w) (model.answered at a (calls_in k) l w)) (swap_element_same x new (Own m) v w same)
-            (living_yields (Out q h s base g) p h l regs (left new) w (i.SwapElOwn h r j h at) at few has.0 swapped (swap_element (Own m) x new w) (swap_element_yields (Own m) x new w)
+            (living_yields (Out q h s base g) p h l regs (left new) w (i.SwapElOwn h r j h at) at few has.0 tt swapped (swap_element (Own m) x new w) (swap_element_yields (Own m) x new w)
             (ap next e ∙ reads_two regs w j h x new (λ x new. answered (active k p regs) (Some h) (left new) at k.below w (of_living (swap_element (Own m) x new w))) index waits))
         by (Iso m) e same = bad (Iso m) e refl
         by (Int z) e same = bad (Int z) e refl
@@ -343,7 +345,7 @@ module _ (code : Code) (k : Where) (out : Gives) (n : ℕ) where
 
     pub pops : (q : Gives) → is_value q ≡ true → Runs code k out n (i.Pop h h at ∷ []) (In q h s base g) p regs w (model.answered at (pop v w) (calls_in k) l w)
     pops q some has =
-        yields (In q h s base g) p h l regs regs w (i.Pop h h at) at few has.0 (comes_in q some) (pop v w) (pop_yields v w)
+        yields (In q h s base g) p h l regs regs w (i.Pop h h at) at few has.0 tt (comes_in q some) (pop v w) (pop_yields v w)
         (ap (λ o. with_value o w (λ u. answered (active k p regs) (Some h) regs at k.below w (pop u w))) first)
 
     pub lengths : Runs code k out n (i.Len h h at ∷ []) (In copy h s base g) p regs w (model.answered at (len v w) (calls_in k) l w)
@@ -355,7 +357,7 @@ module _ (code : Code) (k : Where) (out : Gives) (n : ℕ) where
         by : (array_length v w ≡ len v w) ⊎ (array_length v w ≡ fails) → Reaches code k out n (p + 1) (In copy h s base g) (conf k p regs w) (model.answered at (len v w) (calls_in k) l w)
         by (inl e) =
             subst (λ a. Reaches code k out n (p + 1) (In copy h s base g) (conf k p regs w) (model.answered at a (calls_in k) l w)) e
-            (yields (In copy h s base g) p h l regs regs w (i.Len h h at) at few has.0 (comes_in copy refl) (array_length v w) (length_yields v w) lead)
+            (yields (In copy h s base g) p h l regs regs w (i.Len h h at) at few has.0 tt (comes_in copy refl) (array_length v w) (length_yields v w) lead)
         by (inr e) =
             wrongs code k out n p (p + 1) (In copy h s base g) regs w (i.Len h h at) (model.answered at (len v w) (calls_in k) l w) w None has.0
             (lead ∙ ap (λ a. answered (active k p regs) (Some h) regs at k.below w a) e)
@@ -371,7 +373,7 @@ module _ (code : Code) (k : Where) (out : Gives) (n : ℕ) where
         ag' = agrees_down s g l base base h h regs after fa (omega arith) (λ r lt. refl) (λ r lt. let ne : r ≢ h + 1 = omega arith in keeping (h + 1) r new regs ne) ag
 
         by : (a : Answer) → Pushes w a → does code k n p regs w (i.Push h (h + 1) at) ≡ answered (active k p regs) None after at k.below w a → Reaches code k out n (p + 1) (In void h s base g) (conf k p regs w) (model.answered at a (calls_in k) l w)
-        by (gives None u) y e = inr (after, moves code k n p regs w (i.Push h (h + 1) at) _ has.0 e, (tt, ag'), omega (arith, y, few))
+        by (gives None u) y e = inr (after, moves code k n p regs w (i.Push h (h + 1) at) _ tt has.0 e, (tt, ag'), omega (arith, y, few))
         by (gives (Some x) u) y e = absurd y
         by (traps t) y e = inr (stops code k n p regs w w (i.Push h (h + 1) at) _ None has.0 e)
         by fails y e = wrongs code k out n p (p + 1) (In void h s base g) regs w (i.Push h (h + 1) at) (ended Wrong w) w None has.0 e
@@ -407,23 +409,23 @@ module _ (code : Code) (k : Where) (out : Gives) (n : ℕ) where
   frozen_lends (Iso m) = inl refl
 
   module _ (p h : ℕ) (s : Scope) (g : Gone) (base : Base) (l : Locals) (regs : Registers) (w : State) (fa : Falls h s) (ag : Agrees h s g l base regs) (few : w.left ≤ n) where
-    got : (x : Instr) (v : Value) (c : Option Value) → (c ≡ Some (lent v)) ⊎ (c ≡ None) → fetch code k.function p ≡ Some x → does code k n p regs w x ≡ gets (active k p regs) h c regs k.below w → Reaches code k out n (p + 1) (In copy h s base g) (conf k p regs w) (goes (Some (lent v)) l w)
-    got x v c (inl e) has lead = sets code k out n copy p h s g base l regs regs w x (lent v) fa tt ag few has (lead ∙ ap (λ o. gets (active k p regs) h o regs k.below w) e)
-    got x v c (inr e) has lead = wrongs code k out n p (p + 1) (In copy h s base g) regs w x (goes (Some (lent v)) l w) w None has (lead ∙ ap (λ o. gets (active k p regs) h o regs k.below w) e)
+    got : (x : Instr) (v : Value) (c : Option Value) → LawfulInstr code x → (c ≡ Some (lent v)) ⊎ (c ≡ None) → fetch code k.function p ≡ Some x → does code k n p regs w x ≡ gets (active k p regs) h c regs k.below w → Reaches code k out n (p + 1) (In copy h s base g) (conf k p regs w) (goes (Some (lent v)) l w)
+    got x v c lawful (inl e) has lead = sets code k out n copy p h s g base l regs regs w x (lent v) lawful fa tt ag few has (lead ∙ ap (λ o. gets (active k p regs) h o regs k.below w) e)
+    got x v c lawful (inr e) has lead = wrongs code k out n p (p + 1) (In copy h s base g) regs w x (goes (Some (lent v)) l w) w None has (lead ∙ ap (λ o. gets (active k p regs) h o regs k.below w) e)
 
-    got_from : (x : Instr) (r : ℕ) (f : Value → Option Value) (v : Value) → (f v ≡ Some (lent v)) ⊎ (f v ≡ None) → read regs r ≡ Some v → fetch code k.function p ≡ Some x → does code k n p regs w x ≡ with_value (read regs r) w (λ v. gets (active k p regs) h (f v) regs k.below w) → Reaches code k out n (p + 1) (In copy h s base g) (conf k p regs w) (goes (Some (lent v)) l w)
-    got_from x r f v c e has lead = got x v (f v) c has (lead ∙ ap (λ o. with_value o w (λ v. gets (active k p regs) h (f v) regs k.below w)) e)
+    got_from : (x : Instr) (r : ℕ) (f : Value → Option Value) (v : Value) → LawfulInstr code x → (f v ≡ Some (lent v)) ⊎ (f v ≡ None) → read regs r ≡ Some v → fetch code k.function p ≡ Some x → does code k n p regs w x ≡ with_value (read regs r) w (λ v. gets (active k p regs) h (f v) regs k.below w) → Reaches code k out n (p + 1) (In copy h s base g) (conf k p regs w) (goes (Some (lent v)) l w)
+    got_from x r f v lawful c e has lead = got x v (f v) lawful c has (lead ∙ ap (λ o. with_value o w (λ v. gets (active k p regs) h (f v) regs k.below w)) e)
 
     lent_by : (frozen : Bool) (r : ℕ) (v : Value) → read regs r ≡ Some v → Runs code k out n ((if frozen then i.Frozen h r else i.Borrow h r) ∷ []) (In copy h s base g) p regs w (goes (Some (lent v)) l w)
-    lent_by true r v e has = got_from (i.Frozen h r) r (λ v. as_frozen (name_of v)) v (frozen_lends v) e has.0 refl
-    lent_by false r v e has = got_from (i.Borrow h r) r borrowed v (borrowed_lends v) e has.0 refl
+    lent_by true r v e has = got_from (i.Frozen h r) r (λ v. as_frozen (name_of v)) v tt (frozen_lends v) e has.0 refl
+    lent_by false r v e has = got_from (i.Borrow h r) r borrowed v tt (borrowed_lends v) e has.0 refl
 
     lends_by : (owned gone frozen : Bool) (r : ℕ) (u : Held) → Holds owned gone u → read regs r ≡ u → Runs code k out n (if owned then (if gone then i.Truth h 2 ∷ [] else (if frozen then i.Frozen h r else i.Borrow h r) ∷ []) else i.Copy h r ∷ []) (In copy h s base g) p regs w (seen_of l w u)
     lends_by true true frozen r u hold e has = is_stuck code k out n p (p + 1) h (In copy h s base g) regs w (seen_of l w u) has
     lends_by true false frozen r None hold e has = absurd hold
     lends_by true false frozen r (Some v) hold e has = lent_by frozen r v e has
     lends_by false gone frozen r None hold e has = absurd hold
-    lends_by false gone frozen r (Some v) hold e has = got_from (i.Copy h r) r copied v (copied_lends v) e has.0 refl
+    lends_by false gone frozen r (Some v) hold e has = got_from (i.Copy h r) r copied v tt (copied_lends v) e has.0 refl
 
     pub lends : (view : View) (o : Option Entry) (u : Held) → Meets h s g l o u → Runs code k out n (lend_local o g view h) (In copy h s base g) p regs w (seen_of l w u)
     lends view None u m has = is_stuck code k out n p (p + 1) h (In copy h s base g) regs w (seen_of l w u) has

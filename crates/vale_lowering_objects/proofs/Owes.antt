@@ -1,5 +1,5 @@
 -- What goes on after a tick owes the code that runs on to it; and how a function is left.
-use Rattle.std.proofs.Common.{◌≡◌, ℕ, ◌+◌, length, true, ◌<◌, ◌≤◌, List, [], ◌∷◌, Option, Some, None, refl, ap, ◌∙◌, ◌⊎◌, inl, inr}
+use Rattle.std.proofs.Common.{◌≡◌, ℕ, ◌+◌, length, true, ◌<◌, List, [], ◌∷◌, Option, Some, None, refl, ap, ◌∙◌, ◌⊎◌, inl, inr}
 use Rattle.std.specs.Prelude.{slice_get}
 use Rattle.vale_state_spec.specs.Outcome.{Done}
 use Rattle.vale_state_spec.specs.State.{State}
@@ -9,10 +9,10 @@ use Rattle.vale_rules_spec.specs.Typed.{Function, Expr, Block, type}
 use Rattle.vale_rules_spec.specs.Declarations.{head_params}
 use Rattle.vale_model.specs.Kinds.{head_of}
 use Rattle.vale_model.specs.Parts.{Parts}
-use Rattle.vale_model.specs.Runs.{Locals, Result, goes, returned, ended}
+use Rattle.vale_model.specs.Runs.{Locals}
 use Rattle.vale_model.specs.Destruction.{Again}
 use Rattle.vale_code.specs.Enter.{with_func, with_form, form_of, leave_function}
-use Rattle.vale_code.specs.Frames.{Frame, Running, Config, under, leave, resume}
+use Rattle.vale_code.specs.Frames.{Frame, Running, Config, under, leave}
 use Rattle.vale_code.specs.Instructions.{fetch, with_value}
 use Rattle.vale_code.specs.Parts.{Parts as Code}
 use Rattle.vale_code.specs.Registers.{Registers, read, registers_for}
@@ -21,24 +21,17 @@ use Rattle.vale_code.specs.declared.instr.Instr.{Instr}
 use Rattle.vale_code.specs.declared.instr.Instr.TheVariants as i
 use Rattle.vale_lowering.specs.Instructions.{loop_code}
 use Rattle.vale_lowering.proofs.Registers.{Base}
-use Rattle.vale_lowering.proofs.Reaches.{Where, conf, calls_in, HasAt, Comes, Stops, GoesWrong, Leaves, does, moves, stops}
+use Rattle.vale_lowering.proofs.Reaches.{Where, conf, calls_in, HasAt, does, stops}
 use Rattle.vale_lowering_objects.specs.Program.{IsLowered}
 use Rattle.vale_lowering_objects.specs.Scopes.{Gives, void, gives_of, is_value, Scope, Gone, closes, Around}
 use Rattle.vale_lowering_objects.specs.Lowered.{param_gives, result_gives, expr_after, block_after, expr_code, block_code}
 use Rattle.vale_lowering_objects.proofs.Kept.{KeepsAll}
 use Rattle.vale_lowering_objects.proofs.Destruction.{FieldsRun, DestructorsRun}
-use Rattle.vale_lowering_objects.proofs.Registers.{Fits, Falls, Agrees}
+use Rattle.vale_lowering_objects.proofs.Registers.{Falls, Agrees}
+use Rattle.vale_lowering_objects.proofs.LawfulSteps.{LawfulInstr}
 use Rattle.vale_lowering_objects.proofs.Reaches.{FitAll, Keeps, Reaches}
+use Rattle.vale_lowering_objects.proofs.Ways.{ComesBack, Leaves, moves}
 use Rattle.vale_lowering_objects.specs.Program.{given_all}
-
--- what comes back of a call to the frame that goes on after it
-abbrev pub CameBack : Code → ℕ → Locals → Gives → Option ℕ → Frame → List Frame → Config → Result (Option Value) → Type 0
-CameBack code n l0 q to after below c (goes v l w) = Comes code c (record { top = resume to v after; below = below; state = w }) × (l ≡ l0) × Fits q v × (w.left ≤ n)
-CameBack code n l0 q to after below c (returned v w) = ⊥
-CameBack code n l0 q to after below c (ended e w) = Stops code c e w
-
-abbrev pub ComesBack : Code → ℕ → Locals → Gives → Option ℕ → Frame → List Frame → Config → Result (Option Value) → Type 0
-ComesBack code n l0 q to after below c r = GoesWrong code c ⊎ CameBack code n l0 q to after below c r
 
 -- where a function begins
 abbrev pub begins : ℕ → Func → List Value → FrameAt → Option ℕ → List Frame → State → Config
@@ -89,9 +82,9 @@ pub record Follows (code : Code) (functions : List Function) (p : Parts) (again 
 -- ---- the end of a function
 
 module _ (code : Code) (k : Where) (n : ℕ) (is : IsHere code k) where
-  gone : (w : State) (v : Option Value) (below : List Frame) → k.below ≡ below → (p : ℕ) (regs : Registers) (x : Instr) → fetch code k.function p ≡ Some x → does code k n p regs w x ≡ leave below k.dest v w → Leaves code below k.dest (conf k p regs w) v w
-  gone w v [] b p regs x e a = stops code k n p regs w w x Done v e a
-  gone w v (f ∷ below) b p regs x e a = moves code k n p regs w x _ e a
+  gone : (w : State) (v : Option Value) (below : List Frame) → k.below ≡ below → (p : ℕ) (regs : Registers) (x : Instr) → LawfulInstr code x → fetch code k.function p ≡ Some x → does code k n p regs w x ≡ leave below k.dest v w → Leaves code below k.dest (conf k p regs w) v w
+  gone w v [] b p regs x lawful e a = stops code k n p regs w w x Done v e a
+  gone w v (f ∷ below) b p regs x lawful e a = moves code k n p regs w x _ lawful e a
 
   by_form : (v : Option Value) (w : State) → IsPlain is.func → with_form (form_of is.func.form) is.func w (λ form func. leave_function form k.dest v k.below w) ≡ leave k.below k.dest v w
   by_form v w (inl e) = ap (λ m. with_form (form_of m) is.func w (λ form func. leave_function form k.dest v k.below w)) e
@@ -101,7 +94,7 @@ module _ (code : Code) (k : Where) (n : ℕ) (is : IsHere code k) where
   left_by v w = ap (λ o. with_func o w (λ form func. leave_function form k.dest v k.below w)) is.here ∙ by_form v w is.plain
 
   pub leaves : (p h : ℕ) (regs : Registers) (w : State) (v : Value) → fetch code k.function p ≡ Some (i.Ret h) → read regs h ≡ Some v → Leaves code k.below k.dest (conf k p regs w) (Some v) w
-  leaves p h regs w v e r = gone w (Some v) k.below refl p regs (i.Ret h) e (ap (λ o. with_value o w (λ v. with_func (slice_get code.funcs k.function) w (λ form func. leave_function form k.dest (Some v) k.below w))) r ∙ left_by (Some v) w)
+  leaves p h regs w v e r = gone w (Some v) k.below refl p regs (i.Ret h) tt e (ap (λ o. with_value o w (λ v. with_func (slice_get code.funcs k.function) w (λ form func. leave_function form k.dest (Some v) k.below w))) r ∙ left_by (Some v) w)
 
   pub leaves_void : (p : ℕ) (regs : Registers) (w : State) → fetch code k.function p ≡ Some i.RetVoid → Leaves code k.below k.dest (conf k p regs w) None w
-  leaves_void p regs w e = gone w None k.below refl p regs i.RetVoid e (left_by None w)
+  leaves_void p regs w e = gone w None k.below refl p regs i.RetVoid tt e (left_by None w)

@@ -66,4 +66,4 @@ has_main : HasMain code p functions
 has_main = record { main = _; found = refl; number = refl; pure = refl; plain = refl; takes = tt }
 
 destructors_always : (ticks : ℕ) → ((run_code code no_input ticks).end ≡ Wrong → ⊥) → run_code code no_input ticks ≡ meaning program no_input ticks
-destructors_always ticks right = code_means code program functions no_input ticks (code_of_program program same_kinds) has_main right
+destructors_always ticks right = code_means code program functions no_input ticks (code_of_program program same_kinds) has_main refl right

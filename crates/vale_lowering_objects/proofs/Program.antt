@@ -29,14 +29,15 @@ use Rattle.vale_lowering_objects.specs.Program.{IsLowered, IsCode, names_in, bod
 use Rattle.vale_lowering_objects.specs.Scopes.{Gives, void, copy, owner, gives_of, is_owner, agree, Scope, entry, Gone, never, parameters}
 use Rattle.vale_lowering_objects.specs.Lowered.{param_gives, param_gives_of, result_gives, drop_scope, expr_code, expr_after, block_code, block_after}
 use Rattle.vale_lowering_objects.proofs.Kept.{level_keeps}
-use Rattle.vale_lowering_objects.proofs.Destruction.{DestructorsRun, Back, entered, fields_more}
+use Rattle.vale_lowering_objects.proofs.Destruction.{DestructorsRun, fields_more}
 use Rattle.vale_lowering_objects.proofs.Registers.{Fits, Holds, Falls, falls_up, fresh_above, agrees_more, Ties, look, stands, owner_is}
 use Rattle.vale_lowering_objects.proofs.Reaches.{Then, Put, Keeps, FitAll, Reaches, Runs, returned_by, no_more, only_if_runs, then_reaches, closed, loop_tests}
-use Rattle.vale_lowering_objects.proofs.Owes.{ComesBack, begins, IsPlain, CallsRun, TurnsRun, Follows, IsHere, around}
+use Rattle.vale_lowering_objects.proofs.Owes.{begins, IsPlain, CallsRun, TurnsRun, Follows, IsHere, around}
 use Rattle.vale_lowering_objects.proofs.Drops.{leave_void_runs}
 use Rattle.vale_lowering_objects.proofs.Calls.{agree_same}
 use Rattle.vale_lowering_objects.proofs.Posts.{in_keeps, put_in}
 use Rattle.vale_lowering_objects.proofs.Tree.{block_runs, value_runs, then_weaker}
+use Rattle.vale_lowering_objects.proofs.Ways.{ComesBack}
 use Rattle.vale_lowering.proofs.Shapes.{loop_body, loop_test}
 
 -- ---- where a function begins
@@ -208,22 +209,14 @@ module _ (code : Code) (functions : List Function) (p : Parts) (is_code : IsCode
   same_func : (j : ℕ) (a b : Func) → slice_get code.funcs j ≡ Some a → slice_get code.funcs j ≡ Some b → a ≡ b
   same_func j a b e f = let same : Some a ≡ Some b = sym e ∙ f in cc
 
-  as_back : (n : ℕ) (l : Locals) (after : Frame) (below : List Frame) (c : Config) (r : Result (Option Value)) → ComesBack code n l void None after below c r → Back code functions n l after below c r
-  as_back n l after below c r (inl x) = inl x
-  as_back n l after below c (goes None k w) (inr a) = inr (a.0, a.1, tt, a.3)
-  as_back n l after below c (goes (Some v) k w) (inr a) = absurd a.2
-  as_back n l after below c (returned v w) (inr a) = absurd a
-  as_back n l after below c (ended e w) (inr a) = inr a
-
   destructors_by : (again : Again) (n : ℕ) → CallsRun code p functions again n → DestructorsRun code functions again n
   destructors_by again n calls j f d m frame after below l w less =
       let low = is_code.at j f d.meant in
       let same = same_func j low.func d.func low.here d.here in
-      as_back n l after below (entered code functions j d.func m frame (after ∷ below) w) (again.call f (Own m ∷ []) frame (under (after ∷ below)) l w)
-      (subst (λ x. ComesBack code n l void None after below (begins j x (Own m ∷ []) frame None (after ∷ below) w) (again.call f (Own m ∷ []) frame (under (after ∷ below)) l w)) same
+      subst (λ x. ComesBack code n l void None after below (begins j x (Own m ∷ []) frame None (after ∷ below) w) (again.call f (Own m ∷ []) frame (under (after ∷ below)) l w)) same
       (subst (λ us. ComesBack code n l void None after below (begins j low.func us frame None (after ∷ below) w) (again.call f (Own m ∷ []) frame (under (after ∷ below)) l w)) (one_given (head_params (head_of f)) (Own m) d.takes)
       (subst (λ q. ComesBack code n l q None after below (begins j low.func (given_all (head_params (head_of f)) (Own m ∷ [])) frame None (after ∷ below) w) (again.call f (Own m ∷ []) frame (under (after ∷ below)) l w)) d.gives
-      (calls j f low (Own m ∷ []) frame None after below l w less (inr (ap (λ x. x.form) same ∙ d.form)) (subst (λ qs. FitAll qs (Own m ∷ [])) (sym d.takes) (tt, tt))))))
+      (calls j f low (Own m ∷ []) frame None after below l w less (inr (ap (λ x. x.form) same ∙ d.form)) (subst (λ qs. FitAll qs (Own m ∷ [])) (sym d.takes) (tt, tt)))))
 
   -- ---- by induction on the ticks
 

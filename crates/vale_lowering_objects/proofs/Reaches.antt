@@ -15,10 +15,12 @@ use Rattle.vale_code.specs.declared.instr.Instr.TheVariants as i
 use Rattle.vale_lowering.specs.Instructions.{stuck, only_if, loop_code}
 use Rattle.vale_lowering.proofs.Shapes.{loop_end}
 use Rattle.vale_lowering.proofs.Registers.{Base, with_at, with_all, one_above}
-use Rattle.vale_lowering.proofs.Reaches.{Where, active, conf, calls_in, Comes, Stops, GoesWrong, Post, Leaves, HasAt, has_front, has_back, comes_refl, comes_on, comes_stops, comes_leaves, does, moves, stops, free_on, free_back, jumps}
+use Rattle.vale_lowering.proofs.Reaches.{Where, active, conf, calls_in, Stops, Post, HasAt, has_front, has_back, does, stops, free_on, free_back}
 use Rattle.vale_lowering_objects.specs.Scopes.{Gives, Scope, Gone, After, comes, never, no_run, then_after, met, may_meet, same_gone, closes}
 use Rattle.vale_lowering_objects.specs.Lowered.{then_code, if_comes, jump_over, sides}
+use Rattle.vale_lowering_objects.proofs.LawfulSteps.{LawfulInstr}
 use Rattle.vale_lowering_objects.proofs.Registers.{Fits, Falls, Agrees, agrees_met, agrees_down, top_read}
+use Rattle.vale_lowering_objects.proofs.Ways.{Comes, Fails, Leaves, comes_refl, comes_on, comes_stops, comes_fails, comes_leaves, moves, jumps}
 
 -- ---- what holds after a part
 
@@ -67,7 +69,7 @@ module _ (code : Parts) (k : Where) (out : Gives) (n : ℕ) where
   Reached p post c (ended e w) = Stops code c e w
 
   abbrev pub Reaches : {A : Type 0} → ℕ → Post A → Config → Result A → Type 0
-  Reaches p post c r = GoesWrong code c ⊎ Reached p post c r
+  Reaches p post c r = Fails code c ⊎ Reached p post c r
 
   -- how parts run from a place on, up to the place after their code
   abbrev pub Runs : {A : Type 0} → List Instr → Post A → ℕ → Registers → State → Result A → Type 0
@@ -83,17 +85,17 @@ module _ (code : Parts) (k : Where) (out : Gives) (n : ℕ) where
   comes_reached p post c d (ended e w) a b = comes_stops code c d e w a b
 
   pub comes_reaches : {A : Type 0} (p : ℕ) (post : Post A) (c d : Config) (r : Result A) → Comes code c d → Reaches p post d r → Reaches p post c r
-  comes_reaches p post c d r a (inl x) = inl (x.0, comes_stops code c d Wrong x.0 a x.1)
+  comes_reaches p post c d r a (inl x) = inl (comes_fails code c d a x)
   comes_reaches p post c d r a (inr b) = inr (comes_reached p post c d r a b)
 
   pub wrongs : {A : Type 0} (p q : ℕ) (post : Post A) (regs : Registers) (w : State) (x : Instr) (r : Result A) (u : State) (v : Option Value) → fetch code k.function p ≡ Some x → does code k n p regs w x ≡ Over Wrong v u → Reaches q post (conf k p regs w) r
-  wrongs p q post regs w x r u v e a = inl (u, stops code k n p regs w u x Wrong v e a)
+  wrongs p q post regs w x r u v e a = inl (inl (u, stops code k n p regs w u x Wrong v e a))
 
   -- an instruction, by what it leads to
-  pub by_next : {A : Type 0} (p q : ℕ) (post : Post A) (regs : Registers) (w : State) (x : Instr) (next : Next) (r : Result A) → fetch code k.function p ≡ Some x → does code k n p regs w x ≡ next → NextReaches q post next r → Reaches q post (conf k p regs w) r
-  by_next p q post regs w x (On c) r e a b = comes_reaches q post _ c r (moves code k n p regs w x c e a) b
-  by_next p q post regs w x (Over o v u) r e a (inl is) = inl (u, subst (λ y. Stops code (conf k p regs w) y u) is (stops code k n p regs w u x o v e a))
-  by_next p q post regs w x (Over o v u) r e a (inr is) = inr (subst (Reached q post (conf k p regs w)) (sym is) (stops code k n p regs w u x o v e a))
+  pub by_next : {A : Type 0} (p q : ℕ) (post : Post A) (regs : Registers) (w : State) (x : Instr) (next : Next) (r : Result A) → LawfulInstr code x → fetch code k.function p ≡ Some x → does code k n p regs w x ≡ next → NextReaches q post next r → Reaches q post (conf k p regs w) r
+  by_next p q post regs w x (On c) r lawful e a b = comes_reaches q post _ c r (moves code k n p regs w x c lawful e a) b
+  by_next p q post regs w x (Over o v u) r lawful e a (inl is) = inl (inl (u, subst (λ y. Stops code (conf k p regs w) y u) is (stops code k n p regs w u x o v e a)))
+  by_next p q post regs w x (Over o v u) r lawful e a (inr is) = inr (subst (Reached q post (conf k p regs w)) (sym is) (stops code k n p regs w u x o v e a))
 
   then_reached : {A B : Type 0} (p q : ℕ) (post : Post A) (post' : Post B) (c : Config) (r : Result A) (go : A → Locals → State → Result B) → Reached p post c r → ((v : A) (l : Locals) (w : State) (regs : Registers) → post v l regs → w.left ≤ n → Reaches q post' (conf k p regs w) (go v l w)) → Reaches q post' c (then_do r go)
   then_reached p q post post' c (goes v l w) go a b = comes_reaches q post' c _ (go v l w) a.1 (b v l w a.0 a.2 a.3)
@@ -192,9 +194,9 @@ module _ (code : Parts) (k : Where) (out : Gives) (n : ℕ) where
   -- a test and two sides
   pub chooses : {A : Type 0} (v : Value) (h other p q : ℕ) (post : Post A) (regs : Registers) (l : Locals) (w : State) (a b : Run A) → read regs h ≡ Some v → fetch code k.function p ≡ Some (i.Unless h other) → p < other → (v ≡ Truth true → Reaches q post (conf k (p + 1) regs w) (a (calls_in k) l w)) → (v ≡ Truth false → Reaches q post (conf k other regs w) (b (calls_in k) l w)) → Reaches q post (conf k p regs w) (choose v a b (calls_in k) l w)
   chooses (Truth true) h other p q post regs l w a b e at lt ra rb =
-      comes_reaches q post _ (conf k (p + 1) regs w) (a (calls_in k) l w) (moves code k n p regs w (i.Unless h other) _ at (ap (λ o. with_truth o w (jump_unless code (active k p regs) other k.below w)) e)) (ra refl)
+      comes_reaches q post _ (conf k (p + 1) regs w) (a (calls_in k) l w) (moves code k n p regs w (i.Unless h other) _ tt at (ap (λ o. with_truth o w (jump_unless code (active k p regs) other k.below w)) e)) (ra refl)
   chooses (Truth false) h other p q post regs l w a b e at lt ra rb =
-      comes_reaches q post _ (conf k other regs w) (b (calls_in k) l w) (moves code k n p regs w (i.Unless h other) _ at (ap (λ o. with_truth o w (jump_unless code (active k p regs) other k.below w)) e ∙ ap (λ x. jump_by x (active k p regs) other k.below w) (free_on code k n p other regs lt))) (rb refl)
+      comes_reaches q post _ (conf k other regs w) (b (calls_in k) l w) (moves code k n p regs w (i.Unless h other) _ tt at (ap (λ o. with_truth o w (jump_unless code (active k p regs) other k.below w)) e ∙ ap (λ x. jump_by x (active k p regs) other k.below w) (free_on code k n p other regs lt))) (rb refl)
   chooses (Int m) h other p q post regs l w a b e at lt ra rb = wrongs p q post regs w (i.Unless h other) (ended Wrong w) w None at (ap (λ o. with_truth o w (jump_unless code (active k p regs) other k.below w)) e)
   chooses (Text t) h other p q post regs l w a b e at lt ra rb = wrongs p q post regs w (i.Unless h other) (ended Wrong w) w None at (ap (λ o. with_truth o w (jump_unless code (active k p regs) other k.below w)) e)
   chooses (Own m) h other p q post regs l w a b e at lt ra rb = wrongs p q post regs w (i.Unless h other) (ended Wrong w) w None at (ap (λ o. with_truth o w (jump_unless code (active k p regs) other k.below w)) e)
@@ -280,7 +282,7 @@ module _ (code : Parts) (k : Where) (out : Gives) (n : ℕ) where
   -- ---- loops
 
   -- a tick, and what goes on with one less
-  ticks : {A : Type 0} (p q : ℕ) (post : Post A) (regs : Registers) (l : Locals) (w : State) (go : Run A) → fetch code k.function p ≡ Some i.Tick → w.left ≤ n → ((u : State) → u.left < n → Reaches q post (conf k (p + 1) regs u) (go (calls_in k) l u)) → Reaches q post (conf k p regs w) ((tick >>= (λ _. go)) (calls_in k) l w)
+  pub ticks : {A : Type 0} (p q : ℕ) (post : Post A) (regs : Registers) (l : Locals) (w : State) (go : Run A) → fetch code k.function p ≡ Some i.Tick → w.left ≤ n → ((u : State) → u.left < n → Reaches q post (conf k (p + 1) regs u) (go (calls_in k) l u)) → Reaches q post (conf k p regs w) ((tick >>= (λ _. go)) (calls_in k) l w)
   ticks p q post regs l w go e few rest = by_left w.left refl
     where
       ticks_of : Option State → Next
@@ -295,7 +297,7 @@ module _ (code : Parts) (k : Where) (out : Gives) (n : ℕ) where
           let u : State = record w { left = m; spent = w.spent + 1 } in
           let some : spend w ≡ Some u = ap (λ m. spend_of m w) e' in
           subst (λ o. Reaches q post (conf k p regs w) (then_do (model.ticked o (calls_in k) l w) (λ v. go (calls_in k)))) (sym some)
-          (comes_reaches q post _ (conf k (p + 1) regs u) (go (calls_in k) l u) (moves code k n p regs w i.Tick _ e (ap (λ o. ticks_of o) some)) (rest u (omega arith)))
+          (comes_reaches q post _ (conf k (p + 1) regs u) (go (calls_in k) l u) (moves code k n p regs w i.Tick _ tt e (ap (λ o. ticks_of o) some)) (rest u (omega arith)))
 
   pub closed : {A : Type 0} (o : After) (p h : ℕ) (s : Scope) (g : Gone) (base : Base) (c : Config) (r : Result A) → closes s g o ≡ true → Reaches p (Then o (Keeps {A = A} h s base)) c r → Reaches p (Keeps {A = A} h s base g) c r
   closed (never g') p h s g base c r e a = never_goes g' p p (Keeps h s base) (Keeps h s base) (comes g) c r a

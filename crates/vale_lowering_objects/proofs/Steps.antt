@@ -3,6 +3,7 @@ use Rattle.std.proofs.Common.{◌≡◌, ◌≢◌, ℕ, zero, suc, ◌+◌, ◌
 use Rattle.vale_state_spec.specs.Outcome.{Cut, Wrong}
 use Rattle.vale_state_spec.specs.State.{State, Answer, dies, gives, traps, fails, spend, spend_of, object_of, make, born, print, print_text, shown}
 use Rattle.vale_state_spec.specs.World.{Value, Int, Truth, Text, Own, Ref, Iso, Object}
+use Rattle.vale_base.specs.Limits.{width_limit}
 use Rattle.vale_base.specs.declared.name.Kind.{Kind}
 use Rattle.vale_base.specs.declared.spot.Spot.{Spot}
 use Rattle.vale_model.specs.Runs as model
@@ -18,12 +19,14 @@ use Rattle.vale_code.specs.declared.instr.Instr.TheVariants as i
 use Rattle.vale_lowering.specs.Instructions.{registers_from}
 use Rattle.vale_lowering.proofs.Registers.{Held, Base, with_at, with_all, one_above, pick_same, pick_other, read_put, Stand}
 use Rattle.vale_model.specs.Loops.{emptied, taken_apart}
-use Rattle.vale_lowering.proofs.Reaches.{Where, active, conf, calls_in, Post, Comes, comes_on, does, moves, stops}
+use Rattle.vale_lowering.proofs.Reaches.{Where, active, conf, calls_in, Post, does, stops}
 use Rattle.vale_lowering_objects.specs.Scopes.{Gives, void, copy, owner, is_owner, same_truth, Entry, Scope, Gone, is_gone}
 use Rattle.vale_lowering_objects.specs.Lowered.{move_out, moved_out, exchange_by, exchange}
 use Rattle.vale_lowering_objects.proofs.Destruction.{IsOwned}
+use Rattle.vale_lowering_objects.proofs.LawfulSteps.{LawfulInstr}
 use Rattle.vale_lowering_objects.proofs.Registers.{Fits, Holds, Falls, Agrees, agrees_put, agrees_down, Meets, Empties, agrees_emptied, Takes, agrees_taken, agrees_all, top_read, same_truths}
 use Rattle.vale_lowering_objects.proofs.Reaches.{In, Reaches, Runs, wrongs, is_stuck, comes_reaches}
+use Rattle.vale_lowering_objects.proofs.Ways.{Comes, comes_on, moves}
 
 -- ---- registers of a list
 
@@ -38,6 +41,10 @@ keeping h r (Int z) regs ne = refl
 keeping h r (Truth b) regs ne = refl
 keeping h r (Text t) regs ne = refl
 keeping h r (Ref n) regs ne = refl
+
+as_many_from : (h count : ℕ) → length (registers_from h count) ≡ count
+as_many_from h zero = refl
+as_many_from h (suc count) = ap suc (as_many_from (h + 1) count)
 
 -- the values of registers from h on are read, and those below h stay
 abbrev pub ReadAll : ℕ → List Value → Registers → Type 0
@@ -116,26 +123,26 @@ born_left kind vs s = left_if s.quiet _ _ refl
 
 module _ (code : Code) (k : Where) (out : Gives) (n : ℕ) where
   -- an instruction that goes on with a value in h
-  pub sets : (q : Gives) (p h : ℕ) (s : Scope) (g : Gone) (base : Base) (l : Locals) (regs regs' : Registers) (w : State) (x : Instr) (v : Value) → Falls h s → Fits q (Some v) → Agrees h s g l base regs' → w.left ≤ n → fetch code k.function p ≡ Some x → does code k n p regs w x ≡ onward (active k p regs) (put regs' h (Some v)) k.below w → Reaches code k out n (p + 1) (In q h s base g) (conf k p regs w) (goes (Some v) l w)
-  sets q p h s g base l regs regs' w x v fa fit ag few e a =
-      inr (put regs' h (Some v), moves code k n p regs w x _ e a, (fit, agrees_put s g l base base h h (Some v) regs' fa (omega arith) (λ r lt. refl) ag), few)
+  pub sets : (q : Gives) (p h : ℕ) (s : Scope) (g : Gone) (base : Base) (l : Locals) (regs regs' : Registers) (w : State) (x : Instr) (v : Value) → LawfulInstr code x → Falls h s → Fits q (Some v) → Agrees h s g l base regs' → w.left ≤ n → fetch code k.function p ≡ Some x → does code k n p regs w x ≡ onward (active k p regs) (put regs' h (Some v)) k.below w → Reaches code k out n (p + 1) (In q h s base g) (conf k p regs w) (goes (Some v) l w)
+  sets q p h s g base l regs regs' w x v lawful fa fit ag few e a =
+      inr (put regs' h (Some v), moves code k n p regs w x _ lawful e a, (fit, agrees_put s g l base base h h (Some v) regs' fa (omega arith) (λ r lt. refl) ag), few)
 
   -- an instruction that answers with a value
-  pub answers : (p h : ℕ) (s : Scope) (g : Gone) (base : Base) (l : Locals) (regs : Registers) (w : State) (x : Instr) (at : Spot) (a : Answer) → Falls h s → Agrees h s g l base regs → w.left ≤ n → Answers w a → fetch code k.function p ≡ Some x → does code k n p regs w x ≡ answered (active k p regs) (Some h) regs at k.below w a → Reaches code k out n (p + 1) (In copy h s base g) (conf k p regs w) (model.answered at a (calls_in k) l w)
-  answers p h s g base l regs w x at (gives None u) fa ag few fit e a = absurd fit
-  answers p h s g base l regs w x at (gives (Some v) u) fa ag few fit e a =
+  pub answers : (p h : ℕ) (s : Scope) (g : Gone) (base : Base) (l : Locals) (regs : Registers) (w : State) (x : Instr) (at : Spot) (a : Answer) → LawfulInstr code x → Falls h s → Agrees h s g l base regs → w.left ≤ n → Answers w a → fetch code k.function p ≡ Some x → does code k n p regs w x ≡ answered (active k p regs) (Some h) regs at k.below w a → Reaches code k out n (p + 1) (In copy h s base g) (conf k p regs w) (model.answered at a (calls_in k) l w)
+  answers p h s g base l regs w x at (gives None u) lawful fa ag few fit e a = absurd fit
+  answers p h s g base l regs w x at (gives (Some v) u) lawful fa ag few fit e a =
       subst (λ u. does code k n p regs w x ≡ answered (active k p regs) (Some h) regs at k.below w (gives (Some v) u) → Reaches code k out n (p + 1) (In copy h s base g) (conf k p regs w) (goes (Some v) l u)) (sym fit)
-      (λ a. sets copy p h s g base l regs regs w x v fa tt ag few e a) a
-  answers p h s g base l regs w x at (traps t) fa ag few fit e a = inr (stops code k n p regs w w x _ None e a)
-  answers p h s g base l regs w x at fails fa ag few fit e a = wrongs code k out n p (p + 1) (In copy h s base g) regs w x (ended Wrong w) w None e a
+      (λ a. sets copy p h s g base l regs regs w x v lawful fa tt ag few e a) a
+  answers p h s g base l regs w x at (traps t) lawful fa ag few fit e a = inr (stops code k n p regs w w x _ None e a)
+  answers p h s g base l regs w x at fails lawful fa ag few fit e a = wrongs code k out n p (p + 1) (In copy h s base g) regs w x (ended Wrong w) w None e a
 
-  pub surely : (p h : ℕ) (s : Scope) (g : Gone) (base : Base) (l : Locals) (regs : Registers) (w : State) (x : Instr) (at : Spot) (a : Answer) → Falls h s → Agrees h s g l base regs → w.left ≤ n → Answers w a → fetch code k.function p ≡ Some x → does code k n p regs w x ≡ certain (active k p regs) (Some h) regs k.below w a → Reaches code k out n (p + 1) (In copy h s base g) (conf k p regs w) (model.answered at a (calls_in k) l w)
-  surely p h s g base l regs w x at (gives None u) fa ag few fit e a = absurd fit
-  surely p h s g base l regs w x at (gives (Some v) u) fa ag few fit e a =
+  pub surely : (p h : ℕ) (s : Scope) (g : Gone) (base : Base) (l : Locals) (regs : Registers) (w : State) (x : Instr) (at : Spot) (a : Answer) → LawfulInstr code x → Falls h s → Agrees h s g l base regs → w.left ≤ n → Answers w a → fetch code k.function p ≡ Some x → does code k n p regs w x ≡ certain (active k p regs) (Some h) regs k.below w a → Reaches code k out n (p + 1) (In copy h s base g) (conf k p regs w) (model.answered at a (calls_in k) l w)
+  surely p h s g base l regs w x at (gives None u) lawful fa ag few fit e a = absurd fit
+  surely p h s g base l regs w x at (gives (Some v) u) lawful fa ag few fit e a =
       subst (λ u. does code k n p regs w x ≡ certain (active k p regs) (Some h) regs k.below w (gives (Some v) u) → Reaches code k out n (p + 1) (In copy h s base g) (conf k p regs w) (goes (Some v) l u)) (sym fit)
-      (λ a. sets copy p h s g base l regs regs w x v fa tt ag few e a) a
-  surely p h s g base l regs w x at (traps t) fa ag few fit e a = wrongs code k out n p (p + 1) (In copy h s base g) regs w x (model.answered at (traps t) (calls_in k) l w) w None e a
-  surely p h s g base l regs w x at fails fa ag few fit e a = wrongs code k out n p (p + 1) (In copy h s base g) regs w x (ended Wrong w) w None e a
+      (λ a. sets copy p h s g base l regs regs w x v lawful fa tt ag few e a) a
+  surely p h s g base l regs w x at (traps t) lawful fa ag few fit e a = wrongs code k out n p (p + 1) (In copy h s base g) regs w x (model.answered at (traps t) (calls_in k) l w) w None e a
+  surely p h s g base l regs w x at fails lawful fa ag few fit e a = wrongs code k out n p (p + 1) (In copy h s base g) regs w x (ended Wrong w) w None e a
 
   -- a copy or a move of what can't be copied or moved
   pub copy_wrongs : {A : Type 0} (p q to from : ℕ) (post : Post A) (regs : Registers) (w : State) (v : Value) (r : Result A) → copied v ≡ None → read regs from ≡ Some v → fetch code k.function p ≡ Some (i.Copy to from) → Reaches code k out n q post (conf k p regs w) r
@@ -164,7 +171,7 @@ module _ (code : Code) (k : Where) (out : Gives) (n : ℕ) where
         by : IsOwned v ⊎ (moved v ≡ None) → Reaches code k out n (p + 1) (In owner h s base (x.register ∷ g)) (conf k p regs w) (taken (Some v))
         by (inr bad) = move_wrongs p (p + 1) h x.register (In owner h s base (x.register ∷ g)) regs w v (taken (Some v)) bad e has.0
         by (inl own) =
-            sets owner p h s (x.register ∷ g) base (change l) regs (put regs x.register None) w (i.Move h x.register) v fa tt (agrees_emptied s g l (change l) base h x regs eo em ag) few has.0
+            sets owner p h s (x.register ∷ g) base (change l) regs (put regs x.register None) w (i.Move h x.register) v tt fa tt (agrees_emptied s g l (change l) base h x regs eo em ag) few has.0
             (ap (λ o. with_value o w (λ v. gets (active k p regs) h (moved v) (put regs x.register None) k.below w)) e
             ∙ ap (λ o. gets (active k p regs) h o (put regs x.register None) k.below w) (moved_same v own))
 
@@ -176,12 +183,12 @@ module _ (code : Code) (k : Where) (out : Gives) (n : ℕ) where
 
   pub copies : (p to from : ℕ) (regs : Registers) (w : State) (v : Value) → IsCopied v → read regs from ≡ Some v → fetch code k.function p ≡ Some (i.Copy to from) → Comes code (conf k p regs w) (conf k (p + 1) (put regs to (Some v)) w)
   copies p to from regs w v c e has =
-      moves code k n p regs w (i.Copy to from) _ has
+      moves code k n p regs w (i.Copy to from) _ tt has
       (ap (λ o. with_value o w (λ v. gets (active k p regs) to (copied v) regs k.below w)) e ∙ ap (λ o. gets (active k p regs) to o regs k.below w) (copied_same v c))
 
   pub shifts : (p to from : ℕ) (regs : Registers) (w : State) (v : Value) → IsOwned v → read regs from ≡ Some v → fetch code k.function p ≡ Some (i.Move to from) → Comes code (conf k p regs w) (conf k (p + 1) (put (put regs from None) to (Some v)) w)
   shifts p to from regs w v c e has =
-      moves code k n p regs w (i.Move to from) _ has
+      moves code k n p regs w (i.Move to from) _ tt has
       (ap (λ o. with_value o w (λ v. gets (active k p regs) to (moved v) (put regs from None) k.below w)) e ∙ ap (λ o. gets (active k p regs) to o (put regs from None) k.below w) (moved_same v c))
 
   pub put_other : (regs : Registers) (d r : ℕ) (v : Held) → r ≢ d → read (put regs d v) r ≡ read regs r
@@ -326,11 +333,14 @@ module _ (code : Code) (k : Where) (out : Gives) (n : ℕ) where
 
   -- ---- an object is made
 
-  pub make_runs : (kind : Kind) (at : Spot) (vs : List Value) (p h : ℕ) (s : Scope) (g : Gone) (base : Base) (l : Locals) (regs : Registers) (w : State) → Falls h s → Stand h vs regs → Agrees h s g l base regs → w.left ≤ n → Runs code k out n (i.Make h kind (registers_from h (length vs)) ∷ []) (In owner h s base g) p regs w ((tick >>= (λ _. step at (make kind vs))) (calls_in k) l w)
-  make_runs kind at vs p h s g base l regs w fa st ag few has = by_count (holds_values (kind_of code kind) (length args)) refl
+  pub make_runs : (kind : Kind) (at : Spot) (vs : List Value) → length vs ≤ width_limit → (p h : ℕ) (s : Scope) (g : Gone) (base : Base) (l : Locals) (regs : Registers) (w : State) → Falls h s → Stand h vs regs → Agrees h s g l base regs → w.left ≤ n → Runs code k out n (i.Make h kind (registers_from h (length vs)) ∷ []) (In owner h s base g) p regs w ((tick >>= (λ _. step at (make kind vs))) (calls_in k) l w)
+  make_runs kind at vs small_count p h s g base l regs w fa st ag few has = by_count (holds_values (kind_of code kind) (length args)) refl
     where
       args : List ℕ
       args = registers_from h (length vs)
+
+      small : length args ≤ width_limit
+      small = let e = as_many_from h (length vs) in omega (arith, e, small_count)
 
       read_them : ReadAll h vs regs
       read_them = reads_all h vs regs st
@@ -356,7 +366,7 @@ module _ (code : Code) (k : Where) (out : Gives) (n : ℕ) where
       by_left : (m : ℕ) → w.left ≡ m → does code k n p regs w (i.Make h kind args) ≡ next (spend_of m w) → Reaches code k out n (p + 1) (In owner h s base g) (conf k p regs w) (result (spend_of m w))
       by_left zero e lead = inr (stops code k n p regs w w (i.Make h kind args) Cut None has.0 lead)
       by_left (suc m) e lead =
-          inr (put after h _, moves code k n p regs w (i.Make h kind args) _ has.0 lead, (tt, agrees_put s g l base base h h _ after fa (omega arith) (λ r lt. refl) ag'), let same = born_left kind vs (record w { left = m; spent = w.spent + 1 }) in omega (arith, few, e, same))
+          inr (put after h _, moves code k n p regs w (i.Make h kind args) _ small has.0 lead, (tt, agrees_put s g l base base h h _ after fa (omega arith) (λ r lt. refl) ag'), let same = born_left kind vs (record w { left = m; spent = w.spent + 1 }) in omega (arith, few, e, same))
 
       by_count : (b : Bool) → holds_values (kind_of code kind) (length args) ≡ b → Reaches code k out n (p + 1) (In owner h s base g) (conf k p regs w) (result (spend w))
       by_count true e = by_left w.left refl (leads e)
@@ -379,7 +389,7 @@ module _ (code : Code) (k : Where) (out : Gives) (n : ℕ) where
           (wrongs code k out n p (p + 1) (In void h s base g) regs w (i.Print h 1) (ended Wrong w) w None has.0 (lead ∙ ap next is))
       by (Some bytes) is =
           subst (λ o. Reaches code k out n (p + 1) (In void h s base g) (conf k p regs w) (model.answered at (print_text true o w) (calls_in k) l w)) (sym is)
-          (inr (regs, moves code k n p regs w (i.Print h 1) _ has.0 (lead ∙ ap next is), (tt, ag), few))
+          (inr (regs, moves code k n p regs w (i.Print h 1) _ tt has.0 (lead ∙ ap next is), (tt, ag), few))
 
   -- ---- an object is taken apart
 
@@ -421,7 +431,7 @@ module _ (code : Code) (k : Where) (out : Gives) (n : ℕ) where
 
         by_left : (rs : Registers) → does code k n p regs w (i.Open (registers_from h count) h) ≡ next (spend w) rs → length o.values ≡ count → Agrees (h + length o.values) s g l (with_all h o.values base) rs → (q : ℕ) → w.left ≡ q → does code k n p regs w (i.Open (registers_from h count) h) ≡ next (spend_of q w) rs → Reaches code k out n (p + 1) (Came count h s base g) (conf k p regs w) (result (spend_of q w))
         by_left rs e many a zero is lead = inr (stops code k n p regs w w (i.Open (registers_from h count) h) Cut None has lead)
-        by_left rs e many a (suc q) is lead = inr (rs, moves code k n p regs w (i.Open (registers_from h count) h) _ has lead, (many, a), omega (arith, few, is))
+        by_left rs e many a (suc q) is lead = inr (rs, moves code k n p regs w (i.Open (registers_from h count) h) _ tt has lead, (many, a), omega (arith, few, is))
 
         by : Puts h count o.values (put regs h None) → Reaches code k out n (p + 1) (Came count h s base g) (conf k p regs w) (parted m (Some o))
         by (inr none) =

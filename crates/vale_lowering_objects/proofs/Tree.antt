@@ -1,5 +1,5 @@
 -- The code of each part of a program does what the part means: by induction on the tree.
-use Rattle.std.proofs.Common.{◌≡◌, ◌≢◌, ℕ, suc, ◌+◌, ◌<◌, ◌≤◌, List, [], ◌∷◌, ◌++◌, length, Option, Some, None, Bool, true, false, ◌&&◌, refl, sym, ap, ◌∙◌, subst, ◌⊎◌, inl, inr, arith}
+use Rattle.std.proofs.Common.{◌≡◌, ◌≢◌, ℕ, ℤ, suc, ◌+◌, ◌<◌, ◌≤◌, List, [], ◌∷◌, ◌++◌, length, Option, Some, None, Bool, true, false, ◌&&◌, refl, sym, ap, ◌∙◌, subst, ◌⊎◌, inl, inr, arith}
 use Rattle.vale_state_spec.specs.State.{State, load, element, swap, swap_element as swapped_element}
 use Rattle.std.specs.Prelude.{slice_get}
 use Rattle.vale_state_spec.specs.World.{Value, Int, Truth, Text}
@@ -14,8 +14,8 @@ use Rattle.vale_model.specs.Parts.{Parts, field_place}
 use Rattle.vale_model.specs.Runs.{Run, Locals, Result, goes, then_do, the_value, valued, give, choose, held_by, with_held, outer, innermost, while_waits, step}
 use Rattle.vale_model.specs.Destruction.{Again, drop, drop_owned, leave, with_local, with_locals}
 use Rattle.vale_model.specs.Loops.{taken_apart}
-use Rattle.vale_model.specs.Expressions.{expr_run, node_run, exprs_run, links_run, link_run, unary_run, form_run, elses_run, block_run, stmts_run, stmt_run, set_run, set_steps, set_step, step_run, steps_run, made, callee_run, numbers_of, expr_spot, on_place}
-use Rattle.vale_code.specs.Instructions.{with_value, with_choice, onward, gets, copied, moved}
+use Rattle.vale_model.specs.Expressions.{expr_run, node_run, exprs_run, links_run, link_run, unary_run, form_run, elses_run, block_run, stmts_run, stmt_run, set_run, set_steps, set_step, step_run, steps_run, iteration_body, made, callee_run, numbers_of, expr_spot, on_place}
+use Rattle.vale_code.specs.Instructions.{with_choice, onward, moved}
 use Rattle.vale_code.specs.Parts.{Parts as Code}
 use Rattle.vale_code.specs.Registers.{Registers, read, put}
 use Rattle.vale_code.specs.declared.instr.Instr.{Instr}
@@ -24,31 +24,34 @@ use Rattle.vale_lowering.specs.Instructions.{unary_code, registers_from}
 use Rattle.vale_lowering.specs.Scopes.{number_of_text}
 use Rattle.vale_lowering.specs.Texts.{is_lawful_text}
 use Rattle.vale_lowering.proofs.Lookups.{text_or_none}
-use Rattle.vale_lowering.proofs.Registers.{Held, Base, with_at, with_all, one_above, pick_other, read_put, pick_same}
-use Rattle.vale_lowering.proofs.Reaches.{Where, active, conf, calls_in, Post, moves, jumps, free_on}
+use Rattle.vale_lowering.proofs.Registers.{Held, Base, with_at, with_all, one_above, pick_same}
+use Rattle.vale_lowering.proofs.Reaches.{Where, active, conf, calls_in, Post, free_on}
 use Rattle.vale_lowering.proofs.Shapes.{loop_test}
 use Rattle.vale_lowering_objects.specs.Destruction.{SameKinds}
 use Rattle.vale_lowering_objects.specs.Scopes.{Gives, void, copy, owner, gives_of, is_value, is_owner, agree, Scope, entry, waiting, find, Gone, without, After, comes, never, no_run, then_after, met, may_meet, closes, Around}
 use Rattle.vale_lowering_objects.specs.Changes.{expr_changes, step_changes}
-use Rattle.vale_lowering_objects.specs.Lowered.{Origin, reference, then_code, if_comes, turns_code, loop_after, locals_after, locals_code, all_gives, gives_list, first_type, hand, exchange, store, lend_local, step_view, load_field, load_element, swap_field, swap_element, drop_value, drop_entry, drop_scope, move_out, make_code, link_after, link_code, links_after, links_code, expr_after, node_after, args_after, start_after, step_after, steps_after, place_after, targets_after, form_after, elses_after, block_after, stmts_after, stmt_after, callee_code, expr_code, node_code, borrow_code, start_code, step_code, steps_code, place_code, targets_code, swap_code, args_code, form_code, elses_code, block_code, stmts_code, stmt_code}
+use Rattle.vale_lowering_objects.specs.Lowered.{Origin, reference, then_code, if_comes, turns_code, loop_after, locals_after, locals_code, all_gives, gives_list, first_type, hand, exchange, store, lend_local, step_view, load_field, load_element, swap_field, swap_element, drop_value, drop_entry, drop_scope, move_out, make_code, link_after, link_code, links_after, links_code, expr_after, node_after, args_after, start_after, step_after, steps_after, place_after, targets_after, form_after, elses_after, block_after, stmts_after, stmt_after, callee_code, expr_code, node_code, borrow_code, start_code, step_code, steps_code, place_code, targets_code, swap_code, args_code, form_code, elses_code, block_code, stmts_code, stmt_code, count_code}
 use Rattle.vale_lowering_objects.proofs.Kept.{valued_keeps, expr_keeps, still_holds}
 use Rattle.vale_lowering_objects.proofs.Origins.{some_fits, Still, still_reference, Out, RestRuns, loads, elements, swaps, swaps_element, lends, with_fact, start_value, start_local, then_assoc}
 use Rattle.vale_lowering_objects.proofs.Stores.{stores, replaced}
-use Rattle.vale_lowering_objects.proofs.Destruction.{IsOwned}
 use Rattle.vale_lowering_objects.proofs.Owes.{IsHere, Follows}
 use Rattle.vale_lowering_objects.proofs.Operators.{link_runs, unary_runs}
 use Rattle.vale_lowering_objects.specs.Program.{IsCode}
-use Rattle.vale_lowering_objects.proofs.Registers.{Fits, Falls, falls_up, Fresh, fresh_above, Agrees, agrees_down, agrees_dest, agrees_more, agrees_push, agrees_wait, agrees_done, agrees_top, agrees_push_first, owner_is, top_read, takes, meets, empties, stands, and_first, and_second, look_above}
+use Rattle.vale_lowering_objects.proofs.Registers.{Fits, Falls, falls_up, Fresh, fresh_above, Agrees, agrees_down, agrees_more, agrees_push, agrees_wait, agrees_done, agrees_top, agrees_push_first, owner_is, top_read, takes, meets, empties, stands, and_first, and_second, look_above}
 use Rattle.vale_lowering_objects.proofs.Reaches.{Then, In, Val, Put, Keeps, All, Reaches, Runs, then_reaches, weaker, stays, stays_at, is_stuck, only_if_runs, then_more, joined, joined_last, values, one_after, sides_run, loop_tests, comes_reaches, stops_there, ended_by, returned_by, wrongs}
 use Rattle.vale_lowering_objects.proofs.Drops.{Without, destroys, entry_runs, leave_runs, leave_void_runs}
-use Rattle.vale_lowering_objects.proofs.Steps.{IsCopied, moved_same, copied_same, copied_or_not, moved_or_not, copy_wrongs, move_wrongs, sets, move_runs, Came, open_runs, set_runs, changed as set_changed}
+use Rattle.vale_lowering_objects.proofs.Steps.{sets, move_runs, Came, open_runs, set_runs, changed as set_changed}
 use Rattle.vale_lowering_objects.proofs.Freezes.{freezes, keeps_region, thaws, merges}
 use Rattle.vale_state_spec.specs.State.{freeze, thaw, end_of_isolate, isolated}
 use Rattle.vale_model.specs.Runs.{deep}
 use Rattle.vale_model.specs.Expressions.{end_of_block}
 use Rattle.vale_lowering_objects.specs.Lowered.{freeze_code, thaw_code}
-use Rattle.vale_lowering_objects.proofs.Posts.{agree_same, value_some, in_met, in_keeps, put_in, put_pop, put_top, dropped, given, as_it_is}
+use Rattle.vale_lowering_objects.proofs.Posts.{agree_same, value_some, in_met, in_keeps, put_in, put_keeps, put_pop, put_top, dropped, given, hands, as_it_is}
 use Rattle.vale_lowering_objects.proofs.Callees.{callee_runs, makes}
+use Rattle.vale_lowering_objects.proofs.Counts.{count_runs}
+use Rattle.vale_lowering_objects.proofs.LawfulSteps.{LawfulInstr}
+use Rattle.vale_lowering_objects.proofs.Ways.{jumps}
+use Rattle.vale_lowering.proofs.Ranges.{IsLawful, lawful}
 
 module _ (code : Code) (functions : List Function) (p0 : Parts) (is_code : IsCode code p0 functions) (k : Where) (out : Gives) (is : IsHere code k) (n : ℕ) (again : Again) (follows : Follows code functions p0 again n) where
   abbrev kinds : SameKinds code functions p0
@@ -68,40 +71,6 @@ module _ (code : Code) (functions : List Function) (p0 : Parts) (is_code : IsCod
   in_block b q p h s g base l regs w fa x =
       then_weaker (block_after b (h + 1) s g) _ (Put q h (h + 1) s (with_at h (read regs h) base)) (In q h s base) (conf k p regs w) (block_run again b (calls_in k) l w)
       (λ g v l regs1 a. put_in q h s base (read regs h) g v l regs1 fa a) x
-
-  -- ---- the value of a block goes to its register
-
-  hands : (q : Gives) (p d h : ℕ) (s : Scope) (base : Base) (g : Gone) (v : Option Value) (l : Locals) (regs : Registers) (w : State) → Falls h s → Fresh d s → d < h → In q h s base g v l regs → w.left ≤ n → Ran (hand q d h) (Put q d h s base g) p regs w (goes v l w)
-  hands void p d h s base g None l regs w fa fr lt ag few has = stays_at code k out n p (Put void d h s base g) None l regs w (tt, ag.1) few
-  hands void p d h s base g (Some v) l regs w fa fr lt ag few has = absurd ag.0
-  hands copy p d h s base g None l regs w fa fr lt ag few has = absurd ag.0
-  hands owner p d h s base g None l regs w fa fr lt ag few has = absurd ag.0
-  hands copy p d h s base g (Some v) l regs w fa fr lt ag few has = by (copied_or_not v)
-    where
-      top : read regs h ≡ Some v
-      top = top_read s g l base h (h + 1) (Some v) regs fa (omega arith) ag.1
-
-      by : IsCopied v ⊎ (copied v ≡ None) → Reaches code k out n (p + 1) (Put copy d h s base g) (conf k p regs w) (goes (Some v) l w)
-      by (inr bad) = copy_wrongs code k out n p (p + 1) d h (Put copy d h s base g) regs w v (goes (Some v) l w) bad top has.0
-      by (inl c) = inr (
-        put regs d (Some v),
-        moves code k n p regs w (i.Copy d h) _ has.0 (ap (λ o. with_value o w (λ v. gets (active k p regs) d (copied v) regs k.below w)) top ∙ ap (λ o. gets (active k p regs) d o regs k.below w) (copied_same v c)),
-        (ag.0, agrees_dest s g l base (with_at h (Some v) base) d h (h + 1) (Some v) regs regs fa fr (omega arith) (one_above base h (Some v)) (λ r lt. refl) ag.1),
-        few,
-      )
-  hands owner p d h s base g (Some v) l regs w fa fr lt ag few has = by (moved_or_not v)
-    where
-      top : read regs h ≡ Some v
-      top = top_read s g l base h (h + 1) (Some v) regs fa (omega arith) ag.1
-
-      by : IsOwned v ⊎ (moved v ≡ None) → Reaches code k out n (p + 1) (Put owner d h s base g) (conf k p regs w) (goes (Some v) l w)
-      by (inr bad) = move_wrongs code k out n p (p + 1) d h (Put owner d h s base g) regs w v (goes (Some v) l w) bad top has.0
-      by (inl c) = inr (
-        put (put regs h None) d (Some v),
-        moves code k n p regs w (i.Move d h) _ has.0 (ap (λ o. with_value o w (λ v. gets (active k p regs) d (moved v) (put regs h None) k.below w)) top ∙ ap (λ o. gets (active k p regs) d o (put regs h None) k.below w) (moved_same v c)),
-        (ag.0, agrees_dest s g l base (with_at h (Some v) base) d h (h + 1) (Some v) regs (put regs h None) fa fr (omega arith) (one_above base h (Some v)) (λ r lt. let ne : r ≢ h = omega arith in read_put regs h r None ∙ pick_other r h None (read regs r) ne) ag.1),
-        few,
-      )
 
   -- ---- a value that isn't used
 
@@ -131,14 +100,21 @@ module _ (code : Code) (functions : List Function) (p0 : Parts) (is_code : IsCod
 
   -- ---- a quote
 
-  text_runs : (text : List ℕ) (p h : ℕ) (s : Scope) (g : Gone) (base : Base) (l : Locals) (regs : Registers) (w : State) → Falls h s → Agrees h s g l base regs → w.left ≤ n → Ran (i.Text h (number_of_text text code.texts) ∷ []) (In copy h s base g) p regs w (goes (Some (Text text)) l w)
-  text_runs text p h s g base l regs w fa ag few has = by (text_or_none text code.texts)
+  text_runs : (text : List ℕ) → is_lawful_text text ≡ true → (p h : ℕ) (s : Scope) (g : Gone) (base : Base) (l : Locals) (regs : Registers) (w : State) → Falls h s → Agrees h s g l base regs → w.left ≤ n → Ran (i.Text h (number_of_text text code.texts) ∷ []) (In copy h s base g) p regs w (goes (Some (Text text)) l w)
+  text_runs text lawful_text p h s g base l regs w fa ag few has = by (text_or_none text code.texts)
     where
       j : ℕ
       j = number_of_text text code.texts
 
+      brings : LawfulInstr code (i.Text h j)
+      brings t e = is_here (text_or_none text code.texts)
+        where
+          is_here : (slice_get code.texts j ≡ Some text) ⊎ (slice_get code.texts j ≡ None) → IsLawful t
+          is_here (inl here) = let same : text ≡ t = let f : Some text ≡ Some t = sym here ∙ e in cc in subst (λ z. IsLawful z) same (lawful text lawful_text)
+          is_here (inr none) = let f : None ≡ Some t = sym none ∙ e in absurd (cc)
+
       by : (slice_get code.texts j ≡ Some text) ⊎ (slice_get code.texts j ≡ None) → Reaches code k out n (p + 1) (In copy h s base g) (conf k p regs w) (goes (Some (Text text)) l w)
-      by (inl e) = sets code k out n copy p h s g base l regs regs w (i.Text h j) (Text text) fa tt ag few has.0 (ap (λ o. with_choice o w (λ t. onward (active k p regs) (put regs h (Some (Text t))) k.below w)) e)
+      by (inl e) = sets code k out n copy p h s g base l regs regs w (i.Text h j) (Text text) brings fa tt ag few has.0 (ap (λ o. with_choice o w (λ t. onward (active k p regs) (put regs h (Some (Text t))) k.below w)) e)
       by (inr e) = wrongs code k out n p (p + 1) (In copy h s base g) regs w (i.Text h j) (goes (Some (Text text)) l w) w None has.0 (ap (λ o. with_choice o w (λ t. onward (active k p regs) (put regs h (Some (Text t))) k.below w)) e)
 
   -- ---- the set of a local
@@ -316,11 +292,11 @@ module _ (code : Code) (functions : List Function) (p0 : Parts) (is_code : IsCod
     node_runs (number at z) x q p h s g base l regs w fa ag few has =
         only_if_runs code k out n (agree q copy && is_int z) h p (i.Int h z ∷ []) (In q h s base g) regs w (goes (Some (Int z)) l w)
         (λ both. subst (λ r. Ran (i.Int h z ∷ []) (In r h s base g) p regs w (goes (Some (Int z)) l w)) (sym (agree_same q copy (and_first (agree q copy) (is_int z) both)))
-        (λ has. sets code k out n copy p h s g base l regs regs w (i.Int h z) (Int z) fa tt ag few has.0 refl)) has
+        (λ has. sets code k out n copy p h s g base l regs regs w (i.Int h z) (Int z) (and_second (agree q copy) (is_int z) both) fa tt ag few has.0 refl)) has
     node_runs (truth at true) x q p h s g base l regs w fa ag few has =
-        given code k out n q copy (comes g) (i.Truth h 1 ∷ []) p h s base regs w (goes (Some (Truth true)) l w) (λ has. sets code k out n copy p h s g base l regs regs w (i.Truth h 1) (Truth true) fa tt ag few has.0 refl) has
+        given code k out n q copy (comes g) (i.Truth h 1 ∷ []) p h s base regs w (goes (Some (Truth true)) l w) (λ has. sets code k out n copy p h s g base l regs regs w (i.Truth h 1) (Truth true) tt fa tt ag few has.0 refl) has
     node_runs (truth at false) x q p h s g base l regs w fa ag few has =
-        given code k out n q copy (comes g) (i.Truth h 0 ∷ []) p h s base regs w (goes (Some (Truth false)) l w) (λ has. sets code k out n copy p h s g base l regs regs w (i.Truth h 0) (Truth false) fa tt ag few has.0 refl) has
+        given code k out n q copy (comes g) (i.Truth h 0 ∷ []) p h s base regs w (goes (Some (Truth false)) l w) (λ has. sets code k out n copy p h s g base l regs regs w (i.Truth h 0) (Truth false) tt fa tt ag few has.0 refl) has
     node_runs (name m is_outer true) x q p h s g base l regs w fa ag few has =
         given code k out n q owner (node_after (name m is_outer true) h s g) (move_out (find m.name.0 s) g h) p h s base regs w (node_run again x (name m is_outer true) (calls_in k) l w)
         (move_runs code k out n p h s g base l (with_held m.name.0 None) regs w fa ag few (find m.name.0 s) (held_by m.name.0 l) (meets m.name.0 h s g l base fa ag.ties) (empties m.name.0 h s g l base fa ag.ties)) has
@@ -415,7 +391,7 @@ module _ (code : Code) (functions : List Function) (p0 : Parts) (is_code : IsCod
     node_runs (quote at text) x q p h s g base l regs w fa ag few has =
         only_if_runs code k out n (agree q copy && is_lawful_text text) h p _ (In q h s base g) regs w (goes (Some (Text text)) l w)
         (λ both. subst (λ z. Ran (i.Text h (number_of_text text code.texts) ∷ []) (In z h s base g) p regs w (goes (Some (Text text)) l w)) (sym (agree_same q copy (and_first (agree q copy) (is_lawful_text text) both)))
-        (text_runs text p h s g base l regs w fa ag few)) has
+        (text_runs text (and_second (agree q copy) (is_lawful_text text) both) p h s g base l regs w fa ag few)) has
     node_runs (iso at b) x q p h s g base l regs w fa ag few has =
         let part = λ (place : ℕ). block_code a owner b place h (h + 1) s g in
         let o = block_after b (h + 1) s g in
@@ -662,7 +638,7 @@ module _ (code : Code) (functions : List Function) (p0 : Parts) (is_code : IsCod
         as_it_is code k out n _ (Then (expr_after e h s g) (Put q d h s base)) (conf k p regs w) (expr_run again e (calls_in k) l w)
         (ended_by code k out n (expr_after e h s g) (expr_code a e p h s g) (λ place g. hand q d h) (In q h s base) (Put q d h s base) p regs w (expr_run again e (calls_in k) l w) (λ v l w. goes v l w)
         (subst (λ z. Ran (expr_code a e p h s g) (Then (expr_after e h s g) (In z h s base)) p regs w (expr_run again e (calls_in k) l w)) (sym (agree_same q (gives_of (type e)) same)) (expr_runs e p h s g base l regs w fa ag few))
-        (λ g v l w regs ag few. hands q _ d h s base g v l regs w fa fr lt ag few) has)) has
+        (λ g v l w regs ag few. hands code k out n q _ d h s base g v l regs w fa fr lt ag few) has)) has
     stmts_runs (more_stmts (declare m x e) ss) end q p d h s g base l regs w fa lt fr ag few has =
         let qe = gives_of (type e) in
         let qx = gives_of x in
@@ -729,7 +705,36 @@ module _ (code : Code) (functions : List Function) (p0 : Parts) (is_code : IsCod
         let test = and_first (closes s g (expr_after c h s g)) (closes s g (block_after b (h + 1) s g)) both in
         let body = and_second (closes s g (expr_after c h s g)) (closes s g (block_after b (h + 1) s g)) both in
         turns_run at c b p h s g base l regs w fa ag some test body (expr_after c h s g) refl (λ q. value_runs c some q h s g base l regs w fa ag few)) has
-    stmt_runs (foreach at m e1 e2 b) p h s g base l regs w fa ag few has = is_stuck code k out n p (p + 1) h (Then (comes g) (Keeps {A = Option Value} h s base)) regs w (stmt_run again (foreach at m e1 e2 b) (calls_in k) l w) has
+    stmt_runs (foreach at m e1 e2 (block bat bend bx bs)) p h s g base l regs w fa ag few has =
+        let b = block bat bend bx bs in
+        let q1 = gives_of (type e1) in
+        let q2 = gives_of (type e2) in
+        let r = h + 2 in
+        let inner = entry m.name.0 r copy ∷ s in
+        let run = λ (z : ℤ). iteration_body again m false (Int z) b in
+        let p1 = p + length (expr_code a e1 p h s g) in
+        let up : h ≤ h + 1 = omega arith in
+        let over : h ≤ r = omega arith in
+        let ne : h ≢ r = omega arith in
+        only_if_runs code k out n (is_value q1 && is_value q2) h p _ (Then (stmt_after (foreach at m e1 e2 b) h s g) (Keeps {A = Option Value} h s base)) regs w (stmt_run again (foreach at m e1 e2 b) (calls_in k) l w)
+        (λ some.
+        joined code k out n (expr_after e1 h s g) (λ g. expr_after e2 (h + 1) s g) (h + 1) (expr_code a e1 p h s g) _ (Val q1 h s base) (Keeps {A = Option Value} h s base) p regs w (valued (expr_run again e1) (calls_in k) l w) _
+        (value_runs e1 (and_first (is_value q1) (is_value q2) some) p h s g base l regs w fa ag few)
+        (λ g1 v l w regs ag few.
+        joined_last code k out n (expr_after e2 (h + 1) s g1) (h + 2) (expr_code a e2 p1 (h + 1) s g1) _ (Val q2 (h + 1) s (with_at h (Some v) base)) (Keeps {A = Option Value} h s base) p1 regs w (valued (expr_run again e2) (calls_in k) l w) _
+        (value_runs e2 (and_second (is_value q1) (is_value q2) some) p1 (h + 1) s g1 (with_at h (Some v) base) l regs w (falls_up s h (h + 1) up fa) ag.1 few)
+        (λ g2 u l w regs ag few.
+        let after = block_after b (r + 1) inner (without r g2) in
+        let body = λ (q : ℕ). block_code a void b q h (r + 1) inner (without r g2) in
+        let p2 = p1 + length (expr_code a e2 p1 (h + 1) s g1) in
+        only_if_runs code k out n (closes s g2 after) h p2 (count_code p2 h at after body) (Keeps {A = Option Value} h s base g2) regs w _
+        (λ cl has.
+        count_runs code k out n p2 h s g2 base at after body run fa cl has
+        (λ q x base l regs w ag few has.
+        then_more code k out n after (q + length (body q)) (Put void h (r + 1) inner base) (Keeps {A = Option Value} r s base) (conf k q regs w) (stmts_run again bend bs (calls_in k) (record { name = Some m.name.0; value = Some (Int x); owned = false } ∷ l) w) _
+        (stmts_runs bs bend void q h (r + 1) inner (without r g2) base (record { name = Some m.name.0; value = Some (Int x); owned = false } ∷ l) regs w (omega arith, falls_up s h r over fa) (omega arith) (ne, fresh_above s h h fa (omega arith)) (agrees_push s g2 l base r m.name.0 copy (Int x) regs tt (falls_up s h r over fa) ag) few has)
+        (λ g u l w regs ag few. stays code k out n (q + length (body q)) (Keeps {A = Option Value} r s base g) u (outer l) regs w (put_keeps h r s base g u (outer l) regs (put_pop void copy h r m.name.0 s base g u l regs regs (λ r lt. refl) ag)) few))
+        v u l regs w ag.1 few)))) has
     stmt_runs (return_nothing at) p h s g base l regs w fa ag few has =
         only_if_runs code k out n (agree out void) h p _ (Then (never g) (Keeps {A = Option Value} h s base)) regs w (leave again at None (calls_in k) l w)
         (λ e. leave_void_runs code functions p0 kinds k out n again follows g (Keeps {A = Option Value} h s base) s g p h at l regs w is fa (stands s g l base h h regs fa (omega arith) ag) (subst (λ z. Fits z None) (sym (agree_same out void e)) tt) few) has

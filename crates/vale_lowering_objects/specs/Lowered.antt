@@ -1,5 +1,6 @@
 -- The code of a program with owners; what has no code yet is lowered to an instruction that no step follows.
-use Rattle.std.specs.Prelude.{ℕ, ◌+◌, codes, Bool, true, false, not, ◌&&◌, ◌||◌, List, [], ◌∷◌, ◌++◌, length, Option, Some, None, if◌then◌else◌}
+use Rattle.std.specs.Prelude.{ℕ, ◌+◌, nat_le, pos, codes, Bool, true, false, not, ◌&&◌, ◌||◌, List, [], ◌∷◌, ◌++◌, length, Option, Some, None, if◌then◌else◌}
+use Rattle.vale_base.specs.Limits.{width_limit}
 use Rattle.vale_base.specs.declared.spot.Spot.{Spot}
 use Rattle.vale_syntax.specs.declared.built_in.BuiltIn.{BuiltIn}
 use Rattle.vale_syntax.specs.declared.built_in.BuiltIn.TheVariants as b
@@ -9,7 +10,7 @@ use Rattle.vale_syntax.specs.declared.tree.BinaryOp.TheVariants as op
 use Rattle.vale_syntax.specs.declared.tree.UnaryOp.TheVariants as unary_op
 use Rattle.vale_text.specs.Operations.{is_int}
 use Rattle.vale_rules_spec.specs.Types as y
-use Rattle.vale_rules_spec.specs.Typed.{Callee, built_in, constructor, function, Expr, expr, Node, set, chain, unary, steps, number, quote, truth, name, call, paren, array, iso, form, Function, Exprs, no_exprs, more_exprs, link, Links, no_links, more_links, Step, field, method, index, Steps, no_steps, more_steps, Form, branch, pure, else_if, Elses, no_else, otherwise, more_elses, Block, block, Stmt, declare, destructure, return_nothing, return_value, while, form_stmt, express, Stmts, no_stmts, last, more_stmts, type}
+use Rattle.vale_rules_spec.specs.Typed.{Callee, built_in, constructor, function, Expr, expr, Node, set, chain, unary, steps, number, quote, truth, name, call, paren, array, iso, form, Function, Exprs, no_exprs, more_exprs, link, Links, no_links, more_links, Step, field, method, index, Steps, no_steps, more_steps, Form, branch, pure, else_if, Elses, no_else, otherwise, more_elses, Block, block, Stmt, declare, destructure, return_nothing, return_value, while, foreach, form_stmt, express, Stmts, no_stmts, last, more_stmts, type}
 use Rattle.vale_syntax.specs.Tree.{Param}
 use Rattle.vale_rules_spec.specs.Declarations.{head_params, param_type}
 use Rattle.vale_rules_spec.specs.Types.{type_of}
@@ -152,6 +153,7 @@ abbrev mutual
   stmt_after (return_nothing at) h s g = never g
   stmt_after (return_value at e) h s g = no_run (expr_after e h s g)
   stmt_after (while at c b) h s g = loop_after g (expr_after c h s g)
+  stmt_after (foreach at n a e b) h s g = then_after (expr_after a h s g) (λ g. expr_after e (h + 1) s g)
   stmt_after (form_stmt f) h s g = form_after f h s g
   stmt_after (express e) h s g = expr_after e h s g
   stmt_after _ h s g = comes g
@@ -191,6 +193,15 @@ sides place h first a b =
 abbrev pub turns_code : ℕ → ℕ → After → (ℕ → List Instr) → (ℕ → List Instr) → List Instr
 turns_code place h (comes g) test body = loop_code place h test body
 turns_code place h (never g) test body = then_code place (h + 1) (test place) (never g) (λ place g. body place)
+
+-- A turn for each number from the counter in h to the one before the bound in h + 1. The difference of the counter to itself has no
+-- rule where it is no number; the test has none where the bound is no number then. Each turn gets a copy of the counter in the
+-- register after both, and leaves the counter as it is; where a run comes after the turn, the counter goes on by one.
+abbrev pub count_code : ℕ → ℕ → Spot → After → (ℕ → List Instr) → List Instr
+count_code place h at after body =
+    i.Sub (h + 2) h h at ∷
+    loop_code (place + 1) (h + 2) (λ place. i.Cmp (h + 2) 2 h (h + 1) ∷ [])
+    (λ place. i.Copy (h + 2) h ∷ if_comes (place + 1) (body (place + 1)) after (λ place g. i.Int (h + 2) (pos 1) ∷ i.Add h h (h + 2) at ∷ []))
 
 -- an owner is moved, and any other value copied
 abbrev pub hand : Gives → ℕ → ℕ → List Instr
@@ -374,9 +385,9 @@ built_in_code b.Pop x (r ∷ []) q at h = only_if (is_value q) h (i.Pop h h at �
 built_in_code b.Pop x _ q at h = stuck h
 built_in_code f x qs q at h = copies_code f qs q at h
 
--- an object of this type is made of values
+-- an object of this type is made of values, of no more than an array may have
 abbrev pub make_code : Parts → Gives → y.Ty → List Gives → ℕ → List Instr
-make_code p gives x values h = only_if (agree gives owner) h (i.Make h (kind_of p x) (registers_from h (length values)) ∷ [])
+make_code p gives x values h = only_if (agree gives owner && nat_le (length values) width_limit) h (i.Make h (kind_of p x) (registers_from h (length values)) ∷ [])
 
 abbrev pub callee_code : Around → Gives → NameAt → Callee → y.Ty → List Gives → ℕ → List Instr
 callee_code around gives n (built_in f) x values h = built_in_code f x values gives n.at h
@@ -555,6 +566,15 @@ abbrev mutual
   stmt_code around (while at c b) place h s g =
       only_if (is_value (gives_of (type c)) && (closes s g (expr_after c h s g) && closes s g (block_after b (h + 1) s g))) h
       (turns_code place h (expr_after c h s g) (λ place. expr_code around c place h s g) (λ place. block_code around void b place h (h + 1) s g))
+  -- the local stands after the counter and the bound; the body moves nothing that the next turn would find
+  stmt_code around (foreach at n a e b) place h s g =
+      only_if (is_value (gives_of (type a)) && is_value (gives_of (type e))) h
+      (then_code place (h + 1) (expr_code around a place h s g) (expr_after a h s g) (λ place g.
+      then_code place (h + 2) (expr_code around e place (h + 1) s g) (expr_after e (h + 1) s g) (λ place g.
+      let r = h + 2 in
+      let inner = entry n.name.0 r copy ∷ s in
+      let after = block_after b (r + 1) inner (without r g) in
+      only_if (closes s g after) h (count_code place h at after (λ place. block_code around void b place h (r + 1) inner (without r g))))))
   -- a value that isn't used is dropped; so the old value of a local that is set
   stmt_code around (express (expr x (set at (expr y (name n is_outer moved)) e))) place h s g =
       only_if (is_value (gives_of (type e)) && agree (gives_of x.value) (gives_of (type e))) h

@@ -1,5 +1,5 @@
 -- What code owes a program: a function for each of its functions, and the same kinds.
-use Rattle.std.specs.Prelude.{◌≡◌, ℕ, codes, ◌+◌, List, [], ◌∷◌, ◌++◌, length, map, flat_map, Some, false, if◌then◌else◌, slice_get}
+use Rattle.std.specs.Prelude.{◌≡◌, ℕ, codes, ◌+◌, List, [], ◌∷◌, ◌++◌, length, map, flat_map, Some, true, false, if◌then◌else◌, slice_get}
 use Rattle.vale_state_spec.specs.Outcome.{Wrong}
 use Rattle.vale_state_spec.specs.State.{Given}
 use Rattle.vale_rules_spec.specs.Declarations.{head_params, param_type}
@@ -24,6 +24,7 @@ use Rattle.vale_code.specs.declared.ty.Ty.TheVariants as t
 use Rattle.vale_lowering.specs.Instructions.{only_if}
 use Rattle.vale_lowering.specs.Scopes.{number_of_function, result_type}
 use Rattle.vale_lowering_objects.specs.Destruction.{SameKinds}
+use Rattle.vale_lowering_objects.specs.Input.{is_lawful_input}
 use Rattle.vale_lowering_objects.specs.Lowered.{if_comes, block_after, block_code, drop_scope, param_gives, result_gives, is_destructor}
 use Rattle.vale_lowering_objects.specs.Scopes.{Gives, void, agree, Around, parameters}
 
@@ -90,16 +91,16 @@ pub record HasMain (code : Code) (p : Parts) (functions : List Function) : Type 
   pub takes : TakesInput (head_params (head_of main))
 
 -- Lowered code that doesn't go wrong does what its program means, tick by tick, with its owners, its destructions and its
--- destructors, on every input.
+-- destructors, on every lawful input.
 abbrev pub CodeMeans : Type 0
 CodeMeans =
     (code : Code) (program : Typed) (functions : List Function) (input : Given) (ticks : ℕ) →
-    IsCode code (parts_of program) functions → HasMain code (parts_of program) functions →
+    IsCode code (parts_of program) functions → HasMain code (parts_of program) functions → is_lawful_input input ≡ true →
     ((run_code code input ticks).end ≡ Wrong → ⊥) → run_code code input ticks ≡ meaning program input ticks
 
 -- It needs as many frames.
 abbrev pub CodeNeeds : Type 0
 CodeNeeds =
     (code : Code) (program : Typed) (functions : List Function) (input : Given) (ticks first : ℕ) →
-    IsCode code (parts_of program) functions → HasMain code (parts_of program) functions →
+    IsCode code (parts_of program) functions → HasMain code (parts_of program) functions → is_lawful_input input ≡ true →
     ((run_code code input ticks).end ≡ Wrong → ⊥) → code_need.need code input ticks first ≡ need.need program input ticks first

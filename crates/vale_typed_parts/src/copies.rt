@@ -1,6 +1,7 @@
 // Heads and fields once more, for the typed tree.
 ghost use Rattle.std.specs.Prelude.{◌≡◌, IfOk};
 
+use crate::lists::room_for;
 use sqlite_items::{Boxed, Items};
 use std::alloc::Global;
 use vale_base::Memory;
@@ -45,7 +46,7 @@ fn copy_result(alloc: Global, result_type: &Option<TypeExpr>) -> Result<Option<T
 fn copy_params(alloc: Global, params: &[Param]) -> Result<Items<Param>, Memory>
     ensures { IfOk result (λ ps. ps ≡ params.now) }
 {
-    let mut done = Items::new(alloc);
+    let mut done = room_for(alloc, params.len())?;
     for param in params {
         let ty = copy_type(alloc, &param.ty)?;
         done.push(Param {
@@ -72,7 +73,7 @@ pub fn copy_head(alloc: Global, head: &Head) -> Result<Head, Memory>
 pub fn copy_heads(alloc: Global, heads: &[Head]) -> Result<Items<Head>, Memory>
     ensures { IfOk result (λ hs. hs ≡ heads.now) }
 {
-    let mut done = Items::new(alloc);
+    let mut done = room_for(alloc, heads.len())?;
     for head in heads {
         done.push(copy_head(alloc, head)?)?;
     }
@@ -83,7 +84,7 @@ pub fn copy_heads(alloc: Global, heads: &[Head]) -> Result<Items<Head>, Memory>
 pub fn copy_fields(alloc: Global, fields: &[FieldDecl]) -> Result<Items<FieldDecl>, Memory>
     ensures { IfOk result (λ fs. fs ≡ fields.now) }
 {
-    let mut done = Items::new(alloc);
+    let mut done = room_for(alloc, fields.len())?;
     for field in fields {
         let ty = copy_type(alloc, &field.ty)?;
         done.push(FieldDecl {

@@ -8,6 +8,6 @@ mod names;
 mod valued;
 
 pub use copies::{copy_fields, copy_head, copy_heads};
-pub use lists::{TypedLinks, TypedSteps, TypedStmts};
+pub use lists::{TypedLinks, TypedSteps, TypedStmts, room_for};
 pub use names::{element_of, is_used, is_value_under, new_name, new_names};
 pub use valued::{Inside, Valued};

@@ -15,6 +15,13 @@ use vale_core::{Link, Seen, Step, Stmt};
 use vale_held::Held;
 use vale_seen::{Local, copy_seen, link_seen, step_seen};
 
+/// An empty list with room for so many parts: it takes no more than they do.
+pub fn room_for<T>(alloc: Global, count: usize) -> Result<Items<T>, Memory>
+    ensures { IfOk result (λ parts. parts ≡ []) }
+{
+    Ok(Items::from_vec(Vec::with_capacity(alloc, count)?))
+}
+
 /// Operators with their operands, and what is known of what stands before the next.
 #[derive(Drop)]
 pub struct TypedLinks {
@@ -23,12 +30,13 @@ pub struct TypedLinks {
 }
 
 impl TypedLinks {
-    pub fn new(alloc: Global, start: &Seen) -> Result<Self, Memory>
+    /// For so many operators.
+    pub fn new(alloc: Global, count: usize, start: &Seen) -> Result<Self, Memory>
         ensures before { IfOk result (λ s. s.before ≡ start.now) }
         ensures done { IfOk result (λ s. s.done ≡ []) }
     {
         let before = Held::new(copy_seen(alloc, start)?);
-        let done = Items::new(alloc);
+        let done = room_for(alloc, count)?;
         Ok(TypedLinks { before, done })
     }
 
@@ -50,13 +58,19 @@ pub struct TypedSteps {
 }
 
 impl TypedSteps {
-    pub fn new(alloc: Global, local: Option<Name>, start: &Seen) -> Result<Self, Memory>
+    /// For so many steps.
+    pub fn new(
+        alloc: Global,
+        count: usize,
+        local: Option<Name>,
+        start: &Seen,
+    ) -> Result<Self, Memory>
         ensures local { IfOk result (λ s. s.local ≡ local) }
         ensures base { IfOk result (λ s. s.base ≡ start.now) }
         ensures done { IfOk result (λ s. s.done ≡ []) }
     {
         let base = Held::new(copy_seen(alloc, start)?);
-        let done = Items::new(alloc);
+        let done = room_for(alloc, count)?;
         Ok(TypedSteps { local, base, done })
     }
 
@@ -79,14 +93,14 @@ pub struct TypedStmts {
 }
 
 impl TypedStmts {
-    pub fn new(alloc: Global) -> Self
-        ensures locals { result.locals.items ≡ [] }
-        ensures done { result.done ≡ [] }
+    /// For so many statements.
+    pub fn new(alloc: Global, count: usize) -> Result<Self, Memory>
+        ensures locals { IfOk result (λ s. s.locals.items ≡ []) }
+        ensures done { IfOk result (λ s. s.done ≡ []) }
     {
-        TypedStmts {
-            locals: Vec::new(alloc),
-            done: Items::new(alloc),
-        }
+        let done = room_for(alloc, count)?;
+        let locals = Vec::new(alloc);
+        Ok(TypedStmts { locals, done })
     }
 
     /// One more, at this depth.

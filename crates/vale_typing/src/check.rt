@@ -26,7 +26,7 @@ use vale_seen::{Local, Scope, deeper, index_view, name_in, seen_of};
 use vale_syntax::{Block, ElseIf, Expr, Fault, Form, Link, NameAt, Step, Stmt};
 use vale_typed_parts::{
     Inside, TypedLinks, TypedSteps, TypedStmts, Valued, element_of, is_used, is_value_under,
-    new_name, new_names,
+    new_name, new_names, room_for,
 };
 
 #[cycle(check)]
@@ -113,7 +113,7 @@ fn type_exprs(
 ) -> Result<Items<typed::Expr>, Fail<Fault>>
     ensures { Gives view_exprs result (first (d.exprs (names_of table.now) (items_of table.now) (env_at (view_ty gives.now) depth (locals scope.now)) (exprs_of (map view_expr exprs.now)))) }
 {
-    let mut done = Items::new(alloc);
+    let mut done = room_for(alloc, exprs.len())?;
     for expr in exprs {
         let expr = type_expr(alloc, table, expr, gives, depth, scope, true)?;
         done.push(expr.into_inner())?;
@@ -151,7 +151,7 @@ fn type_links(
 ) -> Result<Items<typed::Link>, Fail<Fault>>
     ensures { Gives view_links result (first (d.links (names_of table.now) (items_of table.now) (env_at (view_ty gives.now) depth (locals scope.now)) (seen (c.view_expr before.now)) (links_of (map view_link links.now)))) }
 {
-    let mut so_far = TypedLinks::new(alloc, seen_of(before))?;
+    let mut so_far = TypedLinks::new(alloc, links.len(), seen_of(before))?;
     let links = links.as_slice();
     for link in links {
         let link = type_link(alloc, table, link, gives, depth, scope, so_far.before.get())?;
@@ -204,7 +204,7 @@ fn type_steps(
 ) -> Result<Items<typed::Step>, Fail<Fault>>
     ensures { Gives view_steps result (first (d.steps_from (names_of table.now) (items_of table.now) (env_at (view_ty gives.now) depth (locals scope.now)) as_value (name_in (view_expr base.now)) (seen (c.view_expr before.now)) (steps_of (map view_step steps.now)))) }
 {
-    let mut so_far = TypedSteps::new(alloc, name_in(base), seen_of(before))?;
+    let mut so_far = TypedSteps::new(alloc, steps.len(), name_in(base), seen_of(before))?;
     let steps = steps.as_slice();
     for index in 0..steps.len() {
         let is_used = is_used(as_value, steps, index);
@@ -315,7 +315,7 @@ fn type_else_ifs(
 ) -> Result<Items<typed::ElseIf>, Fail<Fault>>
     ensures { Gives view_elses result (first (d.elses (names_of table.now) (items_of table.now) (env_at (view_ty gives.now) depth (locals scope.now)) (elses_of (map view_else_if else_ifs.now) None))) }
 {
-    let mut done = Items::new(alloc);
+    let mut done = room_for(alloc, else_ifs.len())?;
     for else_if in else_ifs {
         let else_if = type_else_if(alloc, table, else_if, gives, depth, scope)?;
         done.push(else_if.into_inner())?;
@@ -408,8 +408,8 @@ fn type_stmts(
 ) -> Result<Inside, Fail<Fault>>
     ensures { Gives view_inside result (first (d.stmts (names_of table.now) (items_of table.now) (env_at (view_ty gives.now) depth (locals scope.now)) (stmts_of (map view_stmt (out-Block block.now).stmts) (option_map view_expr (out-Block block.now).last)))) }
 {
-    let mut so_far = TypedStmts::new(alloc);
     let stmts = block.stmts.as_slice();
+    let mut so_far = TypedStmts::new(alloc, stmts.len())?;
     for stmt in stmts {
         let inner = Scope::Frame(&so_far.locals, &*scope);
         let stmt = type_stmt(alloc, table, stmt, gives, depth, &inner)?;

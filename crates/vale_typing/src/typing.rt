@@ -29,7 +29,7 @@ use vale_lookup::Table;
 use vale_seen::{Local, Scope, result_of, type_of};
 use vale_syntax::{Decls, Fault, Function, Head, Item, Param, Tree};
 use vale_type_faults::function_fault;
-use vale_typed_parts::{copy_fields, copy_head, copy_heads};
+use vale_typed_parts::{copy_fields, copy_head, copy_heads, room_for};
 
 /// The locals that the parameters of a function are.
 fn params_in(alloc: Global, params: &[Param]) -> Result<Vec<Local>, Memory>
@@ -101,7 +101,7 @@ fn type_functions(
 ) -> Result<Items<TypedFunction>, Fail<Fault>>
     ensures { Gives (map c.view_function) result (first (in_functions (names_of table.now) (items_of table.now) (map view_function functions.now))) }
 {
-    let mut done = Items::new(alloc);
+    let mut done = room_for(alloc, functions.len())?;
     for function in functions {
         let function = type_function(alloc, table, function)?;
         done.push(function.into_inner())?;
@@ -136,7 +136,7 @@ fn type_item(alloc: Global, table: &Table, item: &Item) -> Result<Held<TypedItem
 fn type_items(alloc: Global, table: &Table, items: &[Item]) -> Result<Items<TypedItem>, Fail<Fault>>
     ensures { Gives (map c.view_item) result (first (in_items (names_of table.now) (items_of table.now) (map view_item items.now))) }
 {
-    let mut done = Items::new(alloc);
+    let mut done = room_for(alloc, items.len())?;
     for item in items {
         let item = type_item(alloc, table, item)?;
         done.push(item.into_inner())?;
