@@ -3,14 +3,13 @@ use Rattle.std.proofs.Common.{◌≡◌, ℕ, zero, suc, ◌+◌, ◌-◌, ◌<�
 use Rattle.std.specs.Prelude.{slice_get, IfOk, Result, Ok, Err}
 use Rattle.std.proofs.Math.Logic.{∥∥₁_elim}
 use Rattle.std.proofs.lemmas.Bool.{and_parts}
-use Rattle.std.proofs.lemmas.List.{length-replicate}
+use Rattle.std.proofs.lemmas.List.{length-replicate, take_all}
 use Rattle.std.proofs.lemmas.Bool.Decides.{nat_tests}
-use Rattle.vale_base.specs.Limits.{ticks_limit}
 use Rattle.vale_state_spec.specs.State.{State, Given, no_input, begin, function_frame}
 use Rattle.vale_state_spec.specs.World.{Value}
 use Rattle.vale_base.specs.declared.piece.Piece.{Piece}
 use Rattle.vale_code.specs.Enter.{Form, Plain, form_of, with_func, with_form, enter}
-use Rattle.vale_code.specs.Frames.{Active, Running, Next, On}
+use Rattle.vale_code.specs.Frames.{Active, Running, Next, On, after_tick}
 use Rattle.vale_code.specs.Kinds.{kind_of, text_at}
 use Rattle.vale_code.specs.Parts.{Parts}
 use Rattle.vale_code.specs.Registers.{registers_for}
@@ -26,17 +25,16 @@ use Rattle.vale_cert.specs.declared.fault.Fault.{Fault}
 use Rattle.vale_cert.proofs.Standing.{ConfigFits, NextFits}
 use Rattle.vale_cert.proofs.Start.{start_fits}
 use Rattle.vale_cert.proofs.Walks.{main_is_there, main_lawful}
-use Rattle.vale_machine.specs.Cells.{values_in}
+use Rattle.vale_registers.specs.Cells.{empty, values_in}
+use Rattle.vale_registers.specs.Passing.{from_base}
+use Rattle.vale_registers.specs.declared.cell.Cell.{Cell}
 use Rattle.vale_machine.specs.Given.{IsStartable}
 use Rattle.vale_machine.specs.UnderWay.{IsUnderWay}
-use Rattle.vale_machine.specs.View.{IsLaid, Lie, active_of, config_of, frames_in, state_of}
-use Rattle.vale_machine.specs.declared.cell.Cell.{Cell}
-use Rattle.vale_machine.specs.declared.cell.Cell.TheVariants as cell
+use Rattle.vale_machine.specs.View.{IsLaid, Lie, active_of, all_texts, config_of, frames_in, name_in, registers_of, row_of, state_of, state_with}
 use Rattle.vale_machine.specs.declared.machine.Frame.{Frame}
 use Rattle.vale_machine.specs.declared.machine.Machine.{Machine}
 use Rattle.vale_machine.proofs.Certified.{runnable, safe}
-use Rattle.vale_machine.proofs.Passing.{empties}
-use Rattle.vale_machine.proofs.Told.{ticked_on}
+use Rattle.vale_machine.proofs.Giving.{empties}
 
 untruncated : (o : Option Fault) → ∥ o ≡ None ∥₁ → o ≡ None
 untruncated None t = refl
@@ -70,21 +68,21 @@ module _ (code : Parts) (facts : List FuncFacts) (cert : Certified code facts) w
     params = nothing main.0.params (subst (λ o. function_takes code no_input o ≡ true) main.1 takes);
   }
 
-  pub under_way : code.kinds ≡ [] → (input : Given) → takes_input code input ≡ true → (ticks : ℕ) (m : Machine) → start code input ticks ≡ On (config_of code [] m) → IsLaid code m → m.left + m.spent ≤ ticks_limit → IsUnderWay code [] m
+  pub under_way : code.kinds ≡ [] → (input : Given) → takes_input code input ≡ true → (ticks : ℕ) (m : Machine) → start code input ticks ≡ On (config_of code [] m) → IsLaid code m → m.left ≤ m.given → IsUnderWay code [] m
   under_way kindless input takes ticks m begins laid few = record { runnable = runnable code facts cert kindless; laid = laid; ticks = few; safe = safe code facts cert (config_of code [] m) fits }
     where
       fits : ConfigFits code facts (config_of code [] m)
       fits = subst (λ n. NextFits code facts n) begins (start_fits code facts cert input takes ticks)
 
-  pub if_started : {E : Type 0} (ticks : ℕ) (r : Result Machine E) → code.kinds ≡ [] → takes_input code no_input ≡ true → ticks ≤ ticks_limit → IfOk r (λ m. start code no_input ticks ≡ On (config_of code [] m)) → IfOk r (λ m. IsLaid code m)
-      → IfOk r (λ m. m.left + m.spent ≡ ticks) → IfOk r (λ m. IsUnderWay code [] m)
-  if_started ticks (Ok m) kindless takes few begins laid spent = under_way kindless no_input takes ticks m begins laid (omega arith)
-  if_started ticks (Err e) kindless takes few begins laid spent = begins
+  pub if_started : {E : Type 0} (ticks : ℕ) (r : Result Machine E) → code.kinds ≡ [] → takes_input code no_input ≡ true → IfOk r (λ m. start code no_input ticks ≡ On (config_of code [] m)) → IfOk r (λ m. IsLaid code m)
+      → IfOk r (λ m. m.left ≤ m.given) → IfOk r (λ m. IsUnderWay code [] m)
+  if_started ticks (Ok m) kindless takes begins laid few = under_way kindless no_input takes ticks m begins laid few
+  if_started ticks (Err e) kindless takes begins laid few = begins
 
-pub filled_new : (old cells : List Cell) (n : ℕ) → old ≡ [] → cells ≡ old ++ replicate (n - length old) cell.Empty → cells ≡ replicate n cell.Empty
+pub filled_new : (old cells : List Cell) (n : ℕ) → old ≡ [] → cells ≡ old ++ replicate (n - length old) empty → cells ≡ replicate n empty
 filled_new old cells n e h =
     let m : n - 0 ≡ n = omega arith in
-    h ∙ ap (λ l. l ++ replicate (n - length l) cell.Empty) e ∙ ap (λ k. replicate k cell.Empty) m
+    h ∙ ap (λ l. l ++ replicate (n - length l) empty) e ∙ ap (λ k. replicate k empty) m
 
 -- ---- the first step
 
@@ -101,11 +99,13 @@ module _ (code : Parts) (func : Func) (found : slice_get code.funcs code.main �
       ∙ ap (λ n. with_form (form_of n) func (begin ticks) begins_it) plain
       ∙ ap (λ ps. with_input ps None (begin ticks) enters_main) params
 
-  no_registers : (n : ℕ) (cells : List Cell) → cells ≡ replicate n cell.Empty → registers_for n [] ≡ values_in (drop 0 cells)
-  no_registers n cells e = let m : n - 0 ≡ n = omega arith in ap (λ k. replicate k None) m ∙ sym (empties n) ∙ ap values_in (sym e)
+  no_registers : (n : ℕ) (t : ℕ → List ℕ) (cells : List Cell) → cells ≡ replicate n empty → registers_for n [] ≡ values_in t (drop 0 (take n cells))
+  no_registers n t cells e =
+      let m : n - 0 ≡ n = omega arith in
+      ap (λ k. replicate k None) m ∙ sym (empties t n) ∙ ap (values_in t) (sym e ∙ sym (take_all n cells (omega (arith, ap length e, length-replicate n empty))))
 
   abbrev main_frame : Frame
-  main_frame = record { function = code.main; name = func.name; at = first_spot; dest = None; place = 0; base = 0 }
+  main_frame = record { function = code.main; at = first_spot; dest = None; place = 0; base = 0 }
 
   abbrev main_active : Active
   main_active = record { call = function_frame (text_at code func.name) first_spot; function = code.main; dest = None; place = 0; registers = registers_for func.registers [] }
@@ -113,21 +113,30 @@ module _ (code : Parts) (func : Func) (found : slice_get code.funcs code.main �
   abbrev begun_state : State
   begun_state = record (begin ticks) { left = ticks - 1; spent = 1 }
 
-  pub begun : (m : Machine) → 0 < ticks → m.left ≡ ticks - 1 → m.spent ≡ 1 → m.pieces.items ≡ [] → m.below.items ≡ [] → m.cells.items ≡ replicate func.registers cell.Empty → m.top ≡ main_frame
-      → start code no_input ticks ≡ On (config_of code [] m)
-  begun m some left spent pieces below cells top =
-      let regs : values_in (drop m.top.base m.cells.items) ≡ registers_for func.registers [] = ap (λ (f : Frame). values_in (drop f.base m.cells.items)) top ∙ sym (no_registers func.registers m.cells.items cells) in
-      let act : active_of code m.top (values_in (drop m.top.base m.cells.items)) ≡ main_active = ap (λ (f : Frame). active_of code f (values_in (drop m.top.base m.cells.items))) top ∙ ap (active_of code main_frame) regs in
-      let bel : frames_in code (reverse m.below.items) (take m.top.base m.cells.items) ≡ [] = ap (λ fs. frames_in code (reverse fs) (take m.top.base m.cells.items)) below in
-      let st : state_of [] m ≡ begun_state = cc in
-      let all : config_of code [] m ≡ record { top = Running main_active; below = []; state = begun_state } = cc in
-      first_step ∙ ticked_on (begin ticks) _ some ∙ sym (ap On all)
+  ticked_on : (n : ℕ) (go : State → Next) → 0 < n → after_tick (begin n) go ≡ go (record (begin n) { left = n - 1; spent = 1 })
+  ticked_on zero go lt = absurd (omega arith)
+  ticked_on (suc n) go lt = let e : n ≡ suc n - 1 = omega arith in ap (λ k. go (record (begin (suc n)) { left = k; spent = 1 })) e
 
-  pub begun_laid : (m : Machine) → m.below.items ≡ [] → m.cells.items ≡ replicate func.registers cell.Empty → m.top ≡ main_frame → IsLaid code m
-  begun_laid m below cells top =
-      subst (λ (f : Frame). Lie code (f ∷ reverse m.below.items) (length m.cells.items)) (sym top)
-      (subst (λ fs. Lie code (main_frame ∷ reverse fs) (length m.cells.items)) (sym below)
-      (record { func = func; found = found; plain = plain; size = (let n : 0 + func.registers ≡ func.registers = omega arith in n ∙ sym (length-replicate func.registers cell.Empty) ∙ sym (ap length cells)) }, tt, tt))
+  pub begun : (m : Machine) → 0 < ticks → m.left ≡ ticks - 1 → m.given ≡ ticks → m.pieces.items ≡ [] → m.below.items ≡ [] → m.cells.items ≡ replicate func.registers empty → m.end ≡ func.registers → m.top ≡ main_frame
+      → start code no_input ticks ≡ On (config_of code [] m)
+  begun m some left given pieces below cells end top =
+      let regs : registers_of m ≡ registers_for func.registers [] = ap (λ (f : Frame). values_in (from_base f.base (all_texts m)) (drop f.base (row_of m))) top ∙ ap (λ n. values_in (from_base 0 (all_texts m)) (drop 0 (take n m.cells.items))) end ∙ sym (no_registers func.registers (from_base 0 (all_texts m)) m.cells.items cells) in
+      let act : active_of code m.top (registers_of m) ≡ main_active =
+      ap (λ (f : Frame). active_of code f (registers_of m)) top ∙ ap (active_of code main_frame) regs
+      ∙ ap (λ o. record { call = record { what = name_in code o; at = first_spot }; function = code.main; dest = None; place = 0; registers = registers_for func.registers [] }) found in
+      let bel : frames_in code (reverse m.below.items) (all_texts m) (take m.top.base (row_of m)) ≡ [] = ap (λ fs. frames_in code (reverse fs) (all_texts m) (take m.top.base (row_of m))) below in
+      let spent : m.given - m.left ≡ 1 = omega (arith, left, given, some) in
+      let st : state_of [] m ≡ begun_state =
+      ap (λ n. state_with n (m.given - m.left) ([] ++ m.pieces.items)) left ∙ ap (λ n. state_with (ticks - 1) n ([] ++ m.pieces.items)) spent ∙ ap (λ ps. state_with (ticks - 1) 1 ([] ++ ps)) pieces in
+      first_step ∙ ticked_on ticks _ some ∙ sym (λ i. On (record { top = Running (act i); below = bel i; state = st i }))
+
+  pub begun_laid : (m : Machine) → m.below.items ≡ [] → m.cells.items ≡ replicate func.registers empty → m.end ≡ func.registers → m.top ≡ main_frame → IsLaid code m
+  begun_laid m below cells end top = record {
+    lie = subst (λ (f : Frame). Lie code (f ∷ reverse m.below.items) m.end) (sym top)
+        (subst (λ fs. Lie code (main_frame ∷ reverse fs) m.end) (sym below)
+        (record { func = func; found = found; plain = plain; size = (let n : 0 + func.registers ≡ func.registers = omega arith in n ∙ sym end) }, tt, tt));
+    there = omega (arith, end, length-replicate func.registers empty, ap length cells);
+  }
 
 -- what was printed so far, and is taken now
 pub all_taken : (taken old result rest : List Piece) → result ≡ old → rest ≡ [] → taken ++ old ≡ (taken ++ result) ++ rest

@@ -1,5 +1,5 @@
 -- What the machine relies on holds of certified code that has no kinds.
-use Rattle.std.proofs.Common.{◌≡◌, ◌≢◌, ℕ, zero, suc, ◌+◌, ◌<◌, List, [], ◌∷◌, length, Option, Some, None, Bool, true, false, ◌&&◌, ◌||◌, ◌==◌, nat_lt, nat_le, refl, subst, arith}
+use Rattle.std.proofs.Common.{◌≡◌, ◌≢◌, ℕ, zero, suc, ◌<◌, List, [], ◌∷◌, length, Option, Some, None, Bool, true, false, ◌&&◌, ◌||◌, ◌==◌, nat_lt, nat_le, refl, subst, arith}
 use Rattle.std.specs.Prelude.{slice_get}
 use Rattle.std.specs.List.{list_all}
 use Rattle.std.proofs.lemmas.Bool.{and_parts}
@@ -26,8 +26,10 @@ use Rattle.vale_cert.specs.declared.facts.RegFact.{RegFact}
 use Rattle.vale_cert.proofs.Safe.{never_wrong}
 use Rattle.vale_cert.proofs.Standing.{ConfigFits}
 use Rattle.vale_cert.proofs.Walks.{judged, lawful}
-use Rattle.vale_machine.specs.Calls.{HasRegister, IsCallable}
-use Rattle.vale_machine.specs.Lawful.{register_of, CallsWell, IsFit, IsRunnable}
+use Rattle.vale_registers.specs.Cells.{HasRegister}
+use Rattle.vale_turn.specs.Served.{register_of, IsFit}
+use Rattle.vale_machine.specs.Calls.{IsCallable}
+use Rattle.vale_machine.specs.Lawful.{CallsWell, IsRunnable}
 use Rattle.vale_machine.proofs.Plainly.{served_here}
 
 -- ---- what lies at a place
@@ -37,8 +39,8 @@ all_at test [] p instr e h = absurd (let x : ⊥ = cc in x)
 all_at test (x ∷ is) zero instr e h = let same : x ≡ instr = cc in subst (λ y. test y ≡ true) same (and_parts _ _ e).0
 all_at test (x ∷ is) (suc p) instr e h = all_at test is p instr (and_parts _ _ e).1 h
 
-within : (r n : ℕ) → nat_lt r n ≡ true → 0 + r < n
-within r n e = let lt : r < n = grind (arith, nat_tests) in omega arith
+within : (r n : ℕ) → nat_lt r n ≡ true → r < n
+within r n e = grind (arith, nat_tests)
 
 one : (a b : Bool) → (a && b) ≡ true → a ≡ true
 one a b e = (and_parts a b e).0
@@ -51,7 +53,7 @@ written : (code : Parts) (n : ℕ) (instr : Instr) (to : ℕ) → numbers code n
 written code n instr to e call is =
     one (nat_lt to n) true (subst (λ l. are_registers n l ≡ true) is (subst (λ b. (b || are_registers n (writes instr)) ≡ true) call (registers code n instr e).1))
 
-room : (code : Parts) (n : ℕ) (instr : Instr) → numbers code n instr ≡ true → HasRegister (register_of instr) 0 n
+room : (code : Parts) (n : ℕ) (instr : Instr) → numbers code n instr ≡ true → HasRegister (register_of instr) n
 room code n (i.Int to m) e = within to n (written code n (i.Int to m) to e refl refl)
 room code n (i.Truth to choice) e = within to n (written code n (i.Truth to choice) to e refl refl)
 room code n (i.Text to text) e = within to n (written code n (i.Text to text) to e refl refl)
@@ -73,7 +75,7 @@ room code n (i.Num to a at) e = within to n (written code n (i.Num to a at) to e
 room code n (i.Ret a) e = within a n (one (nat_lt a n) true (registers code n (i.Ret a) e).0)
 room code n _ e = tt
 
-result_room : (ty : Ty) (to n : ℕ) → (is_void ty || are_registers n (to ∷ [])) ≡ true → HasRegister (result_to ty to) 0 n
+result_room : (ty : Ty) (to n : ℕ) → (is_void ty || are_registers n (to ∷ [])) ≡ true → HasRegister (result_to ty to) n
 result_room t.Void to n e = tt
 result_room t.Int to n e = within to n (one (nat_lt to n) true e)
 result_room t.Truth to n e = within to n (one (nat_lt to n) true e)
@@ -85,14 +87,14 @@ result_room (t.Iso k) to n e = within to n (one (nat_lt to n) true e)
 
 module _ (code : Parts) (facts : List FuncFacts) (cert : Certified code facts) where
   callable : (ty : Ty) (depth : ℕ) (regs : List RegFact) (n to g : ℕ) (args : List ℕ) → (calls depth regs (slice_get code.funcs g) to args).kept.types ≡ true
-      → (is_void_function (slice_get code.funcs g) || are_registers n (to ∷ [])) ≡ true → IsCallable code g to 0 n
+      → (is_void_function (slice_get code.funcs g) || are_registers n (to ∷ [])) ≡ true → IsCallable code g to n
   callable ty depth regs n to g args e h = at (slice_get code.funcs g) refl e h
     where
       plainly : (callee : Func) (b : Bool) → (callee.form == 0) ≡ b → (call_by_form b depth regs callee to args).kept.types ≡ true → callee.form ≡ 0
       plainly callee false q k = absurd (let x : ⊥ = cc in x)
       plainly callee true q k = grind (arith, nat_tests)
 
-      at : (o : Option Func) → slice_get code.funcs g ≡ o → (calls depth regs o to args).kept.types ≡ true → (is_void_function o || are_registers n (to ∷ [])) ≡ true → IsCallable code g to 0 n
+      at : (o : Option Func) → slice_get code.funcs g ≡ o → (calls depth regs o to args).kept.types ≡ true → (is_void_function o || are_registers n (to ∷ [])) ≡ true → IsCallable code g to n
       at None q k m = absurd (let x : ⊥ = cc in x)
       at (Some callee) q k m = record {
         func = callee;
@@ -102,23 +104,19 @@ module _ (code : Parts) (facts : List FuncFacts) (cert : Certified code facts) w
         room = result_room callee.result to n m;
       }
 
-  calls_well : (ty : Ty) (depth : ℕ) (regs : List RegFact) (n : ℕ) (instr : Instr) → (effect code ty depth regs instr).kept.types ≡ true → numbers code n instr ≡ true → CallsWell code instr 0 n
+  calls_well : (ty : Ty) (depth : ℕ) (regs : List RegFact) (n : ℕ) (instr : Instr) → (effect code ty depth regs instr).kept.types ≡ true → numbers code n instr ≡ true → CallsWell code instr n
   calls_well ty depth regs n (i.Call to g args at) e h = callable ty depth regs n to g args e (registers code n (i.Call to g args at) h).1
   calls_well ty depth regs n _ e h = tt
 
   pub runnable : code.kinds ≡ [] → IsRunnable code
-  runnable none = record { fits = fits }
+  runnable none = record { fits = λ f p func instr found at. (fits f p func instr found at).0; calls = λ f p func instr found at. (fits f p func instr found at).1 }
     where
-      fits : (function place : ℕ) (func : Func) (instr : Instr) → slice_get code.funcs function ≡ Some func → slice_get func.body place ≡ Some instr → IsFit code instr 0 func.registers
+      fits : (function place : ℕ) (func : Func) (instr : Instr) → slice_get code.funcs function ≡ Some func → slice_get func.body place ≡ Some instr → IsFit instr func.registers × CallsWell code instr func.registers
       fits function place func instr found at =
           let j = judged code facts cert function func found in
           let k = served_here code none facts cert func j.0 j.1 place instr (lawful code facts cert function func found).head at in
           let numbered = all_at (numbers code func.registers) func.body place instr j.1.numbered at in
-          record {
-            served = k.served;
-            room = room code func.registers instr numbered;
-            calls = calls_well func.result k.known.depth k.known.regs func.registers instr k.types numbered;
-          }
+          (record { served = k.served; room = room code func.registers instr numbered }, calls_well func.result k.known.depth k.known.regs func.registers instr k.types numbered)
 
   -- ---- safety
 

@@ -6,8 +6,8 @@ use Rattle.vale_code.specs.Parts.{Parts}
 use Rattle.vale_code.specs.Run.{go_on, state_in, step, steps}
 use Rattle.vale_code.proofs.RunLaws.{steps_later}
 use Rattle.vale_text.specs.Progress.{Begins, Progresses}
-use Rattle.vale_machine.specs.Kept.{HasFirst, KeepsPieces}
-use Rattle.vale_machine.specs.View.{HasMemory, IsRight, Stepped, config_of, state_of}
+use Rattle.vale_machine.specs.UnderWay.{HasFirst}
+use Rattle.vale_machine.specs.View.{HasMemory, KeepsPieces, Stepped, config_of, state_of}
 use Rattle.vale_machine.specs.declared.machine.Machine.{Machine}
 use Rattle.vale_machine.specs.declared.machine.Step.{Step}
 use Rattle.vale_machine.specs.declared.machine.Step.TheVariants as s
@@ -40,7 +40,7 @@ has_first code taken s.Memory old new e =
 has_first code taken _ old new e = tt
 
 -- no step loses a piece
-pub none_lost : (code : Parts) (t : Step) (old new : Machine) → IsRight t → KeepsPieces t old new → Stepped code [] t (step code (config_of code [] old)) new → Begins old.pieces.items new.pieces.items
+pub none_lost : (code : Parts) (t : Step) (old new : Machine) → KeepsPieces t old new → Stepped code [] t (step code (config_of code [] old)) new → Begins old.pieces.items new.pieces.items
 none_lost code t old new = at t
   where
     goes : Begins old.pieces.items (state_in (step code (config_of code [] old))).pieces
@@ -49,10 +49,9 @@ none_lost code t old new = at t
     led : (next : Next) → step code (config_of code [] old) ≡ next → Begins old.pieces.items (state_in next).pieces
     led next e = subst (λ (x : Next). Begins old.pieces.items (state_in x).pieces) e goes
 
-    at : (t : Step) → IsRight t → KeepsPieces t old new → Stepped code [] t (step code (config_of code [] old)) new → Begins old.pieces.items new.pieces.items
-    at s.Going r k h = led _ h
-    at (s.Trap kind spot) r k h = led _ h
-    at s.Done r k h = led _ h.1
-    at s.Cut r k h = led _ h
-    at s.Memory r k h = ([], k ∙ sym (append-nil old.pieces.items))
-    at s.Wrong r k h = absurd r
+    at : (t : Step) → KeepsPieces t old new → Stepped code [] t (step code (config_of code [] old)) new → Begins old.pieces.items new.pieces.items
+    at s.Going k h = led _ h
+    at (s.Trap kind spot) k h = led _ h
+    at s.Done k h = led _ h.1
+    at s.Cut k h = led _ h
+    at s.Memory k h = ([], k ∙ sym (append-nil old.pieces.items))

@@ -27,7 +27,7 @@ use Rattle.vale_cert.specs.declared.facts.Label.{Label}
 use Rattle.vale_cert.specs.declared.facts.RegFact.{RegFact}
 use Rattle.vale_cert.specs.declared.facts.RegFact.TheVariants.{Empty, Held}
 use Rattle.vale_cert.proofs.Walks.{Stepped, stepped, Judged, lawful, reaches}
-use Rattle.vale_machine.specs.Lawful.{is_served}
+use Rattle.vale_turn.specs.Served.{is_served}
 
 one : (a b : Bool) → (a && b) ≡ true → a ≡ true
 one a b e = (and_parts a b e).0

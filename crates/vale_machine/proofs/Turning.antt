@@ -1,40 +1,74 @@
--- What a step tells of a turn.
-use Rattle.std.proofs.Common.{◌≡◌, suc, None, true, false, List, ap, ◌∙◌, arith}
+-- One instruction as a turn.
+use Rattle.std.proofs.Common.{◌≡◌, ℕ, List, true, false, sym, ap, ◌∙◌, subst, arith}
 use Rattle.vale_base.specs.declared.piece.Piece.{Piece}
-use Rattle.vale_code.specs.Frames.{Next, On}
+use Rattle.vale_code.specs.Frames.{Config, Next, On}
+use Rattle.vale_code.specs.Frames as Frames
+use Rattle.vale_code.specs.Instructions.{fetch}
 use Rattle.vale_code.specs.Parts.{Parts}
-use Rattle.vale_code.specs.Run.{go_on, step, steps}
-use Rattle.vale_machine.specs.UnderWay.{IsUnderWay}
-use Rattle.vale_machine.specs.View.{is_going, IfGoing, IsLaid, IsOver, IsRight, KeepsTicks, Stepped, config_of}
+use Rattle.vale_code.specs.Run.{step}
+use Rattle.vale_turn.specs.View.{EndsBy, IsSafe, is_going}
+use Rattle.vale_turn.specs.declared.stop.Stop.{Stop}
+use Rattle.vale_turn.specs.declared.stop.Stop.TheVariants as stop
+use Rattle.vale_turn.proofs.Stretching.{safe_on}
+use Rattle.vale_machine.specs.UnderWay.{IsUnderWay, TookOne}
+use Rattle.vale_machine.specs.View.{GoesOn, IsLaid, KeepsTicks, config_of, own_cells, scene_of}
 use Rattle.vale_machine.specs.declared.machine.Machine.{Machine}
-use Rattle.vale_machine.specs.declared.machine.Step.{Step}
-use Rattle.vale_machine.specs.declared.machine.Step.TheVariants as s
+use Rattle.vale_machine.proofs.Running.{laid_by}
 
-pub going : (code : Parts) (taken : List Piece) (t : Step) (next : Next) (m : Machine) → true ≡ is_going t → Stepped code taken t next m → next ≡ On (config_of code taken m)
-going code taken s.Going next m e h = h
-going code taken _ next m e h = let x : ⊥ = cc in absurd x
+pub took_step : (code : Parts) (taken : List Piece) (t : Stop) (old new : Machine) → true ≡ is_going t → TookOne code taken t old new → step code (config_of code taken old) ≡ On (config_of code taken new)
+took_step code taken stop.Going old new e h = h
+took_step code taken _ old new e h = let x : ⊥ = cc in absurd x
 
-pub going_laid : (code : Parts) (t : Step) (m : Machine) → true ≡ is_going t → IfGoing t (IsLaid code m) → IsLaid code m
-going_laid code s.Going m e h = h
-going_laid code _ m e h = let x : ⊥ = cc in absurd x
+stood : (code : Parts) (taken : List Piece) (t : Stop) (old new : Machine) → false ≡ is_going t → TookOne code taken t old new
+    → EndsBy code new.top.function (scene_of code taken new) t new.top.place (own_cells new) new.left × (config_of code taken new ≡ config_of code taken old)
+stood code taken stop.Going old new e h = let x : ⊥ = cc in absurd x
+stood code taken stop.Aside old new e h = h
+stood code taken stop.Enters old new e h = h
+stood code taken (stop.Leaves from) old new e h = h
+stood code taken (stop.Trap kind at) old new e h = h
+stood code taken stop.Cut old new e h = h
 
--- a run that is under way has a rule for its next step
-pub right : (code : Parts) (taken : List Piece) (t : Step) (old new : Machine) → IsUnderWay code taken old → Stepped code taken t (step code (config_of code taken old)) new → IsRight t
-right code taken s.Wrong old new u h = u.safe 1 None h.0 (ap (λ x. go_on x (steps code 0)) h.1)
-right code taken _ old new u h = tt
+pub stood_ends : (code : Parts) (taken : List Piece) (t : Stop) (old new : Machine) → false ≡ is_going t → TookOne code taken t old new → EndsBy code new.top.function (scene_of code taken new) t new.top.place (own_cells new) new.left
+stood_ends code taken t old new e h = (stood code taken t old new e h).0
 
--- a step that doesn't go on ends it
-pub over : (t : Step) → IsRight t → false ≡ is_going t → IsOver t
-over s.Going r e = let x : ⊥ = cc in x
-over s.Wrong r e = r
-over _ r e = tt
+pub stood_same : (code : Parts) (taken : List Piece) (t : Stop) (old new : Machine) → false ≡ is_going t → TookOne code taken t old new → config_of code taken new ≡ config_of code taken old
+stood_same code taken t old new e h = (stood code taken t old new e h).1
 
--- and otherwise the run is still under way
-pub goes_on : (code : Parts) (taken : List Piece) (old new : Machine) → IsUnderWay code taken old → step code (config_of code taken old) ≡ On (config_of code taken new) → IsLaid code new → KeepsTicks old new
-    → IsUnderWay code taken new
-goes_on code taken old new u e laid ticks = record {
+pub stood_under_way : (code : Parts) (taken : List Piece) (t : Stop) (old new : Machine) → false ≡ is_going t → TookOne code taken t old new → GoesOn old new → IsUnderWay code taken old → IsUnderWay code taken new
+stood_under_way code taken t old new e h g u = record {
+  runnable = u.runnable;
+  laid = laid_by code old new g.top (ap (λ l. l.items) g.below) g.end g.cells u.laid;
+  ticks = omega (arith, u.ticks, g.ticks.given, g.ticks.left);
+  safe = subst (λ (x : Config). IsSafe code x) (sym (stood_same code taken t old new e h)) u.safe;
+}
+
+-- a turn that goes on
+pub turned_on : (code : Parts) (taken : List Piece) (old new : Machine) → step code (config_of code taken old) ≡ On (config_of code taken new) → IsLaid code new → KeepsTicks old new → IsUnderWay code taken old → IsUnderWay code taken new
+turned_on code taken old new e laid ticks u = record {
   runnable = u.runnable;
   laid = laid;
-  ticks = omega (arith, u.ticks, ticks);
-  safe = λ n v t h. u.safe (suc n) v t (ap (λ x. go_on x (steps code n)) e ∙ h);
+  ticks = omega (arith, u.ticks, ticks.given, ticks.left);
+  safe = safe_on code (config_of code taken old) (config_of code taken new) e u.safe;
 }
+
+-- ---- where the machine stands
+
+abbrev place_of : Frames.Frame → ℕ
+place_of (Frames.Running f) = f.place
+place_of _ = 0
+
+abbrev function_of : Frames.Frame → ℕ
+function_of (Frames.Running f) = f.function
+function_of _ = 0
+
+-- a machine that stood still has the same instruction next
+pub stood_fetches : (code : Parts) (taken : List Piece) (t : Stop) (old new : Machine) → false ≡ is_going t → TookOne code taken t old new → fetch code new.top.function new.top.place ≡ fetch code old.top.function old.top.place
+stood_fetches code taken t old new e h =
+    let same = stood_same code taken t old new e h in
+    ap (λ n. fetch code n new.top.place) (ap (λ (c : Config). function_of c.top) same) ∙ ap (fetch code old.top.function) (ap (λ (c : Config). place_of c.top) same)
+
+pub stood_step : (code : Parts) (taken : List Piece) (t : Stop) (old new : Machine) → false ≡ is_going t → TookOne code taken t old new → step code (config_of code taken old) ≡ step code (config_of code taken new)
+stood_step code taken t old new e h = ap (step code) (sym (stood_same code taken t old new e h))
+
+pub then_ticks : (old mid new : Machine) → KeepsTicks old mid → KeepsTicks mid new → KeepsTicks old new
+then_ticks old mid new a b = record { given = b.given ∙ a.given; left = omega (arith, a.left, b.left) }

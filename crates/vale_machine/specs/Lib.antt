@@ -1,9 +1,8 @@
+pub mod Aside
 pub mod Calls
-pub mod Cells
 pub mod Finishes
 pub mod Given
-pub mod Kept
 pub mod Lawful
-pub mod Replies
+pub mod Printing
 pub mod UnderWay
 pub mod View

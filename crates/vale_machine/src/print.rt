@@ -1,57 +1,29 @@
 // What is printed.
-ghost use Rattle.std.specs.Prelude.{◌≡◌, ◌+◌, ◌<◌, ◌≤◌, ◌^◌, ◌++◌, ◌∷◌, [], List, Bool, Option, Some, None, IfOk, length, option_map, if◌then◌else◌};
-ghost use Rattle.vale_state_spec.specs.State.{State, print_text};
+ghost use Rattle.std.specs.Prelude.{◌≡◌, ◌+◌, ◌<◌, ◌≤◌, ◌^◌, ◌++◌, ◌∷◌, [], Bool, List, Some, None, IfOk, if◌then◌else◌, length};
 ghost use Rattle.vale_base.specs.declared.piece.Piece.{Piece};
-ghost use Rattle.vale_code.specs.Act.{act};
-ghost use Rattle.vale_code.specs.Frames.{Config};
-ghost use Rattle.vale_code.specs.Instructions.{certain};
+ghost use Rattle.vale_state_spec.specs.State.{print_text};
+ghost use Rattle.vale_state_spec.specs.World.{Truth as a_truth};
+ghost use Rattle.vale_code.specs.Instructions.{certain, truth_of};
 ghost use Rattle.vale_code.specs.Parts.{Parts};
 ghost use Rattle.vale_code.specs.Registers.{read};
 ghost use Rattle.vale_code.specs.declared.instr.Instr.{Instr};
-ghost use Rattle.vale_machine.specs.Cells.{shown_in, value_in, values_in};
-ghost use Rattle.vale_machine.specs.Kept.{KeepsPieces};
-ghost use Rattle.vale_machine.specs.View.{IsLaid, KeepsTicks, Stepped, active, below, state_of};
+ghost use Rattle.vale_machine.specs.Aside.{KeepsFrames, next_in};
+ghost use Rattle.vale_machine.specs.Printing.{IsShown, shown_in};
+ghost use Rattle.vale_machine.specs.View.{Stepped, active, below, registers_of, state_of};
 
-use crate::cell::{Cell, cell_at};
 use crate::machine::{Machine, Step};
-use crate::values::chosen;
 use std::alloc::Global;
 use vale_base::{Memory, Piece, Text};
+use vale_registers::{Shape, shape_at};
 
-// The bytes that are printed of a cell, with room for one more where they are a text.
-fn bytes_of(alloc: Global, cell: &Cell) -> Result<Option<Vec<u8>>, Memory>
-    ensures { IfOk result (λ bytes. option_map (λ b. b.items) bytes ≡ shown_in (value_in cell.now)) }
+// The bytes of a truth.
+fn truth_bytes(alloc: Global, truth: bool) -> Result<Vec<u8>, Memory>
+    ensures { IfOk result (λ bytes. shown_in (Some (a_truth truth)) ≡ Some bytes.items) }
 {
-    match cell {
-        Cell::Empty => Ok(None),
-        Cell::Int(number) => {
-            let text = vale_text::text_of(alloc, *number)?;
-            Ok(Some(text.into_vec()))
-        }
-        Cell::Truth(true) => {
-            let bytes = Vec::from_slice(alloc, b"true")?;
-            Ok(Some(bytes))
-        }
-        Cell::Truth(false) => {
-            let bytes = Vec::from_slice(alloc, b"false")?;
-            Ok(Some(bytes))
-        }
-        Cell::Text(text) => {
-            let mut bytes = Vec::with_capacity(alloc, text.as_slice().len() + 1)?;
-            bytes.extend_from_slice(text.as_slice())?;
-            Ok(Some(bytes))
-        }
+    if truth {
+        return Ok(Vec::from_slice(alloc, b"true")?);
     }
-}
-
-// The bytes that are printed of what a register holds.
-fn bytes_at(alloc: Global, registers: &[Cell], from: u32) -> Result<Option<Vec<u8>>, Memory>
-    ensures { IfOk result (λ bytes. option_map (λ b. b.items) bytes ≡ shown_in (read (values_in registers.now) from)) }
-{
-    match cell_at(registers, from) {
-        Some(cell) => bytes_of(alloc, cell),
-        None => Ok(None),
-    }
+    Ok(Vec::from_slice(alloc, b"false")?)
 }
 
 // The bytes, with a line feed where one is wanted.
@@ -65,51 +37,88 @@ fn ended(bytes: Vec<u8>, line: bool) -> Result<Vec<u8>, Memory>
     Ok(bytes)
 }
 
+// A copy of bytes, with room for one more.
+fn roomy(alloc: Global, text: &Text) -> Result<Vec<u8>, Memory>
+    ensures { IfOk result (λ bytes. bytes.items ≡ text.now) }
+{
+    let mut bytes = Vec::with_capacity(alloc, text.as_slice().len() + 1)?;
+    bytes.extend_from_slice(text.as_slice())?;
+    Ok(bytes)
+}
+
+// Whether a line feed is wanted.
+fn is_line(choice: u8) -> bool
+    requires { (b : Bool) × (truth_of choice ≡ Some b) }
+    ensures { truth_of choice ≡ Some result }
+{
+    choice == 1
+}
+
 impl Machine {
+    // The bytes that are printed of a register.
+    fn shown(&self, from: u32) -> Result<Vec<u8>, Memory>
+        requires base { self.now.top.base ≤ self.now.end }
+        requires end { self.now.end ≤ length self.now.cells.items }
+        requires shown { IsShown self.now from }
+        ensures { IfOk result (λ bytes. shown_in (read (registers_of self.now) from) ≡ Some bytes.items) }
+    {
+        match shape_at(self.registers(), from) {
+            Shape::Int => {
+                let number = self.int(from);
+                let text = vale_text::text_of(self.alloc, number)?;
+                Ok(text.into_vec())
+            }
+            Shape::Truth => {
+                let truth = self.truth(from);
+                truth_bytes(self.alloc, truth)
+            }
+            Shape::Text => {
+                let text = self.text(from);
+                roomy(self.alloc, text)
+            }
+            Shape::Empty => unreachable!(),
+        }
+    }
+
     // Bytes are printed now.
     fn put_out(&mut self, bytes: Vec<u8>, line: bool) -> Step
-        requires { self.old.top.place + 1 < 2 ^ 64 }
+        requires place { self.old.top.place + 1 < 2 ^ 64 }
+        requires ticks { self.old.left ≤ self.old.given }
         ensures step { (code : Parts) (taken : List Piece) → Stepped code taken result
-            (certain (active code self.old) None (active code self.old).registers (below code self.old) (state_of taken self.old) (print_text line (Some bytes.items) (state_of taken self.old))) self.new }
-        ensures laid { (code : Parts) → IsLaid code self.old → IsLaid code self.new }
-        ensures ticks { KeepsTicks self.old self.new }
-        ensures kept { KeepsPieces result self.old self.new }
+            (certain (active code self.old) None (registers_of self.old) (below code self.old) (state_of taken self.old) (print_text line (Some bytes.items) (state_of taken self.old))) self.new }
+        ensures keeps { KeepsFrames result self.old self.new }
     {
         let bytes = match ended(bytes, line) {
             Ok(bytes) => bytes,
             Err(_) => return Step::Memory,
         };
         let piece = Piece {
-            tick: self.spent,
+            tick: self.given - self.left,
             bytes: Text::from_vec(bytes),
         };
         match self.pieces.push(piece) {
-            Ok(()) => {
-                self.pass();
-                Step::Going
-            }
-            Err(_) => Step::Memory,
+            Ok(()) => {}
+            Err(_) => return Step::Memory,
         }
+        self.top.place += 1;
+        Step::Going
     }
 
     // What a register holds is printed, with a line feed where the choice is 1.
-    #[inline(never)]
     pub(crate) fn print(&mut self, from: u32, choice: u8) -> Step
+        requires base { self.old.top.base ≤ self.old.end }
+        requires end { self.old.end ≤ length self.old.cells.items }
         requires place { self.old.top.place + 1 < 2 ^ 64 }
-        requires base { self.old.top.base ≤ length self.old.cells.items }
-        ensures step { (code : Parts) (last : Config → State) (taken : List Piece) → Stepped code taken result
-            (act code last (active code self.old) (below code self.old) (state_of taken self.old) (Instr.Print from choice)) self.new }
-        ensures laid { (code : Parts) → IsLaid code self.old → IsLaid code self.new }
-        ensures ticks { KeepsTicks self.old self.new }
-        ensures kept { KeepsPieces result self.old self.new }
+        requires ticks { self.old.left ≤ self.old.given }
+        requires shown { IsShown self.old from }
+        requires choice { (b : Bool) × (truth_of choice ≡ Some b) }
+        ensures step { (code : Parts) (taken : List Piece) → Stepped code taken result (next_in code taken self.old (Instr.Print from choice)) self.new }
+        ensures keeps { KeepsFrames result self.old self.new }
     {
-        match chosen(choice) {
-            Some(line) => match bytes_at(self.alloc, self.registers(), from) {
-                Ok(Some(bytes)) => self.put_out(bytes, line),
-                Ok(None) => Step::Wrong,
-                Err(_) => Step::Memory,
-            },
-            None => Step::Wrong,
+        let line = is_line(choice);
+        match self.shown(from) {
+            Ok(bytes) => self.put_out(bytes, line),
+            Err(_) => Step::Memory,
         }
     }
 }

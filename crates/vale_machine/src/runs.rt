@@ -55,8 +55,8 @@ pub fn run_certified(alloc: Global, code: &Code, input: Input, ticks: u64) -> Fi
             };
         }
     };
-    'turns: loop {
-        let step = machine.step(code);
+    'stretches: loop {
+        let step = machine.advance(code);
         if !step.is_going() {
             let end = machine.end_of(code, step);
             return Finished {

@@ -1,5 +1,5 @@
 // How a machine begins, and what it gives.
-ghost use Rattle.std.specs.Prelude.{◌≡◌, ◌+◌, ◌<◌, ◌≤◌, ◌++◌, [], List, IfOk, true};
+ghost use Rattle.std.specs.Prelude.{◌≡◌, ◌<◌, ◌≤◌, ◌++◌, [], List, IfOk, true};
 ghost use Rattle.vale_base.specs.Limits.{ticks_limit};
 ghost use Rattle.vale_state_spec.specs.State.{no_input};
 ghost use Rattle.vale_base.specs.declared.piece.Piece.{Piece};
@@ -13,12 +13,13 @@ ghost use Rattle.vale_machine.specs.Given.{IsStartable, given_of};
 ghost use Rattle.vale_machine.specs.UnderWay.{IsUnderWay};
 ghost use Rattle.vale_machine.specs.View.{IsLaid, KeepsTicks, config_of};
 
-use crate::calls::{fill, function_of};
 use crate::machine::{Frame, Machine};
 use std::alloc::Global;
 use std::mem;
 use vale_base::{Memory, Piece, Spot, Text};
 use vale_code::Code;
+use vale_registers::{Row, fill};
+use vale_turn::function_of;
 use vale_verifier::Verified;
 
 /// What `main` gets: nothing, or an array of numbers or of texts.
@@ -35,14 +36,15 @@ fn begin(alloc: Global, code: &Code, ticks: u64) -> Result<Machine, Memory>
     requires some { 0 < ticks }
     ensures begins { IfOk result (λ m. start code.now no_input ticks ≡ On (config_of code.now [] m)) }
     ensures laid { IfOk result (λ m. IsLaid code.now m) }
-    ensures ticks { IfOk result (λ m. m.left + m.spent ≡ ticks) }
+    ensures given { IfOk result (λ m. m.given ≡ ticks) }
+    ensures left { IfOk result (λ m. m.left ≤ m.given) }
 {
     let main = function_of(code, code.main);
     let mut cells = Vec::new(alloc);
-    fill(&mut cells, main.registers as usize)?;
+    let end = main.registers as usize;
+    fill(&mut cells, end)?;
     let top = Frame {
         function: code.main,
-        name: main.name,
         at: Spot { line: 1, col: 1 },
         dest: None,
         place: 0,
@@ -51,10 +53,12 @@ fn begin(alloc: Global, code: &Code, ticks: u64) -> Result<Machine, Memory>
     Ok(Machine {
         alloc,
         cells,
+        end,
+        texts: Row::new(alloc),
         top,
         below: Vec::new(alloc),
         left: ticks - 1,
-        spent: 1,
+        given: ticks,
         pieces: Vec::new(alloc),
     })
 }
@@ -75,7 +79,7 @@ impl Machine {
         requires few { ticks ≤ ticks_limit }
         ensures begins { IfOk result (λ m. start code.now (given_of input) ticks ≡ On (config_of code.now [] m)) }
         ensures under_way { IfOk result (λ m. IsUnderWay code.now [] m) }
-        ensures ticks { IfOk result (λ m. m.left + m.spent ≡ ticks) }
+        ensures ticks { IfOk result (λ m. m.given ≡ ticks) }
     {
         begin(alloc, code, ticks)
     }
@@ -95,7 +99,7 @@ impl Machine {
         requires few { ticks ≤ ticks_limit }
         ensures begins { IfOk result (λ m. start code.now.code (given_of input) ticks ≡ On (config_of code.now.code [] m)) }
         ensures under_way { IfOk result (λ m. IsUnderWay code.now.code [] m) }
-        ensures ticks { IfOk result (λ m. m.left + m.spent ≡ ticks) }
+        ensures ticks { IfOk result (λ m. m.given ≡ ticks) }
     {
         Machine::start_code(alloc, &code.code, input, ticks)
     }

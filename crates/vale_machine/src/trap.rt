@@ -1,30 +1,41 @@
 // What is told of a trap.
-ghost use Rattle.std.specs.Prelude.{◌≡◌, ◌-◌, IfOk, length, take};
+ghost use Rattle.std.specs.Prelude.{◌≡◌, ◌-◌, IfOk, length, slice_get, take};
 ghost use Rattle.vale_base.specs.Limits.{report_frames};
 ghost use Rattle.vale_code.specs.Kinds.{text_at};
-ghost use Rattle.vale_machine.specs.View.{call_of, calls_of, frames_of};
+ghost use Rattle.vale_machine.specs.View.{call_of, calls_of, frames_of, name_in};
 
 use crate::machine::{Frame, Machine};
-use crate::values::text_numbered;
 use std::alloc::Global;
 use vale_base::{FrameAt, Frames, Memory, REPORT_FRAMES, Spot, Text, TrapInfo, TrapKind};
 use vale_code::Code;
+
+// A copy of the name of a function; a number that none has gives the empty one.
+fn name_of(alloc: Global, code: &Code, function: u32) -> Result<Text, Memory>
+    ensures { IfOk result (λ text. text ≡ name_in code.now (slice_get code.now.funcs function)) }
+{
+    let functions = code.funcs.as_slice();
+    if function as usize >= functions.len() {
+        return Ok(Text::new(alloc));
+    }
+    text_of(alloc, code, functions[function as usize].name)
+}
 
 // A copy of a text of the code; a number that none has gives the empty one.
 fn text_of(alloc: Global, code: &Code, number: u32) -> Result<Text, Memory>
     ensures { IfOk result (λ text. text ≡ text_at code.now number) }
 {
-    match text_numbered(code, number) {
-        Some(text) => Text::from_slice(alloc, text.as_slice()),
-        None => Ok(Text::new(alloc)),
+    let texts = code.texts.as_slice();
+    if number as usize >= texts.len() {
+        return Ok(Text::new(alloc));
     }
+    Text::from_slice(alloc, texts[number as usize].as_slice())
 }
 
 // The call of a frame.
 fn call_at(alloc: Global, code: &Code, frame: &Frame) -> Result<FrameAt, Memory>
     ensures { IfOk result (λ call. call ≡ call_of code.now frame.now) }
 {
-    let what = text_of(alloc, code, frame.name)?;
+    let what = name_of(alloc, code, frame.function)?;
     Ok(FrameAt { what, at: frame.at })
 }
 

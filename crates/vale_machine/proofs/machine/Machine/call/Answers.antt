@@ -1,103 +1,164 @@
-use Rattle.std.proofs.Common.{◌≡◌, ◌<◌, ◌≤◌, ◌+◌, ◌-◌, ◌++◌, List, length, replicate, Some, None, sym, ap, ◌∙◌, subst, arith}
+use Rattle.std.proofs.Common.{◌≡◌, ◌<◌, ◌≤◌, ◌+◌, ◌-◌, ◌++◌, List, length, take, map, replicate, Some, None, refl, ap, ◌∙◌, subst, arith}
+use Rattle.std.proofs.lemmas.List.{take-take}
 use Rattle.vale_base.specs.Limits.{depth_limit}
-use Rattle.vale_state_spec.specs.Outcome.{Cut}
-use Rattle.vale_code.specs.Frames.{Over}
+use Rattle.vale_base.specs.declared.piece.Piece.{Piece}
 use Rattle.vale_code.specs.Kinds.{result_to}
-use Rattle.vale_code.specs.Registers.{give_all}
+use Rattle.vale_code.specs.Registers.{give_all, read}
+use Rattle.vale_code.specs.Run.{last_state}
 use Rattle.vale_code.specs.declared.func.Func.{Func}
-use Rattle.vale_code.specs.declared.ty.Ty.{Ty}
-use Rattle.vale_machine.specs.Calls.{HasRegister}
-use Rattle.vale_machine.specs.View.{active, below, state_of}
-use Rattle.vale_machine.specs.declared.cell.Cell.TheVariants as cell
+use Rattle.vale_registers.specs.Cells.{HasRegister}
+use Rattle.vale_registers.specs.Passing.{values_from}
+use Rattle.vale_machine.specs.View.{active, below, own_cells, own_texts, registers_of, row_of, state_of}
 use Rattle.vale_machine.specs.declared.machine.Frame.{Frame}
 use Rattle.vale_machine.specs.declared.machine.Machine.{Machine}
-use Rattle.vale_machine.proofs.Entering.{same_func, call_is, call_wrong, too_deep, deep_enough, entered_so, entered_laid, call_entered, call_laid, frame_for}
-use Rattle.vale_machine.proofs.Keeping.{keeps_on}
-use Rattle.vale_machine.proofs.Passing.{given_length, full}
-use Rattle.vale_machine.proofs.Told.{ticked_on, not_ticked}
+use Rattle.vale_machine.proofs.Entering.{call_is, deep_enough, entered, lies, no_tick, one_tick, same_func, too_deep, IsEntered}
+use Rattle.vale_machine.proofs.Frames.{row_size, same_row}
+use Rattle.vale_machine.proofs.Giving.{are_given, args_within, map_count, registers_given}
 use Rattle.vale_machine.proofs.machine.Machine.call.Goals as goal
 
-pub returns-in-Wrong-clause-step : goal.returns-in-Wrong-clause-step
-returns-in-Wrong-clause-step c = λ last taken.
-    let code = c.args.code.now in let m = c.args.self.now in let func = c.function_of-callee.result.now in
-    let same = same_func _ _ func c.requires.callable.found c.function_of-callee.ensures in
-    let plain = subst (λ (f : Func). f.form ≡ 0) same c.requires.callable.plain in
-    let given = subst (λ (ps : List Ty). give_all ps c.args.args.now (active code m).registers ≡ None) c.as_slice.ensures c.in-Wrong.ensures in (
-      state_of taken m,
-      call_wrong code last (active code m) (below code m) (state_of taken m) c.args.to c.args.function c.args.args.now c.args.at func c.function_of-callee.ensures plain given,
-    )
-
 pub returns-then-len-gt-DEPTH_LIMIT-clause-step : goal.returns-then-len-gt-DEPTH_LIMIT-clause-step
-returns-then-len-gt-DEPTH_LIMIT-clause-step c = λ last taken.
-    let code = c.args.code.now in let m = c.args.self.now in let func = c.function_of-callee.result.now in
-    let same = same_func _ _ func c.requires.callable.found c.function_of-callee.ensures in
+returns-then-len-gt-DEPTH_LIMIT-clause-step c = λ taken.
+    let code = c.args.code.now in
+    let m = c.args.self.now in
+    let there = c.requires.laid.there in
+    let g = c.requires.given in
+    let func = g.func in
+    let same = same_func _ _ func c.requires.callable.found g.found in
     let plain = subst (λ (f : Func). f.form ≡ 0) same c.requires.callable.plain in
-    let p = c.in-All.ensures in
-    let given = subst (λ (ps : List Ty). give_all ps c.args.args.now (active code m).registers ≡ Some (record { values = p.values; after = (active code m).registers })) c.as_slice.ensures p.is in
+    let given = are_given (own_texts m) (own_cells m) func.params c.args.args.now g.read g.is in
+    let all : give_all func.params c.args.args.now (registers_of m) ≡ Some (record { values = g.read.values; after = registers_of m }) = g.is ∙ ap (λ x. Some (record { values = g.read.values; after = x })) given.after in
+    let is = λ (taken : List Piece). call_is code (last_state code) (active code m) (below code m) (state_of taken m) c.args.to c.args.function c.args.args.now c.args.at func g.read.values (registers_of m) g.found plain all in
     let deep : depth_limit < length m.below.items + 2 = omega (arith, c.len.ensures, m.below.ok.0, c.if-len-gt-DEPTH_LIMIT.true) in
-    call_is code last (active code m) (below code m) (state_of taken m) c.args.to c.args.function c.args.args.now c.args.at func p.values (active code m).registers c.function_of-callee.ensures plain given
-    ∙ too_deep code taken m (active code m).registers c.args.at _ deep
+    is taken ∙ too_deep code taken m c.args.at _ deep
 
-pub returns-then-not-take_tick-clause-step : goal.returns-then-not-take_tick-clause-step
-returns-then-not-take_tick-clause-step c = λ last taken.
-    let code = c.args.code.now in let m = c.args.self.now in let func = c.function_of-callee.result.now in
-    let same = same_func _ _ func c.requires.callable.found c.function_of-callee.ensures in
+pub returns-then-self-eq0-clause-step : goal.returns-then-self-eq0-clause-step
+returns-then-self-eq0-clause-step c = λ taken.
+    let code = c.args.code.now in
+    let m = c.args.self.now in
+    let there = c.requires.laid.there in
+    let g = c.requires.given in
+    let func = g.func in
+    let same = same_func _ _ func c.requires.callable.found g.found in
     let plain = subst (λ (f : Func). f.form ≡ 0) same c.requires.callable.plain in
-    let p = c.in-All.ensures in
-    let given = subst (λ (ps : List Ty). give_all ps c.args.args.now (active code m).registers ≡ Some (record { values = p.values; after = (active code m).registers })) c.as_slice.ensures p.is in
+    let given = are_given (own_texts m) (own_cells m) func.params c.args.args.now g.read g.is in
+    let all : give_all func.params c.args.args.now (registers_of m) ≡ Some (record { values = g.read.values; after = registers_of m }) = g.is ∙ ap (λ x. Some (record { values = g.read.values; after = x })) given.after in
+    let is = λ (taken : List Piece). call_is code (last_state code) (active code m) (below code m) (state_of taken m) c.args.to c.args.function c.args.args.now c.args.at func g.read.values (registers_of m) g.found plain all in
     let flat : length m.below.items + 2 ≤ depth_limit = omega (arith, c.len.ensures, m.below.ok.0, c.if-len-gt-DEPTH_LIMIT.false) in
-    let t = c.if-not-take_tick.ensures in
-    call_is code last (active code m) (below code m) (state_of taken m) c.args.to c.args.function c.args.args.now c.args.at func p.values (active code m).registers c.function_of-callee.ensures plain given
-    ∙ deep_enough code taken m (active code m).registers c.args.at _ flat
-    ∙ not_ticked (state_of taken m) _ t.0
-    ∙ ap (λ (x : Machine). Over Cut None (state_of taken x)) (sym t.1)
+    is taken ∙ deep_enough code taken m c.args.at _ flat ∙ no_tick (state_of taken m) _ c.if-self-eq0.true
 
-pub returns-in-Ok-clause-step : goal.returns-in-Ok-clause-step
-returns-in-Ok-clause-step c = λ last taken.
-    let code = c.args.code.now in let m = c.args.self.now in let func = c.function_of-callee.result.now in
-    let same = same_func _ _ func c.requires.callable.found c.function_of-callee.ensures in
+pub pass-requires-clause-top : goal.pass-requires-clause-top
+pass-requires-clause-top c =
+    let code = c.args.code.now in
+    let m = c.args.self.now in
+    let there = c.requires.laid.there in
+    let g = c.requires.given in
+    let func = g.func in
+    let same = same_func _ _ func c.requires.callable.found g.found in
     let plain = subst (λ (f : Func). f.form ≡ 0) same c.requires.callable.plain in
-    let p = c.in-All.ensures in
-    let given = subst (λ (ps : List Ty). give_all ps c.args.args.now (active code m).registers ≡ Some (record { values = p.values; after = (active code m).registers })) c.as_slice.ensures p.is in
-    let flat : length m.below.items + 2 ≤ depth_limit = omega (arith, c.len.ensures, m.below.ok.0, c.if-len-gt-DEPTH_LIMIT.false) in
-    let t = c.if-not-take_tick.ensures in
-    let base : c.len-base.result ≡ length m.cells.items = c.len-base.ensures ∙ m.cells.ok.0 in
-    let frame : Frame = record { function = c.args.function; name = func.name; at = c.args.at; dest = c.dest_of.result; place = 0; base = c.len-base.result } in
-    let is : frame ≡ frame_for func c.args.function c.args.to c.args.at (length m.cells.items) = (let d = c.dest_of.ensures in cc) in
-    let cells : c.fill.new.cells.items ≡ full m.cells.items p.more func.registers =
-    c.in-Ok.ensures
-    ∙ ap (λ l. l ++ replicate (c.len-base.result + func.registers - length l) cell.Empty) (ap (λ (x : Machine). x.cells.items) t.1 ∙ p.behind)
-    ∙ ap (λ n. (m.cells.items ++ p.more) ++ replicate (n + func.registers - length (m.cells.items ++ p.more)) cell.Empty) base in
-    let mid : Machine = record c.take_tick.new.self { cells = c.fill.new.cells } in
-    entered_so code taken c.enter.result frame mid c.enter.new.self _ c.enter.ensures.entered (λ h.
-    call_is code last (active code m) (below code m) (state_of taken m) c.args.to c.args.function c.args.args.now c.args.at func p.values (active code m).registers c.function_of-callee.ensures plain given
-    ∙ deep_enough code taken m (active code m).registers c.args.at _ flat
-    ∙ ticked_on (state_of taken m) _ t.0
-    ∙ call_entered code m mid c.enter.new.self frame func p.more p.values c.args.function c.args.to c.args.at is (ap (λ (x : Machine). x.top) t.1) (ap (λ (x : Machine). x.below) t.1) cells p.all h taken _ (ap (λ (x : Machine). state_of taken x) t.1))
-
-pub returns-in-Ok-clause-laid : goal.returns-in-Ok-clause-laid
-returns-in-Ok-clause-laid c =
-    let code = c.args.code.now in let m = c.args.self.now in let func = c.function_of-callee.result.now in
-    let same = same_func _ _ func c.requires.callable.found c.function_of-callee.ensures in
-    let plain = subst (λ (f : Func). f.form ≡ 0) same c.requires.callable.plain in
-    let p = c.in-All.ensures in
-    let given = subst (λ (ps : List Ty). give_all ps c.args.args.now (active code m).registers ≡ Some (record { values = p.values; after = (active code m).registers })) c.as_slice.ensures p.is in
-    let t = c.if-not-take_tick.ensures in
-    let base : c.len-base.result ≡ length m.cells.items = c.len-base.ensures ∙ m.cells.ok.0 in
-    let frame : Frame = record { function = c.args.function; name = func.name; at = c.args.at; dest = c.dest_of.result; place = 0; base = c.len-base.result } in
-    let is : frame ≡ frame_for func c.args.function c.args.to c.args.at (length m.cells.items) = (let d = c.dest_of.ensures in cc) in
-    let cells : c.fill.new.cells.items ≡ full m.cells.items p.more func.registers =
-    c.in-Ok.ensures
-    ∙ ap (λ l. l ++ replicate (c.len-base.result + func.registers - length l) cell.Empty) (ap (λ (x : Machine). x.cells.items) t.1 ∙ p.behind)
-    ∙ ap (λ n. (m.cells.items ++ p.more) ++ replicate (n + func.registers - length (m.cells.items ++ p.more)) cell.Empty) base in
-    let mid : Machine = record c.take_tick.new.self { cells = c.fill.new.cells } in
+    let given = are_given (own_texts m) (own_cells m) func.params c.args.args.now g.read g.is in
+    let callee : c.function_of-callee.result.now ≡ func = same_func _ _ func c.function_of-callee.ensures g.found in
     let params = subst (λ (f : Func). length f.params ≤ f.registers) same c.requires.callable.params in
-    let few : length p.values ≤ func.registers = omega (arith, given_length func.params c.args.args.now (active code m).registers _ given, params) in
-    let room = subst (λ (f : Func). HasRegister (result_to f.result c.args.to) m.top.base (length m.cells.items)) same c.requires.callable.room in
-    entered_laid code c.enter.result frame mid c.enter.new.self c.enter.ensures.entered (λ h.
-    call_laid code m mid c.enter.new.self frame func p.more p.values c.args.function c.args.to c.args.at is (ap (λ (x : Machine). x.top) t.1) (ap (λ (x : Machine). x.below) t.1) cells p.all h c.function_of-callee.ensures plain few room c.requires.laid)
+    let registers : c.function_of-callee.result.now.registers ≡ func.registers = ap (λ (f : Func). f.registers) callee in
+    let count : length c.args.args.now ≤ func.registers = omega (arith, given.count, params, map_count (read (registers_of m)) c.args.args.now g.read.values given.values) in
+    omega (arith, count, registers)
 
-pub returns-in-Ok-clause-kept : goal.returns-in-Ok-clause-kept
-returns-in-Ok-clause-kept c =
-    let mid : Machine = record c.take_tick.new.self { cells = c.fill.new.cells } in
-    keeps_on c.enter.result c.args.self.now mid c.enter.new.self (ap (λ (x : Machine). x.pieces.items) c.if-not-take_tick.ensures.1) c.enter.ensures.kept
+pub pass-requires-clause-end : goal.pass-requires-clause-end
+pass-requires-clause-end c = c.in-Ok.ensures.size
+
+pub pass-requires-clause-within : goal.pass-requires-clause-within
+pass-requires-clause-within c =
+    let code = c.args.code.now in
+    let m = c.args.self.now in
+    let there = c.requires.laid.there in
+    let g = c.requires.given in
+    let func = g.func in
+    let same = same_func _ _ func c.requires.callable.found g.found in
+    let plain = subst (λ (f : Func). f.form ≡ 0) same c.requires.callable.plain in
+    let given = are_given (own_texts m) (own_cells m) func.params c.args.args.now g.read g.is in
+    args_within (own_texts m) c.args.args.now g.read.values m.top.base m.end (row_of m) given.values (omega (arith, c.requires.laid.lie.0.size)) (row_size m there)
+
+pub returns-clause-step : goal.returns-clause-step
+returns-clause-step c = λ taken.
+    let code = c.args.code.now in
+    let m = c.args.self.now in
+    let there = c.requires.laid.there in
+    let g = c.requires.given in
+    let func = g.func in
+    let same = same_func _ _ func c.requires.callable.found g.found in
+    let plain = subst (λ (f : Func). f.form ≡ 0) same c.requires.callable.plain in
+    let given = are_given (own_texts m) (own_cells m) func.params c.args.args.now g.read g.is in
+    let all : give_all func.params c.args.args.now (registers_of m) ≡ Some (record { values = g.read.values; after = registers_of m }) = g.is ∙ ap (λ x. Some (record { values = g.read.values; after = x })) given.after in
+    let is = λ (taken : List Piece). call_is code (last_state code) (active code m) (below code m) (state_of taken m) c.args.to c.args.function c.args.args.now c.args.at func g.read.values (registers_of m) g.found plain all in
+    let callee : c.function_of-callee.result.now ≡ func = same_func _ _ func c.function_of-callee.ensures g.found in
+    let params = subst (λ (f : Func). length f.params ≤ f.registers) same c.requires.callable.params in
+    let registers : c.function_of-callee.result.now.registers ≡ func.registers = ap (λ (f : Func). f.registers) callee in
+    let count : length c.args.args.now ≤ func.registers = omega (arith, given.count, params, map_count (read (registers_of m)) c.args.args.now g.read.values given.values) in
+    let end = m.end + c.function_of-callee.result.now.registers in
+    let row : take m.end c.reserve.new.cells.items ≡ row_of m = same_row m.cells.items c.reserve.new.cells.items m.end there c.in-Ok.ensures.same in
+    let p = c.in-Ok-pass.ensures.passed in
+    let f = read (registers_of m) in
+    let own : values_from m.end c.pass.new.texts (take end c.pass.new.cells.items) ≡ map f c.args.args.now ++ replicate (end - m.end - length c.args.args.now) None =
+    p.own ∙ ap (λ l. map (read (values_from m.top.base m.texts l)) c.args.args.now ++ replicate (end - m.end - length c.args.args.now) None) row in
+    let size : end ≡ m.end + func.registers = ap (λ n. m.end + n) registers in
+    let dest : c.dest_of-dest.result ≡ result_to func.result c.args.to = c.dest_of-dest.ensures ∙ ap (λ (f : Func). result_to f.result c.args.to) callee in
+    let made : Frame = record { function = c.args.function; at = c.args.at; dest = c.dest_of-dest.result; place = 0; base = m.end } in
+    let top = ap (λ o. record made { dest = o }) dest in
+    let new : Machine = record { alloc = m.alloc; cells = c.pass.new.cells; end = end; texts = c.pass.new.texts; top = made; below = c.push.new.self; left = m.left - 1; given = m.given; pieces = m.pieces } in
+    let q : IsEntered code func m new c.args.to c.args.function c.args.at g.read.values = record {
+      found = g.found;
+      top = top;
+      end = size;
+      there = omega (arith, c.in-Ok.ensures.size, c.pass.ensures.size);
+      below = c.in-Ok-push.ensures.items;
+      registers = registers_given f c.args.args.now g.read.values m.end end func.registers _ size given.values own;
+      under = take-take m.end end c.pass.new.cells.items (omega arith) ∙ p.row ∙ row;
+      texts = p.others;
+      left = refl;
+      given = refl;
+      pieces = refl;
+    } in
+    let flat : length m.below.items + 2 ≤ depth_limit = omega (arith, c.len.ensures, m.below.ok.0, c.if-len-gt-DEPTH_LIMIT.false) in
+    is taken ∙ deep_enough code taken m c.args.at _ flat
+    ∙ one_tick m.left m.given (taken ++ m.pieces.items) _ (omega (arith, c.if-self-eq0.false)) c.requires.ticks
+    ∙ entered code func m new c.args.to c.args.function c.args.at g.read.values q there taken
+
+pub returns-clause-laid : goal.returns-clause-laid
+returns-clause-laid c =
+    let code = c.args.code.now in
+    let m = c.args.self.now in
+    let there = c.requires.laid.there in
+    let g = c.requires.given in
+    let func = g.func in
+    let same = same_func _ _ func c.requires.callable.found g.found in
+    let plain = subst (λ (f : Func). f.form ≡ 0) same c.requires.callable.plain in
+    let given = are_given (own_texts m) (own_cells m) func.params c.args.args.now g.read g.is in
+    let callee : c.function_of-callee.result.now ≡ func = same_func _ _ func c.function_of-callee.ensures g.found in
+    let params = subst (λ (f : Func). length f.params ≤ f.registers) same c.requires.callable.params in
+    let registers : c.function_of-callee.result.now.registers ≡ func.registers = ap (λ (f : Func). f.registers) callee in
+    let count : length c.args.args.now ≤ func.registers = omega (arith, given.count, params, map_count (read (registers_of m)) c.args.args.now g.read.values given.values) in
+    let end = m.end + c.function_of-callee.result.now.registers in
+    let row : take m.end c.reserve.new.cells.items ≡ row_of m = same_row m.cells.items c.reserve.new.cells.items m.end there c.in-Ok.ensures.same in
+    let p = c.in-Ok-pass.ensures.passed in
+    let f = read (registers_of m) in
+    let own : values_from m.end c.pass.new.texts (take end c.pass.new.cells.items) ≡ map f c.args.args.now ++ replicate (end - m.end - length c.args.args.now) None =
+    p.own ∙ ap (λ l. map (read (values_from m.top.base m.texts l)) c.args.args.now ++ replicate (end - m.end - length c.args.args.now) None) row in
+    let size : end ≡ m.end + func.registers = ap (λ n. m.end + n) registers in
+    let dest : c.dest_of-dest.result ≡ result_to func.result c.args.to = c.dest_of-dest.ensures ∙ ap (λ (f : Func). result_to f.result c.args.to) callee in
+    let made : Frame = record { function = c.args.function; at = c.args.at; dest = c.dest_of-dest.result; place = 0; base = m.end } in
+    let top = ap (λ o. record made { dest = o }) dest in
+    let new : Machine = record { alloc = m.alloc; cells = c.pass.new.cells; end = end; texts = c.pass.new.texts; top = made; below = c.push.new.self; left = m.left - 1; given = m.given; pieces = m.pieces } in
+    let q : IsEntered code func m new c.args.to c.args.function c.args.at g.read.values = record {
+      found = g.found;
+      top = top;
+      end = size;
+      there = omega (arith, c.in-Ok.ensures.size, c.pass.ensures.size);
+      below = c.in-Ok-push.ensures.items;
+      registers = registers_given f c.args.args.now g.read.values m.end end func.registers _ size given.values own;
+      under = take-take m.end end c.pass.new.cells.items (omega arith) ∙ p.row ∙ row;
+      texts = p.others;
+      left = refl;
+      given = refl;
+      pieces = refl;
+    } in
+    let room = subst (λ (f : Func). HasRegister (result_to f.result c.args.to) (m.end - m.top.base)) same c.requires.callable.room in
+    lies code func m new c.args.to c.args.function c.args.at g.read.values q plain room c.requires.laid

@@ -4,7 +4,7 @@ use Rattle.vale_base.specs.declared.trap.TrapInfo.{TrapInfo}
 use Rattle.vale_code.specs.Frames.{Next, Over}
 use Rattle.vale_code.specs.Run.{state_in}
 use Rattle.vale_text.specs.Progress.{Begins}
-use Rattle.vale_machine.specs.Kept.{HasFirst}
+use Rattle.vale_machine.specs.UnderWay.{HasFirst}
 use Rattle.vale_machine.specs.View.{Stepped, state_of}
 use Rattle.vale_machine.specs.declared.machine.Step.{Step}
 use Rattle.vale_machine.proofs.machine.Machine.end_of.Goals as goal

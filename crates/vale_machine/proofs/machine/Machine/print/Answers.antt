@@ -1,25 +1,14 @@
-use Rattle.std.proofs.Common.{Bool, Option, None, sym, ap, ◌≡◌, ◌∙◌, subst}
-use Rattle.vale_state_spec.specs.State.{print}
-use Rattle.vale_code.specs.Instructions.{certain, with_choice, with_value}
-use Rattle.vale_code.specs.Registers.{read}
-use Rattle.vale_machine.specs.Cells.{shown_in, values_in}
-use Rattle.vale_machine.specs.View.{active, below, state_of}
-use Rattle.vale_machine.proofs.Operations.{not_printed}
+use Rattle.std.proofs.Common.{sym, subst}
+use Rattle.vale_code.specs.Frames.{Next}
+use Rattle.vale_machine.specs.View.{Stepped}
+use Rattle.vale_machine.proofs.Getting.{frames_same}
+use Rattle.vale_machine.proofs.Reading.{printed_here}
 use Rattle.vale_machine.proofs.machine.Machine.print.Goals as goal
 
-pub returns-in-None-clause-step : goal.returns-in-None-clause-step
-returns-in-None-clause-step c = λ code last taken.
-    let m = c.args.self.now in (
-      state_of taken m,
-      ap (λ (o : Option Bool). with_choice o (state_of taken m) (λ line. with_value (read (active code m).registers c.args.from) (state_of taken m) (λ v. certain (active code m) None (active code m).registers (below code m) (state_of taken m) (print line v (state_of taken m)))))
-          (sym c.in-None.ensures),
-    )
+pub returns-in-Ok-clause-step : goal.returns-in-Ok-clause-step
+returns-in-Ok-clause-step c = λ code taken.
+    subst (λ (n : Next). Stepped code taken c.put_out.result n c.put_out.new.self)
+    (sym (printed_here code taken c.args.self.now c.args.from c.args.choice c.is_line-line.result c.in-Ok.bytes.items c.is_line-line.ensures c.in-Ok.ensures)) (c.put_out.ensures.step code taken)
 
-pub returns-in-Ok-None-clause-step : goal.returns-in-Ok-None-clause-step
-returns-in-Ok-None-clause-step c = λ code last taken.
-    let m = c.args.self.now in (
-      state_of taken m,
-      ap (λ (o : Option Bool). with_choice o (state_of taken m) (λ line. with_value (read (active code m).registers c.args.from) (state_of taken m) (λ v. certain (active code m) None (active code m).registers (below code m) (state_of taken m) (print line v (state_of taken m)))))
-          (sym c.in-Some.ensures)
-          ∙ not_printed _ (state_of taken m) c.in-Some.line (subst (λ rs. None ≡ shown_in (read (values_in rs) c.args.from)) c.registers.ensures (rw c.in-Ok-None.field-0-is at c.in-Ok-None.ensures)) (active code m) (active code m).registers (below code m),
-    )
+pub returns-in-Err-clause-keeps : goal.returns-in-Err-clause-keeps
+returns-in-Err-clause-keeps c = frames_same _ c.args.self.now

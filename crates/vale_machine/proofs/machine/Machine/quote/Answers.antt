@@ -1,18 +1,18 @@
-use Rattle.std.proofs.Common.{ℕ, List, Some, Option, refl, sym, ap, ◌∙◌, subst}
+use Rattle.std.proofs.Common.{ℕ, List, Option, Some, sym, ap, ◌∙◌, subst}
 use Rattle.vale_state_spec.specs.World.{Text}
-use Rattle.vale_code.specs.Act.{sets}
-use Rattle.vale_code.specs.Instructions.{with_choice}
-use Rattle.vale_machine.specs.View.{Stepped, active, below, state_of}
+use Rattle.vale_code.specs.Instructions.{onward, with_choice}
+use Rattle.vale_code.specs.Registers.{put}
+use Rattle.vale_machine.specs.View.{Stepped, active, below, registers_of, state_of}
+use Rattle.vale_machine.proofs.Getting.{frames_same}
 use Rattle.vale_machine.proofs.machine.Machine.quote.Goals as goal
 
 pub returns-in-Ok-clause-step : goal.returns-in-Ok-clause-step
-returns-in-Ok-clause-step c = λ last taken.
-    let code = c.args.code.now in let m = c.args.self.now in
-    subst (λ (o : Option (List ℕ)). Stepped code taken c.set.result (with_choice o (state_of taken m) (λ t. sets code last (active code m) (below code m) (state_of taken m) c.args.to (Text t))) c.set.new.self)
-    (ap Some (c.in-Ok.ensures ∙ c.as_slice.ensures) ∙ c.in-Some.ensures)
-    (c.set.ensures.step code last taken (Text c.in-Ok.copy) refl)
+returns-in-Ok-clause-step c = λ taken.
+    let code = c.args.code.now in
+    let m = c.args.self.now in
+    subst (λ (o : Option (List ℕ)). Stepped code taken c.take_text.result (with_choice o (state_of taken m) (λ t. onward (active code m) (put (registers_of m) c.args.to (Some (Text t))) (below code m) (state_of taken m))) c.take_text.new.self)
+    (ap Some (c.in-Ok.ensures ∙ c.as_slice.ensures) ∙ sym c.text_numbered-quoted.ensures)
+    (c.take_text.ensures.step code taken)
 
-pub returns-in-None-clause-step : goal.returns-in-None-clause-step
-returns-in-None-clause-step c = λ last taken.
-    let code = c.args.code.now in let m = c.args.self.now in
-    (state_of taken m, ap (λ (o : Option (List ℕ)). with_choice o (state_of taken m) (λ t. sets code last (active code m) (below code m) (state_of taken m) c.args.to (Text t))) (sym c.in-None.ensures))
+pub returns-in-Err-clause-keeps : goal.returns-in-Err-clause-keeps
+returns-in-Err-clause-keeps c = frames_same _ c.args.self.now

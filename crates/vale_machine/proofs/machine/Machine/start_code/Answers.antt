@@ -12,4 +12,4 @@ begin-requires-clause-startable c =
 pub returns-clause-under_way : goal.returns-clause-under_way
 returns-clause-under_way c =
     let code = c.args.code.now in
-    if_started code c.requires.certified.0 c.requires.certified.1 c.args.ticks c.begin.result c.requires.no_kinds (subst (λ i. takes_input code (given_of i) ≡ true) c.requires.none c.requires.takes) c.requires.few c.begin.ensures.begins c.begin.ensures.laid c.begin.ensures.ticks
+    if_started code c.requires.certified.0 c.requires.certified.1 c.args.ticks c.begin.result c.requires.no_kinds (subst (λ i. takes_input code (given_of i) ≡ true) c.requires.none c.requires.takes) c.begin.ensures.begins c.begin.ensures.laid c.begin.ensures.left

@@ -1,0 +1,4 @@
+pub mod Bases
+pub mod Passes
+pub mod Registers
+pub mod Rows

@@ -1,0 +1,4 @@
+pub mod Cells
+pub mod Passing
+pub mod Shares
+pub mod Texts
