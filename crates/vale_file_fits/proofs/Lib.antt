@@ -1,0 +1,6 @@
+mod ListFits
+mod InstrFits
+mod PartFits
+mod FuncFits
+mod WholeFits
+mod ShapeFits

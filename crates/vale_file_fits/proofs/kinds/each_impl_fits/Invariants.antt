@@ -1,0 +1,7 @@
+use Rattle.std.proofs.Common.{take}
+use Rattle.std.specs.List.{AllByRecursion}
+use Rattle.vale_file_fits.specs.Fits.{ImplIsFit}
+use Rattle.vale_file_fits.proofs.kinds.each_impl_fits.Given as goal
+
+abbrev pub invariant-loop-part : goal.invariant-loop-part
+invariant-loop-part l = AllByRecursion ImplIsFit (take l.part-index l.parts)

@@ -1,0 +1,8 @@
+use Rattle.std.proofs.Common.{◌≡◌, ◌-◌}
+use Rattle.vale_codec.specs.Format.{many_read}
+use Rattle.vale_file_spec.specs.Types.{word}
+use Rattle.vale_codec.proofs.Loops.{with_front}
+use Rattle.vale_file_reader.proofs.instrs.read_each_word.Given as goal
+
+abbrev pub invariant-loop : goal.invariant-loop
+invariant-loop l = with_front l.parts.items (many_read word (l.count - l.counter) l.rest) ≡ many_read word l.count l.bytes

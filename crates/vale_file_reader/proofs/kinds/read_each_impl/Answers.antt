@@ -1,0 +1,17 @@
+use Rattle.std.proofs.lemmas.Result.{err_from_is_err_and}
+use Rattle.vale_codec.specs.Format.{many_read}
+use Rattle.vale_file_spec.specs.File.{impl_info}
+use Rattle.vale_codec.proofs.Loops.{goes_on, ends, is_done}
+use Rattle.vale_file_reader.proofs.kinds.read_each_impl.Goals as goal
+
+pub returns-in_err-part : goal.returns-in_err-part
+returns-in_err-part c =
+    let p = err_from_is_err_and c.from_residual.result c.from_residual.ensures.1 in
+    rw (p.1, p.2) (ends impl_info c.in_err-part.field-0.0 c.loop.parts.items c.args.count c.loop.counter c.loop.rest.now (many_read impl_info c.args.count c.args.bytes.now) c.loop-test.true c.in_err-part.ensures c.loop.invariant)
+
+pub loop-preserved : goal.loop-preserved
+loop-preserved c =
+    rw c.in_ok-push.ensures.items (goes_on impl_info c.loop.parts.items c.args.count c.loop.counter c.loop.rest.now c.in_ok-part.part c.in_ok-part.after.now (many_read impl_info c.args.count c.args.bytes.now) c.loop-test.true c.in_ok-part.ensures c.loop.invariant)
+
+pub returns : goal.returns
+returns c = is_done impl_info c.loop.parts.items c.args.count c.loop.counter c.loop.rest.now (many_read impl_info c.args.count c.args.bytes.now) c.loop-test.false c.loop.invariant

@@ -1,0 +1,7 @@
+use Rattle.std.proofs.Common.{◌≡◌, ◌++◌, take}
+use Rattle.std.specs.List.{flat_map}
+use Rattle.vale_file_spec.specs.File.{kind_info}
+use Rattle.vale_file_writer.proofs.kinds.write_each_kind.Given as goal
+
+abbrev pub invariant-loop-part : goal.invariant-loop-part
+invariant-loop-part l = l.out.items ≡ l.fn.out.items ++ flat_map kind_info.write (take l.part-index l.parts)
