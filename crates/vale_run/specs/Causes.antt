@@ -7,7 +7,7 @@ use Rattle.vale_run.specs.Means.{HasOptions, Needs, TakesInput}
 use Rattle.vale_run.specs.Owed.{Serves}
 use Rattle.vale_words.specs.FirstFault.{Word}
 use Rattle.vale_words.specs.declared.job.Job.{Job}
-use Rattle.vale_words.specs.declared.job.Job.TheVariants.{Run, Check, Fmt}
+use Rattle.vale_words.specs.declared.job.Job.TheVariants.{Run, Check, Fmt, Build, Exec, List as ListCode}
 use Rattle.vale_words.specs.declared.job.Options.{Options}
 
 -- ---- read faults
@@ -25,6 +25,9 @@ abbrev pub JobReadFailed : Job → List Word → ShelfState → ShelfState → T
 JobReadFailed (Run file options) words old new = FileReadFailed file words old new
 JobReadFailed (Check file) words old new = FileReadFailed file words old new
 JobReadFailed (Fmt file) words old new = FileReadFailed file words old new
+JobReadFailed (Build file code) words old new = FileReadFailed file words old new
+JobReadFailed (Exec code options) words old new = FileReadFailed code words old new
+JobReadFailed (ListCode code) words old new = FileReadFailed code words old new
 JobReadFailed _ words old new = ⊥
 
 -- the words ask for a job that is served, and the read of a file of the job failed in the call
@@ -58,3 +61,7 @@ MayRead words = (job : Job) × Serves words job
 -- what the words ask for may take input
 abbrev pub MayTakeInput : List Word → ShelfState → Type 0
 MayTakeInput words shelf = (job : Job) × Serves words job × TakesInput job words shelf
+
+-- the words ask for the one job that writes a file
+abbrev pub MayWrite : List Word → Type 0
+MayWrite words = (file code : ℕ) × Serves words (Build file code)

@@ -1,4 +1,7 @@
+pub mod Built
 pub mod Causes
+pub mod CodeFaults
+pub mod CodeFiles
 pub mod Formatted
 pub mod Headline
 pub mod Means

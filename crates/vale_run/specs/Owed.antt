@@ -7,13 +7,14 @@ use Rattle.vale_deliver.specs.Outside.{Outside}
 use Rattle.vale_deliver.specs.declared.answer.Answer.{Answer}
 use Rattle.vale_ports.specs.Shelf.{ShelfState}
 use Rattle.vale_ports.specs.Streams.{SourceState, SinkState}
+use Rattle.vale_ports.specs.declared.files.File.{File}
 use Rattle.vale_model.specs.Report.{spot_text, report_text}
-use Rattle.vale_run.specs.Means.{Effect, refuses, rejects, prints, runs, Means}
+use Rattle.vale_run.specs.Means.{Effect, refuses, rejects, prints, runs, writes, misreads, distrusts, leaves_code, Means}
 use Rattle.vale_state_spec.specs.Outcome.{Outcome, End, Done, Trap, Cut, Wrong, output}
 use Rattle.vale_words.specs.FirstFault.{Word, IsFirstFault}
 use Rattle.vale_words.specs.Words.{Asks, Lawful}
 use Rattle.vale_words.specs.declared.job.Job.{Job}
-use Rattle.vale_words.specs.declared.job.Job.TheVariants.{Run, Check, Fmt}
+use Rattle.vale_words.specs.declared.job.Job.TheVariants.{Run, Check, Fmt, Build, Exec, List as ListCode}
 
 -- ---- answers
 
@@ -34,6 +35,18 @@ bad_word index = plain_answer 2 [] (codes "word " ++ decimal index ++ codes "\n"
 
 abbrev pub bad_input : ℕ → Answer
 bad_input place = plain_answer 2 [] (codes "input at " ++ decimal place ++ codes "\n")
+
+-- a code file can't be read, by this fault at this byte
+abbrev pub misread : ℕ → ℕ → Answer
+misread code at = plain_answer 9 [] (codes "F0" ++ decimal code ++ codes " at " ++ decimal at ++ codes "\n")
+
+-- the code of a file isn't certified, by this rule at this place
+abbrev pub distrusted : ℕ → ℕ → Answer
+distrusted rule at = plain_answer 9 [] (codes "V0" ++ decimal rule ++ codes " at " ++ decimal at ++ codes "\n")
+
+-- nothing but this file
+abbrev pub written : File → Answer
+written file = record { status = 0; file = Some file; out = []; err = [] }
 
 abbrev pub read_fault : Answer
 read_fault = plain_answer 6 [] (codes "read fault\n")
@@ -61,6 +74,10 @@ Allows (refuses code at) a = a ≡ refused code at
 Allows (rejects place) a = a ≡ bad_input place
 Allows (prints out) a = a ≡ plain_answer 0 out []
 Allows (runs o) a = EndsWith o a
+Allows (writes file) a = a ≡ written file
+Allows (misreads code at) a = a ≡ misread code at
+Allows (distrusts rule at) a = a ≡ distrusted rule at
+Allows leaves_code a = a ≡ bad_word 0
 
 -- the answer to an effect that is so
 abbrev pub AnswersSome : (Effect → Type 0) → Answer → Type 0
@@ -74,12 +91,15 @@ other_option index [] = None
 other_option index (key ∷ []) = None
 other_option index (key ∷ value ∷ more) = if bytes_eq key (codes "--ticks") then other_option (index + 2) more else Some index
 
--- The least index of a word whose command or option isn't served yet: of the commands `run`, `check` and `fmt` are, of the
--- options `--ticks`.
+-- The least index of a word whose command or option isn't served yet: of the commands all are but `gen`, of the options
+-- `--ticks`.
 abbrev pub unserved : Job → List Word → Option ℕ
 unserved (Run file options) words = other_option 2 (drop 2 words)
 unserved (Check file) words = None
 unserved (Fmt file) words = None
+unserved (Build file code) words = None
+unserved (Exec code options) words = other_option 2 (drop 2 words)
+unserved (ListCode code) words = None
 unserved _ words = Some 0
 
 -- the words ask for this job, and it is served

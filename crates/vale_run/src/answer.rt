@@ -4,19 +4,20 @@ ghost use Rattle.vale_base.specs.Limits.{ticks_limit};
 ghost use Rattle.vale_ports.specs.Shelf.{HasFile, KeepsFiles, ReadsFile};
 ghost use Rattle.vale_ports.specs.Streams.{SourceState};
 ghost use Rattle.vale_run.specs.Causes.{ReadFailed, FileFails, MayRead};
-ghost use Rattle.vale_run.specs.Means.{counts, RunsTo, ChecksTo, FormatsTo};
-ghost use Rattle.vale_run.specs.Owed.{plain_answer, refused, bad_word, other_option, AnswersSome, OwesUntaken};
+ghost use Rattle.vale_run.specs.Means.{counts, RunsTo, ChecksTo, FormatsTo, BuildsTo, ExecsTo, ListsTo};
+ghost use Rattle.vale_run.specs.Owed.{plain_answer, other_option, unserved, AnswersSome, OwesUntaken, Serves};
 ghost use Rattle.vale_syntax.specs.Canon.{canon};
 ghost use Rattle.vale_syntax.specs.View.{view_tree};
 ghost use Rattle.vale_words.specs.Words.{Asks, texts};
 
+use crate::codes::{build_text, exec_code, list_code};
 use crate::laws::served_programs_are_plain;
-use crate::plain::plain_answer;
+use crate::plain::{bad_word, plain_answer, refused};
 use crate::running::run_program;
 use std::alloc::Global;
-use vale_base::{Fail, Memory, PROGRAM_LIMIT, Spot, Text};
+use vale_base::{CODE_FILE_LIMIT, Fail, Memory, PROGRAM_LIMIT, Text};
 use vale_deliver::Answer;
-use vale_front::{Refusal, front, read};
+use vale_front::{front, read};
 use vale_ports::{Shelf, ShelfFault};
 use vale_printer::print;
 use vale_sound::accepted_programs_run;
@@ -39,24 +40,6 @@ impl From<Memory> for Stop {
     fn from(_: Memory) -> Self {
         Stop::Memory
     }
-}
-
-fn refused(alloc: Global, refusal: Refusal) -> Result<Answer, Memory>
-    ensures { IfOk result (λ a. a ≡ refused refusal.code refusal.at) }
-{
-    let (tens, ones) = (refusal.code / 10, refusal.code % 10);
-    let Spot { line, col } = refusal.at;
-    let line = format!(in alloc; "E{tens}{ones} at {line}:{col}\n")?;
-    let err = Text::from_slice(alloc, line.as_bytes())?;
-    Ok(plain_answer(1, Text::new(alloc), err))
-}
-
-fn bad_word(alloc: Global, index: usize) -> Result<Answer, Memory>
-    ensures { IfOk result (λ a. a ≡ bad_word index) }
-{
-    let line = format!(in alloc; "word {index}\n")?;
-    let err = Text::from_slice(alloc, line.as_bytes())?;
-    Ok(plain_answer(2, Text::new(alloc), err))
 }
 
 /// The answer to the run of a text, with 1 to 2^62 ticks to spend.
@@ -113,14 +96,20 @@ pub fn format_text(alloc: Global, text: &[u8]) -> Result<Answer, Memory>
     }
 }
 
-// What is to be known of a program's file: no more of it than tells that it is too long.
-fn read_program<H: Shelf>(alloc: Global, name: &str, shelf: &mut H) -> Result<Vec<u8>, Stop>
-    ensures bytes { IfOk result (λ bytes. ReadsFile (H.state shelf.old).files name.now 1048577 bytes.items) }
+// What is to be known of a file: no more of it than tells that it is too long.
+fn read_file<H: Shelf>(
+    alloc: Global,
+    name: &str,
+    limit: usize,
+    shelf: &mut H,
+) -> Result<Vec<u8>, Stop>
+    requires { limit < 2 ^ 32 }
+    ensures bytes { IfOk result (λ bytes. ReadsFile (H.state shelf.old).files name.now (limit + 1) bytes.items) }
     ensures read { IsErrOf result Stop.ReadFault → ReadFailed (H.state shelf.old) (H.state shelf.new) name.now }
     ensures files { KeepsFiles (H.state shelf.old).files (H.state shelf.new).files }
     ensures later { (H.state shelf.old).faults ≤ (H.state shelf.new).faults }
 {
-    match shelf.read(alloc, name, PROGRAM_LIMIT as u64 + 1) {
+    match shelf.read(alloc, name, limit as u64 + 1) {
         Ok(bytes) => Ok(bytes),
         Err(ShelfFault::Failed) => Err(Stop::ReadFault),
         Err(ShelfFault::Memory) => Err(Stop::Memory),
@@ -141,7 +130,7 @@ fn run_file<H: Shelf>(
     ensures files { KeepsFiles (H.state shelf.old).files (H.state shelf.new).files }
     ensures later { (H.state shelf.old).faults ≤ (H.state shelf.new).faults }
 {
-    let text = read_program(alloc, name, shelf)?;
+    let text = read_file(alloc, name, PROGRAM_LIMIT, shelf)?;
     Ok(run_text(alloc, &text, options)?)
 }
 
@@ -152,7 +141,7 @@ fn check_file<H: Shelf>(alloc: Global, name: &str, shelf: &mut H) -> Result<Answ
     ensures files { KeepsFiles (H.state shelf.old).files (H.state shelf.new).files }
     ensures later { (H.state shelf.old).faults ≤ (H.state shelf.new).faults }
 {
-    let text = read_program(alloc, name, shelf)?;
+    let text = read_file(alloc, name, PROGRAM_LIMIT, shelf)?;
     Ok(check_text(alloc, &text)?)
 }
 
@@ -163,8 +152,53 @@ fn format_file<H: Shelf>(alloc: Global, name: &str, shelf: &mut H) -> Result<Ans
     ensures files { KeepsFiles (H.state shelf.old).files (H.state shelf.new).files }
     ensures later { (H.state shelf.old).faults ≤ (H.state shelf.new).faults }
 {
-    let text = read_program(alloc, name, shelf)?;
+    let text = read_file(alloc, name, PROGRAM_LIMIT, shelf)?;
     Ok(format_text(alloc, &text)?)
+}
+
+// The answer to the build of a file, whose code gets a file of the other name.
+fn build_file<H: Shelf>(
+    alloc: Global,
+    name: &str,
+    code: &str,
+    shelf: &mut H,
+) -> Result<Answer, Stop>
+    ensures owed { IfOk result (λ a. (text : List ℕ) × HasFile (H.state shelf.old).files name.now text × AnswersSome (BuildsTo text code.now) a) }
+    ensures read { IsErrOf result Stop.ReadFault → ReadFailed (H.state shelf.old) (H.state shelf.new) name.now }
+    ensures files { KeepsFiles (H.state shelf.old).files (H.state shelf.new).files }
+    ensures later { (H.state shelf.old).faults ≤ (H.state shelf.new).faults }
+{
+    let text = read_file(alloc, name, PROGRAM_LIMIT, shelf)?;
+    Ok(build_text(alloc, &text, code)?)
+}
+
+// The answer to the run of a code file.
+fn exec_file<H: Shelf>(
+    alloc: Global,
+    name: &str,
+    options: &Options,
+    shelf: &mut H,
+) -> Result<Answer, Stop>
+    requires some { 0 < options.now.ticks }
+    requires few { options.now.ticks ≤ ticks_limit }
+    ensures owed { IfOk result (λ a. (text : List ℕ) × HasFile (H.state shelf.old).files name.now text × AnswersSome (ExecsTo text options.now) a) }
+    ensures read { IsErrOf result Stop.ReadFault → ReadFailed (H.state shelf.old) (H.state shelf.new) name.now }
+    ensures files { KeepsFiles (H.state shelf.old).files (H.state shelf.new).files }
+    ensures later { (H.state shelf.old).faults ≤ (H.state shelf.new).faults }
+{
+    let bytes = read_file(alloc, name, CODE_FILE_LIMIT, shelf)?;
+    Ok(exec_code(alloc, &bytes, options)?)
+}
+
+// The answer to the listing of a code file.
+fn list_file<H: Shelf>(alloc: Global, name: &str, shelf: &mut H) -> Result<Answer, Stop>
+    ensures owed { IfOk result (λ a. (text : List ℕ) × HasFile (H.state shelf.old).files name.now text × AnswersSome (ListsTo text) a) }
+    ensures read { IsErrOf result Stop.ReadFault → ReadFailed (H.state shelf.old) (H.state shelf.new) name.now }
+    ensures files { KeepsFiles (H.state shelf.old).files (H.state shelf.new).files }
+    ensures later { (H.state shelf.old).faults ≤ (H.state shelf.new).faults }
+{
+    let bytes = read_file(alloc, name, CODE_FILE_LIMIT, shelf)?;
+    Ok(list_code(alloc, &bytes)?)
 }
 
 // The index of the first option that isn't served, where the options begin at this index.
@@ -182,8 +216,53 @@ fn other_option(words: &[String], index: usize) -> Option<usize>
     }
 }
 
-// The answer to a job that was asked for.
+// The index of the first word that isn't served.
+fn unserved(job: &Job, words: &[String]) -> Option<usize>
+    requires { Asks (texts words.now) job.now }
+    ensures { result ≡ unserved job.now (texts words.now) }
+{
+    match job {
+        Job::Run { .. } => other_option(&words[2..], 2),
+        Job::Exec { .. } => other_option(&words[2..], 2),
+        Job::Gen { .. } => Some(0),
+        Job::GenText { .. } => Some(0),
+        _ => None,
+    }
+}
+
+// The answer to a job that is served.
 fn do_job<H: Shelf>(
+    alloc: Global,
+    job: &Job,
+    words: &[String],
+    shelf: &mut H,
+) -> Result<Answer, Stop>
+    requires { Serves (texts words.now) job.now }
+    ensures owed { IfOk result (OwesUntaken (texts words.now) (H.state shelf.old) (H.state shelf.new)) }
+    ensures read { IsErrOf result Stop.ReadFault → FileFails (texts words.now) (H.state shelf.old) (H.state shelf.new) }
+    ensures files { KeepsFiles (H.state shelf.old).files (H.state shelf.new).files }
+    ensures later { (H.state shelf.old).faults ≤ (H.state shelf.new).faults }
+{
+    match job {
+        Job::Run { file, options } => {
+            run_file(alloc, words[*file as usize].as_str(), options, shelf)
+        }
+        Job::Check { file } => check_file(alloc, words[*file as usize].as_str(), shelf),
+        Job::Fmt { file } => format_file(alloc, words[*file as usize].as_str(), shelf),
+        Job::Build { file, code } => {
+            let name = words[*file as usize].as_str();
+            build_file(alloc, name, words[*code as usize].as_str(), shelf)
+        }
+        Job::Exec { code, options } => {
+            exec_file(alloc, words[*code as usize].as_str(), options, shelf)
+        }
+        Job::List { code } => list_file(alloc, words[*code as usize].as_str(), shelf),
+        _ => unreachable!(),
+    }
+}
+
+// The answer to a job that was asked for.
+fn answer_job<H: Shelf>(
     alloc: Global,
     job: &Job,
     words: &[String],
@@ -196,16 +275,9 @@ fn do_job<H: Shelf>(
     ensures files { KeepsFiles (H.state shelf.old).files (H.state shelf.new).files }
     ensures later { (H.state shelf.old).faults ≤ (H.state shelf.new).faults }
 {
-    match job {
-        Job::Run { file, options } => {
-            if let Some(index) = other_option(&words[2..], 2) {
-                return Ok(bad_word(alloc, index)?);
-            }
-            run_file(alloc, words[*file as usize].as_str(), options, shelf)
-        }
-        Job::Check { file } => check_file(alloc, words[*file as usize].as_str(), shelf),
-        Job::Fmt { file } => format_file(alloc, words[*file as usize].as_str(), shelf),
-        _ => Ok(bad_word(alloc, 0)?),
+    match unserved(job, words) {
+        Some(index) => Ok(bad_word(alloc, index)?),
+        None => do_job(alloc, job, words, shelf),
     }
 }
 
@@ -218,7 +290,7 @@ pub fn answer_of<H: Shelf>(alloc: Global, words: &[String], shelf: &mut H) -> Re
     ensures later { (H.state shelf.old).faults ≤ (H.state shelf.new).faults }
 {
     match read_words(alloc, words) {
-        Ok(job) => do_job(alloc, &job, words, shelf),
+        Ok(job) => answer_job(alloc, &job, words, shelf),
         Err(Fail::Is(fault)) => Ok(bad_word(alloc, fault.index as usize)?),
         Err(Fail::Memory) => Err(Stop::Memory),
     }

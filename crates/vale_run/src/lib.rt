@@ -2,6 +2,7 @@
 #![tactic(auto)]
 
 mod answer;
+mod codes;
 mod laws;
 mod plain;
 mod running;

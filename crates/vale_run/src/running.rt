@@ -57,8 +57,8 @@ fn cut(alloc: Global, out: Text, ticks: u64) -> Result<Answer, Memory>
     Ok(plain_answer(4, out, err))
 }
 
-// What is told of a run with so many ticks.
-fn told(alloc: Global, ran: &Finished, ticks: u64) -> Result<Answer, Memory>
+/// What is told of a run with so many ticks.
+pub fn told(alloc: Global, ran: &Finished, ticks: u64) -> Result<Answer, Memory>
     ensures { (o : Outcome) → Finishes ran.now ticks o → IfOk result (EndsWith o) }
 {
     let out = joined(alloc, &ran.pieces)?;

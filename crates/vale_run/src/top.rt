@@ -1,7 +1,8 @@
 // The top call.
 ghost use Rattle.std.specs.Prelude.{◌≡◌, ◌≢◌};
 ghost use Rattle.vale_ports.specs.Shelf.{KeepsFiles};
-ghost use Rattle.vale_run.specs.Causes.{MayRead, MayTakeInput};
+ghost use Rattle.vale_run.specs.Built.{BuildsWhatIsMeant};
+ghost use Rattle.vale_run.specs.Causes.{MayRead, MayTakeInput, MayWrite};
 ghost use Rattle.vale_run.specs.Formatted.{StaysFormatted};
 ghost use Rattle.vale_run.specs.Headline.{Answers};
 ghost use Rattle.vale_run.specs.Owed.{OwesOne};
@@ -9,7 +10,7 @@ ghost use Rattle.vale_run.specs.Plain.{TakeNoInput};
 ghost use Rattle.vale_words.specs.Words.{texts};
 
 use crate::answer::{Stop, answer_of};
-use crate::laws::served_programs_are_plain;
+use crate::laws::{built_code_does_what_is_meant, served_programs_are_plain};
 use std::alloc::Global;
 use std::thread::Threads;
 use vale_deliver::{Status, deliver, send};
@@ -19,9 +20,9 @@ const READ_FAULT: u8 = 6;
 
 const WANT_OF_MEMORY: u8 = 8;
 
-/// Does what the words ask for (docs/LANGUAGE.md, "The command line" and "Answers"), with the file from the shelf:
-/// `run FILE` writes what the program in it prints to `out`, `fmt FILE` the program's canonical text, and both to `err`
-/// why it was refused or stopped.
+/// Does what the words ask for (docs/LANGUAGE.md, "The command line" and "Answers"), with the files of the shelf:
+/// `run FILE` and `exec CODE` write what a program prints to `out`, `fmt FILE` a program's canonical text, `list CODE` the
+/// listing of a code file, and all to `err` why a file was refused or a run stopped; `build FILE CODE` writes a code file.
 pub fn valec<R: Threads + Sync, H: Shelf, I: Source, O: Sink, E: Sink, G: Gate + Sync>(
     rt: &R,
     alloc: Global,
@@ -40,13 +41,17 @@ pub fn valec<R: Threads + Sync, H: Shelf, I: Source, O: Sink, E: Sink, G: Gate +
     // no file is read unless the words ask for something that is served, and no input unless the program takes it
     ensures unread { (MayRead (texts words.now) → ⊥) → shelf.new ≡ shelf.old }
     ensures untaken { (MayTakeInput (texts words.now) (H.state shelf.old) → ⊥) → input.new ≡ input.old }
-    // So far no program takes input, none needs a page, and no file is written.
+    // the code that is built of a program does what the program means
+    ensures built { BuildsWhatIsMeant }
+    // no file is written unless the words ask for it
+    ensures files { (MayWrite (texts words.now) → ⊥) → KeepsFiles (H.state shelf.old).files (H.state shelf.new).files }
+    // So far no program takes input, and none needs a page.
     ensures takes_none { TakeNoInput }
     ensures input { input.new ≡ input.old }
     ensures pages { result.0 ≢ 5 }
-    ensures files { KeepsFiles (H.state shelf.old).files (H.state shelf.new).files }
 {
     served_programs_are_plain();
+    built_code_does_what_is_meant();
     match answer_of(alloc, words, shelf) {
         Ok(answer) => deliver(alloc, &answer, shelf, out, err),
         Err(Stop::Memory) => send(WANT_OF_MEMORY, &[], b"memory\n", out, err),
