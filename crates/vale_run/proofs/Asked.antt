@@ -3,7 +3,7 @@ use Rattle.std.proofs.Common.{◌<◌, ◌≤◌, ℕ, List, [], ◌∷◌, arit
 use Rattle.std.specs.Prelude.{unwrap_or}
 use Rattle.vale_base.specs.Limits.{ticks_limit, ticks_default}
 use Rattle.vale_words.specs.FirstFault.{Word}
-use Rattle.vale_words.specs.Words.{Asks, AsksBehind, ChoosesFrom, IsValue, nothing_chosen, with_setting}
+use Rattle.vale_words.specs.Words.{Asks, AsksBehind, ChoosesFrom, IsNameWith, IsValue, nothing_chosen, with_setting}
 use Rattle.vale_words.specs.declared.job.Job.TheVariants as j
 use Rattle.vale_words.specs.declared.job.Options.{Options}
 use Rattle.vale_words.specs.declared.options.Chosen.{Chosen}
@@ -37,12 +37,25 @@ ticks_from chosen (key ∷ []) options is h = absurd is
 ticks_from chosen (key ∷ value ∷ more) options (setting, named, open_yet, is, rest) h =
     ticks_from (with_setting setting chosen) more options rest (ticks_kept value setting chosen is h)
 
-ticks_behind : (command : Command) (words : List Word) (file : ℕ) (options : Options) → AsksBehind command words (j.Run file options) → IsTicks options.ticks
-ticks_behind c.Run (name ∷ more) file options behind = ticks_from nothing_chosen more options behind.1.1 (record { some = omega arith; few = omega arith })
-ticks_behind c.Run [] file options behind = absurd behind.1
-ticks_behind _ words file options behind = absurd behind
+-- where the ticks of a name with options are asked for
+ticks_with : (words : List Word) (options : Options) → IsNameWith words options → IsTicks options.ticks
+ticks_with [] options names = absurd names
+ticks_with (name ∷ more) options names = ticks_from nothing_chosen more options names.1 (record { some = omega arith; few = omega arith })
+
+run_behind : (command : Command) (words : List Word) (file : ℕ) (options : Options) → AsksBehind command words (j.Run file options) → IsTicks options.ticks
+run_behind c.Run words file options behind = ticks_with words options behind.1
+run_behind _ words file options behind = absurd behind
+
+exec_behind : (command : Command) (words : List Word) (code : ℕ) (options : Options) → AsksBehind command words (j.Exec code options) → IsTicks options.ticks
+exec_behind c.Exec words code options behind = ticks_with words options behind.1
+exec_behind _ words code options behind = absurd behind
 
 -- the ticks of a run that the words ask for
 pub asked_ticks : (words : List Word) (file : ℕ) (options : Options) → Asks words (j.Run file options) → IsTicks options.ticks
 asked_ticks [] file options asks = absurd asks
-asked_ticks (word ∷ more) file options (command, text, asks) = ticks_behind command more file options asks
+asked_ticks (word ∷ more) file options (command, text, asks) = run_behind command more file options asks
+
+-- the same of a code file's
+pub exec_ticks : (words : List Word) (code : ℕ) (options : Options) → Asks words (j.Exec code options) → IsTicks options.ticks
+exec_ticks [] code options asks = absurd asks
+exec_ticks (word ∷ more) code options (command, text, asks) = exec_behind command more code options asks

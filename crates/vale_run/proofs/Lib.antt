@@ -1,7 +1,11 @@
 pub mod Asked
+pub mod BuiltLaws
+pub mod CodeAnswers
+pub mod CodeLaws
 pub mod Comings
 pub mod FormattedAgain
 pub mod Jobs
 pub mod OneAnswer
+pub mod OneCode
 pub mod Owed
 pub mod PlainLaws

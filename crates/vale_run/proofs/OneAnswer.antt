@@ -7,6 +7,14 @@ use Rattle.vale_deliver.specs.declared.answer.Answer.{Answer}
 use Rattle.vale_front.specs.Front.{Unread, too_long, no_tokens, no_tree, Unsound, with_interfaces, ill_declared, ill_typed, ill_owned, not_served as not_compiled, Serves as IsServed, Refused, unread, unsound, Accepts}
 use Rattle.vale_front.specs.Interfaces.{has_interfaces}
 use Rattle.vale_served_spec.specs.Served.{is_served}
+use Rattle.vale_cert.specs.declared.facts.FuncFacts.{FuncFacts}
+use Rattle.vale_code.specs.Parts.{Parts}
+use Rattle.vale_code.specs.Run.{run_code}
+use Rattle.vale_file_spec.proofs.WholeLaws.{one_spelling}
+use Rattle.vale_file_spec.specs.File.{Spells}
+use Rattle.vale_listing.specs.Listing.{listing}
+use Rattle.vale_lower_facts.specs.Marks.{lowered_facts}
+use Rattle.vale_lowering.specs.Lowered.{lowered}
 use Rattle.vale_lexer.proofs.OneCut.{one_tokens, one_fault as one_lex_fault}
 use Rattle.vale_model.specs.Input.{taken}
 use Rattle.vale_model.specs.Meaning.{meaning}
@@ -15,6 +23,7 @@ use Rattle.vale_parser.specs.Refusal.{IsRefusal}
 use Rattle.vale_parser.specs.declared.parser.ParseFault.{ParseFault}
 use Rattle.vale_ports.specs.Shelf.{Files, ShelfState, HasFile}
 use Rattle.vale_ports.specs.Streams.{SourceState}
+use Rattle.vale_ports.specs.declared.files.File.{File}
 use Rattle.vale_reading.specs.ItemReading.{all_of}
 use Rattle.vale_reading.specs.Steps.{Fault as ReadingFault}
 use Rattle.vale_rules_spec.specs.DeclFaults.{declared}
@@ -24,10 +33,12 @@ use Rattle.vale_rules_spec.specs.Sites.{sites}
 use Rattle.vale_rules_spec.specs.Typed.{Typed}
 use Rattle.vale_rules_spec.specs.Typing.{typed}
 use Rattle.vale_rules_spec.specs.WellFormed.{Reads}
-use Rattle.vale_run.specs.Means.{HasLeft, HasText, HasInput, input_form, Effect, refuses, rejects, prints, runs, RunsTo, refused_run, no_input_read, input_read, counts, ChecksTo, refused_check, checks, FormatsTo, refused_format, formats, Means}
+use Rattle.vale_run.specs.CodeFiles.{Misread, Uncertified, ReadsCertified, is_run}
+use Rattle.vale_run.proofs.OneCode.{one_misread, one_distrusted, one_certified, misread_distrusted, misread_certified, distrusted_certified}
+use Rattle.vale_run.specs.Means.{HasLeft, HasText, HasInput, input_form, Effect, refuses, rejects, prints, runs, RunsTo, refused_run, no_input_read, input_read, counts, ChecksTo, refused_check, checks, FormatsTo, refused_format, formats, writes, misreads, distrusts, leaves_code, BuildsTo, refused_build, builds, ExecsTo, misread_exec, distrusted_exec, unrun, execs, ListsTo, misread_list, distrusted_list, lists, Means}
 use Rattle.vale_run.specs.Owed.{AnswersEnd, Allows, unserved, Serves, Owes, no_job, not_served, served, IsTold, OwesOne, bad_word}
 use Rattle.vale_state_spec.specs.Outcome.{Outcome, End, Done, Trap, Cut, Wrong, output}
-use Rattle.vale_state_spec.specs.State.{Given}
+use Rattle.vale_state_spec.specs.State.{Given, no_input}
 use Rattle.vale_syntax.specs.Canon.{canon}
 use Rattle.vale_syntax.specs.Cut.{start}
 use Rattle.vale_syntax.specs.Grammar.{spells}
@@ -261,6 +272,62 @@ one_layout text e f (refused_format c a r is) (formats y s gives) = absurd (unre
 one_layout text e f (formats x r is) (refused_format d b s gives) = absurd (unread_reads text d b x s r)
 one_layout text e f (formats x r is) (formats y s gives) = is ∙ ap (λ z. prints (canon z)) (tree_of text x y r s) ∙ sym gives
 
+one_build : (text name : List ℕ) (e f : Effect) → BuildsTo text name e → BuildsTo text name f → e ≡ f
+one_build text name e f (refused_build c a r is) (refused_build d b s gives) =
+    let (code, at) = one_refused text c d a b r s in
+    is ∙ ap (λ z. refuses z a) code ∙ ap (refuses d) at ∙ sym gives
+one_build text name e f (refused_build c a r is) (builds y es q k bytes spells gives) = absurd (refused_accepted text c a y es q r k)
+one_build text name e f (builds x ds p h bytes spells is) (refused_build d b s gives) = absurd (refused_accepted text d b x ds p s h)
+one_build text name e f (builds x ds p h bytes spells is) (builds y es q k more spelled gives) =
+    let same : q ≡ p = one_program text y x es ds q p k h in
+    let one : bytes ≡ more = one_spelling bytes more 1 (lowered p) (lowered_facts p) spells (subst (λ z. Spells more 1 (lowered z) (lowered_facts z)) same spelled) in
+    is ∙ ap (λ z. writes (record { name = name; bytes = z })) one ∙ sym gives
+
+one_exec : (bytes : List ℕ) (options : Options) (e f : Effect) → ExecsTo bytes options e → ExecsTo bytes options f → e ≡ f
+one_exec bytes options e f (misread_exec c a m is) (misread_exec d b n gives) =
+    let (code, at) = one_misread bytes c d a b m n in
+    is ∙ ap (λ z. misreads z a) code ∙ ap (misreads d) at ∙ sym gives
+one_exec bytes options e f (misread_exec c a m is) (distrusted_exec d b u gives) = absurd (misread_distrusted bytes c a d b m u)
+one_exec bytes options e f (misread_exec c a m is) (unrun code facts r no gives) = absurd (misread_certified bytes c a code facts m r)
+one_exec bytes options e f (misread_exec c a m is) (execs code facts r yes gives) = absurd (misread_certified bytes c a code facts m r)
+one_exec bytes options e f (distrusted_exec d b u is) (misread_exec c a m gives) = absurd (misread_distrusted bytes c a d b m u)
+one_exec bytes options e f (distrusted_exec c a u is) (distrusted_exec d b v gives) =
+    let (rule, at) = one_distrusted bytes c d a b u v in
+    is ∙ ap (λ z. distrusts z a) rule ∙ ap (distrusts d) at ∙ sym gives
+one_exec bytes options e f (distrusted_exec c a u is) (unrun code facts r no gives) = absurd (distrusted_certified bytes c a code facts u r)
+one_exec bytes options e f (distrusted_exec c a u is) (execs code facts r yes gives) = absurd (distrusted_certified bytes c a code facts u r)
+one_exec bytes options e f (unrun code facts r no is) (misread_exec c a m gives) = absurd (misread_certified bytes c a code facts m r)
+one_exec bytes options e f (unrun code facts r no is) (distrusted_exec c a u gives) = absurd (distrusted_certified bytes c a code facts u r)
+one_exec bytes options e f (unrun code facts r no is) (unrun other known s never gives) = is ∙ sym gives
+one_exec bytes options e f (unrun code facts r no is) (execs other known s yes gives) =
+    let (same, also) = one_certified bytes code other facts known r s in
+    absurd (let both : false ≡ true = sym no ∙ ap is_run same ∙ yes in cc both)
+one_exec bytes options e f (execs code facts r yes is) (misread_exec c a m gives) = absurd (misread_certified bytes c a code facts m r)
+one_exec bytes options e f (execs code facts r yes is) (distrusted_exec c a u gives) = absurd (distrusted_certified bytes c a code facts u r)
+one_exec bytes options e f (execs code facts r yes is) (unrun other known s no gives) =
+    let (same, also) = one_certified bytes code other facts known r s in
+    absurd (let both : true ≡ false = sym yes ∙ ap is_run same ∙ no in cc both)
+one_exec bytes options e f (execs code facts r yes is) (execs other known s also_yes gives) =
+    let (same, also) = one_certified bytes code other facts known r s in
+    is ∙ ap (λ z. runs (run_code z no_input options.ticks)) same ∙ sym gives
+
+one_listing : (bytes : List ℕ) (e f : Effect) → ListsTo bytes e → ListsTo bytes f → e ≡ f
+one_listing bytes e f (misread_list c a m is) (misread_list d b n gives) =
+    let (code, at) = one_misread bytes c d a b m n in
+    is ∙ ap (λ z. misreads z a) code ∙ ap (misreads d) at ∙ sym gives
+one_listing bytes e f (misread_list c a m is) (distrusted_list d b u gives) = absurd (misread_distrusted bytes c a d b m u)
+one_listing bytes e f (misread_list c a m is) (lists code facts r gives) = absurd (misread_certified bytes c a code facts m r)
+one_listing bytes e f (distrusted_list d b u is) (misread_list c a m gives) = absurd (misread_distrusted bytes c a d b m u)
+one_listing bytes e f (distrusted_list c a u is) (distrusted_list d b v gives) =
+    let (rule, at) = one_distrusted bytes c d a b u v in
+    is ∙ ap (λ z. distrusts z a) rule ∙ ap (distrusts d) at ∙ sym gives
+one_listing bytes e f (distrusted_list c a u is) (lists code facts r gives) = absurd (distrusted_certified bytes c a code facts u r)
+one_listing bytes e f (lists code facts r is) (misread_list c a m gives) = absurd (misread_certified bytes c a code facts m r)
+one_listing bytes e f (lists code facts r is) (distrusted_list c a u gives) = absurd (distrusted_certified bytes c a code facts u r)
+one_listing bytes e f (lists code facts r is) (lists other known s gives) =
+    let (same, also) = one_certified bytes code other facts known r s in
+    is ∙ ap (λ z. prints (listing z facts)) same ∙ ap (λ z. prints (listing other z)) also ∙ sym gives
+
 one_effect : (job : Job) (words : List Word) (old new later : Outside) (e f : Effect) → IsTold old → Means job words old new e → Means job words old later f → e ≡ f
 one_effect (j.Run file options) words old new later e f told (t, has, does) (u, holds, gives) =
     let same : t ≡ u = one_text words file old.shelf t u told.files has holds in
@@ -271,6 +338,17 @@ one_effect (j.Check file) words old new later e f told (t, has, does) (u, holds,
 one_effect (j.Fmt file) words old new later e f told (t, has, does) (u, holds, gives) =
     let same : t ≡ u = one_text words file old.shelf t u told.files has holds in
     one_layout t e f does (subst (λ z. FormatsTo z f) (sym same) gives)
+one_effect (j.Build file code) words old new later e f told (t, has, n, named, does) (u, holds, m, called, gives) =
+    let same : t ≡ u = one_text words file old.shelf t u told.files has holds in
+    let both : Some n ≡ Some m = sym named ∙ called in
+    let name : n ≡ m = cc both in
+    one_build t n e f does (subst (λ z. BuildsTo t z f) (sym name) (subst (λ z. BuildsTo z m f) (sym same) gives))
+one_effect (j.Exec code options) words old new later e f told (t, has, does) (u, holds, gives) =
+    let same : t ≡ u = one_text words code old.shelf t u told.files has holds in
+    one_exec t options e f does (subst (λ z. ExecsTo z options f) (sym same) gives)
+one_effect (j.List code) words old new later e f told (t, has, does) (u, holds, gives) =
+    let same : t ≡ u = one_text words code old.shelf t u told.files has holds in
+    one_listing t e f does (subst (λ z. ListsTo z f) (sym same) gives)
 one_effect _ words old new later e f told x y = absurd x
 
 -- ---- answers
@@ -286,6 +364,10 @@ one_allowed (refuses c at) a b x y = x ∙ sym y
 one_allowed (rejects place) a b x y = x ∙ sym y
 one_allowed (prints out) a b x y = x ∙ sym y
 one_allowed (runs o) a b x y = one_end o.end o.ticks (output o) a b x y
+one_allowed (writes file) a b x y = x ∙ sym y
+one_allowed (misreads c at) a b x y = x ∙ sym y
+one_allowed (distrusts c at) a b x y = x ∙ sym y
+one_allowed leaves_code a b x y = x ∙ sym y
 
 -- words with a job have no fault
 no_fault : (words : List Word) (job : Job) (index : ℕ) → Asks words job → IsFirstWordFault Lawful words index → ⊥

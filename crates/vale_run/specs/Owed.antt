@@ -113,10 +113,10 @@ pub data Owes (words : List Word) (old new : Outside) (a : Answer) : Type 0 wher
   not_served : (job : Job) (index : ℕ) → Asks words job → unserved job words ≡ Some index → a ≡ bad_word index → Owes words old new a
   served : (job : Job) → Serves words job → (e : Effect) → Means job words old new e → Allows e a → Owes words old new a
 
--- the same where the source isn't touched, whatever it and the sinks are
-abbrev pub OwesUntaken : List Word → ShelfState → ShelfState → Answer → Type 0
-OwesUntaken words before after a =
-    (input : SourceState) (out err new_out new_err : SinkState)
+-- the same where the source isn't touched, whatever it and the sinks are, and the shelf after the call
+abbrev pub OwesUntaken : List Word → ShelfState → Answer → Type 0
+OwesUntaken words before a =
+    (input : SourceState) (after : ShelfState) (out err new_out new_err : SinkState)
     → Owes words (record { shelf = before; input = input; out = out; err = err }) (record { shelf = after; input = input; out = new_out; err = new_err }) a
 
 -- These bytes are the first of the output of a run, which may go out before it has ended. Of any other job nothing goes out

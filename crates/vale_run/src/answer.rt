@@ -238,7 +238,7 @@ fn do_job<H: Shelf>(
     shelf: &mut H,
 ) -> Result<Answer, Stop>
     requires { Serves (texts words.now) job.now }
-    ensures owed { IfOk result (OwesUntaken (texts words.now) (H.state shelf.old) (H.state shelf.new)) }
+    ensures owed { IfOk result (OwesUntaken (texts words.now) (H.state shelf.old)) }
     ensures read { IsErrOf result Stop.ReadFault → FileFails (texts words.now) (H.state shelf.old) (H.state shelf.new) }
     ensures files { KeepsFiles (H.state shelf.old).files (H.state shelf.new).files }
     ensures later { (H.state shelf.old).faults ≤ (H.state shelf.new).faults }
@@ -269,7 +269,7 @@ fn answer_job<H: Shelf>(
     shelf: &mut H,
 ) -> Result<Answer, Stop>
     requires { Asks (texts words.now) job.now }
-    ensures owed { IfOk result (OwesUntaken (texts words.now) (H.state shelf.old) (H.state shelf.new)) }
+    ensures owed { IfOk result (OwesUntaken (texts words.now) (H.state shelf.old)) }
     ensures read { IsErrOf result Stop.ReadFault → FileFails (texts words.now) (H.state shelf.old) (H.state shelf.new) }
     ensures untouched { (MayRead (texts words.now) → ⊥) → shelf.new ≡ shelf.old }
     ensures files { KeepsFiles (H.state shelf.old).files (H.state shelf.new).files }
@@ -283,7 +283,7 @@ fn answer_job<H: Shelf>(
 
 /// The answer that is owed to the words.
 pub fn answer_of<H: Shelf>(alloc: Global, words: &[String], shelf: &mut H) -> Result<Answer, Stop>
-    ensures owed { IfOk result (OwesUntaken (texts words.now) (H.state shelf.old) (H.state shelf.new)) }
+    ensures owed { IfOk result (OwesUntaken (texts words.now) (H.state shelf.old)) }
     ensures read { IsErrOf result Stop.ReadFault → FileFails (texts words.now) (H.state shelf.old) (H.state shelf.new) }
     ensures untouched { (MayRead (texts words.now) → ⊥) → shelf.new ≡ shelf.old }
     ensures files { KeepsFiles (H.state shelf.old).files (H.state shelf.new).files }

@@ -2,9 +2,9 @@ use Rattle.std.proofs.Common.{◌≡◌, [], refl, sym, subst, ◌∙◌, arith,
 use Rattle.vale_deliver.specs.Delivered.{sent, no_memory}
 use Rattle.vale_ports.specs.Shelf.{KeepsFiles}
 use Rattle.vale_run.specs.Causes.{of_file}
-use Rattle.vale_run.specs.Headline.{owed, no_read, wants_memory}
-use Rattle.vale_run.specs.Owed.{OwesUntaken, read_fault}
-use Rattle.vale_run.proofs.Comings.{IsPlain, owed_plain, delivered_plain, status_plain, status_sent}
+use Rattle.vale_run.specs.Headline.{no_read, wants_memory}
+use Rattle.vale_run.specs.Owed.{read_fault}
+use Rattle.vale_run.proofs.Comings.{owed_low, owed_no_file, write_reads, answered_after, status_after, status_sent}
 use Rattle.vale_run.proofs.FormattedAgain.{stays_formatted}
 use Rattle.vale_run.proofs.OneAnswer.{owes_one}
 use Rattle.vale_words.specs.Words.{texts}
@@ -15,42 +15,35 @@ returns-in-Ok-clause-headline g c =
     let input = g.I.Source.state c.args.input.now in
     let out = g.O.Sink.state c.args.out.now in
     let err = g.E.Sink.state c.args.err.now in
-    let plain : IsPlain c.in-Ok.answer = owed_plain _ _ _ _ (c.in-Ok.ensures.owed input out err out err) in
-    let kept : c.deliver.new.shelf ≡ c.answer_of.new.shelf = c.deliver.ensures.kept plain.no_file in
-    let files = subst (λ s. KeepsFiles (g.H.Shelf.state c.args.shelf.now).files (g.H.Shelf.state s).files) (sym kept) c.answer_of.ensures.files in
-    let after : OwesUntaken (texts c.args.words.now) (g.H.Shelf.state c.args.shelf.now) (g.H.Shelf.state c.deliver.new.shelf) c.in-Ok.answer =
-    subst (λ s. OwesUntaken (texts c.args.words.now) (g.H.Shelf.state c.args.shelf.now) (g.H.Shelf.state s) c.in-Ok.answer) (sym kept) c.in-Ok.ensures.owed in
-    record {
-      answer = c.in-Ok.answer;
-      comes = owed (after input out err _ _);
-      delivered = delivered_plain c.in-Ok.answer _ out err _ _ (g.H.Shelf.state c.args.shelf.now) _ _ input plain.no_file files (c.deliver.ensures.handed input);
-      counts = record { shelf = omega (arith, c.answer_of.ensures.later, c.deliver.ensures.shelf_later); input = omega arith; out = c.deliver.ensures.out_later; err = c.deliver.ensures.err_later };
-    }
+    answered_after c.in-Ok.answer _ out err _ _ (g.H.Shelf.state c.args.shelf.now) (g.H.Shelf.state c.answer_of.new.shelf) (g.H.Shelf.state c.deliver.new.shelf) input
+    c.answer_of.ensures.files c.answer_of.ensures.later (texts c.args.words.now) (c.in-Ok.ensures.owed input _ out err _ _)
+    (record { shelf = omega (arith, c.answer_of.ensures.later, c.deliver.ensures.shelf_later); input = omega arith; out = c.deliver.ensures.out_later; err = c.deliver.ensures.err_later })
+    (c.deliver.ensures.handed input)
 
 pub returns-in-Ok-clause-unread : goal.returns-in-Ok-clause-unread
 returns-in-Ok-clause-unread g c none =
     let input = g.I.Source.state c.args.input.now in
     let out = g.O.Sink.state c.args.out.now in
     let err = g.E.Sink.state c.args.err.now in
-    let plain : IsPlain c.in-Ok.answer = owed_plain _ _ _ _ (c.in-Ok.ensures.owed input out err out err) in
-    c.deliver.ensures.kept plain.no_file ∙ c.answer_of.ensures.untouched none
+    let plain = owed_no_file _ _ _ c.in-Ok.answer (λ write. none (write_reads _ write)) (c.in-Ok.ensures.owed input (g.H.Shelf.state c.answer_of.new.shelf) out err out err) in
+    c.deliver.ensures.kept plain ∙ c.answer_of.ensures.untouched none
 
 pub returns-in-Ok-clause-pages : goal.returns-in-Ok-clause-pages
 returns-in-Ok-clause-pages g c =
     let input = g.I.Source.state c.args.input.now in
     let out = g.O.Sink.state c.args.out.now in
     let err = g.E.Sink.state c.args.err.now in
-    let plain : IsPlain c.in-Ok.answer = owed_plain _ _ _ _ (c.in-Ok.ensures.owed input out err out err) in
-    status_plain c.in-Ok.answer _ out err _ _ (g.H.Shelf.state c.args.shelf.now) _ _ input plain.no_file plain.low (c.deliver.ensures.handed input)
+    let low = owed_low _ _ _ c.in-Ok.answer (c.in-Ok.ensures.owed input (g.H.Shelf.state c.answer_of.new.shelf) out err out err) in
+    status_after c.in-Ok.answer _ out err _ _ (g.H.Shelf.state c.args.shelf.now) (g.H.Shelf.state c.answer_of.new.shelf) (g.H.Shelf.state c.deliver.new.shelf) input
+    c.answer_of.ensures.files c.answer_of.ensures.later low (c.deliver.ensures.handed input)
 
 pub returns-in-Ok-clause-files : goal.returns-in-Ok-clause-files
-returns-in-Ok-clause-files g c =
+returns-in-Ok-clause-files g c none =
     let input = g.I.Source.state c.args.input.now in
     let out = g.O.Sink.state c.args.out.now in
     let err = g.E.Sink.state c.args.err.now in
-    let plain : IsPlain c.in-Ok.answer = owed_plain _ _ _ _ (c.in-Ok.ensures.owed input out err out err) in
-    let kept : c.deliver.new.shelf ≡ c.answer_of.new.shelf = c.deliver.ensures.kept plain.no_file in
-    subst (λ s. KeepsFiles (g.H.Shelf.state c.args.shelf.now).files (g.H.Shelf.state s).files) (sym kept) c.answer_of.ensures.files
+    let plain = owed_no_file _ _ _ c.in-Ok.answer none (c.in-Ok.ensures.owed input (g.H.Shelf.state c.answer_of.new.shelf) out err out err) in
+    subst (λ s. KeepsFiles (g.H.Shelf.state c.args.shelf.now).files (g.H.Shelf.state s).files) (sym (c.deliver.ensures.kept plain)) c.answer_of.ensures.files
 
 pub returns-in-Err-Memory-clause-headline : goal.returns-in-Err-Memory-clause-headline
 returns-in-Err-Memory-clause-headline g c =
