@@ -40,6 +40,40 @@ pub const CALM: Outside<'static> = Outside {
     out_most: 4096,
 };
 
+/// What these words give with one file, and the bytes of this other one after the call.
+fn run_with<R: Threads + Sync>(
+    rt: &R,
+    alloc: Global,
+    words: &[&str],
+    file: (&str, &[u8]),
+    other: &str,
+    outside: &Outside,
+) -> Result<(Seen, Vec<u8>), Fail>
+    requires { 0 < outside.now.out_most }
+{
+    let mut list = Vec::new(alloc);
+    for word in words {
+        list.push(String::from_str(alloc, word)?)?;
+    }
+    let mut files = FileList::new(alloc);
+    let (name, bytes) = file;
+    files.put(alloc, name, bytes)?;
+    let mut shelf = MemShelf::new(files, outside.shelf_fails);
+    let mut input = CalmSource::new(b"");
+    let mut out = MemSink::new(alloc, outside.out_most, outside.out_fails);
+    let mut err = MemSink::new(alloc, 4096, outside.err_fails);
+    let status = valec(
+        rt, alloc, &list, &mut shelf, &mut input, &mut out, &mut err, &OpenGate,
+    );
+    let seen = Seen {
+        status: status.0,
+        out: out.bytes.to_vec(alloc)?,
+        err: err.bytes.to_vec(alloc)?,
+    };
+    let left = shelf.files.find(other).unwrap_or(&[]);
+    Ok((seen, Vec::from_slice(alloc, left)?))
+}
+
 /// What these words give, with this text as the file `p`.
 pub fn run_on<R: Threads + Sync>(
     rt: &R,
@@ -50,24 +84,31 @@ pub fn run_on<R: Threads + Sync>(
 ) -> Result<Seen, Fail>
     requires { 0 < outside.now.out_most }
 {
-    let mut list = Vec::new(alloc);
-    for word in words {
-        list.push(String::from_str(alloc, word)?)?;
-    }
-    let mut files = FileList::new(alloc);
-    files.put(alloc, "p", text)?;
-    let mut shelf = MemShelf::new(files, outside.shelf_fails);
-    let mut input = CalmSource::new(b"");
-    let mut out = MemSink::new(alloc, outside.out_most, outside.out_fails);
-    let mut err = MemSink::new(alloc, 4096, outside.err_fails);
-    let status = valec(
-        rt, alloc, &list, &mut shelf, &mut input, &mut out, &mut err, &OpenGate,
-    );
-    Ok(Seen {
-        status: status.0,
-        out: out.bytes.to_vec(alloc)?,
-        err: err.bytes.to_vec(alloc)?,
-    })
+    let (seen, _) = run_with(rt, alloc, words, ("p", text), "p", outside)?;
+    Ok(seen)
+}
+
+/// What these words give, with these bytes as the code file `c`.
+pub fn run_code<R: Threads + Sync>(
+    rt: &R,
+    alloc: Global,
+    words: &[&str],
+    bytes: &[u8],
+) -> Result<Seen, Fail> {
+    let (seen, _) = run_with(rt, alloc, words, ("c", bytes), "c", &CALM)?;
+    Ok(seen)
+}
+
+/// What the build of this text gives, and the code file that it leaves.
+pub fn build<R: Threads + Sync>(
+    rt: &R,
+    alloc: Global,
+    text: &[u8],
+    outside: &Outside,
+) -> Result<(Seen, Vec<u8>), Fail>
+    requires { 0 < outside.now.out_most }
+{
+    run_with(rt, alloc, &["build", "p", "c"], ("p", text), "c", outside)
 }
 
 /// Whether these words give this status and these texts for `out` and `err`, with this text as the file `p`.

@@ -5,6 +5,8 @@
 #[cfg(test)]
 mod calls;
 #[cfg(test)]
+mod code_tests;
+#[cfg(test)]
 mod front_tests;
 #[cfg(test)]
 mod program_tests;

@@ -114,6 +114,7 @@ const UNSERVED: &[(&[&str], &str)] = &[
     (&["fmt", "p", "--ticks", "3"], "word 2\n"),
     (&["check"], "word 1\n"),
     (&["check", "p", "q"], "word 2\n"),
+    (&["exec", "c", "--frames", "5"], "word 2\n"),
     (&["gen", "0"], "word 1\n"),
     (&["gen", "1"], "word 0\n"),
 ];
