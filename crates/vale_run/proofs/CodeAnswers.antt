@@ -2,7 +2,8 @@
 use Rattle.std.proofs.Common.{◌≡◌, ℕ, List, refl}
 use Rattle.vale_deliver.specs.declared.answer.Answer.{Answer}
 use Rattle.vale_run.specs.CodeFaults.{IsFaulty, told_of}
-use Rattle.vale_run.specs.Means.{misreads, distrusts, ExecsTo, misread_exec, distrusted_exec, ListsTo, misread_list, distrusted_list}
+use Rattle.vale_run.specs.CodeMeans.{ExecsTo, misread_exec, distrusted_exec, ListsTo, misread_list, distrusted_list}
+use Rattle.vale_run.specs.Effects.{misreads, distrusts}
 use Rattle.vale_run.specs.Owed.{AnswersSome}
 use Rattle.vale_run.specs.declared.codes.CodeFault.{CodeFault}
 use Rattle.vale_run.specs.declared.codes.CodeFault.TheVariants as f

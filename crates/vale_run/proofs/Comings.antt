@@ -9,7 +9,9 @@ use Rattle.vale_ports.specs.Streams.{SourceState, SinkState}
 use Rattle.vale_ports.specs.declared.files.File.{File}
 use Rattle.vale_run.specs.Causes.{MayRead, MayWrite}
 use Rattle.vale_run.specs.Headline.{Answers, owed, wants_memory as wants_any}
-use Rattle.vale_run.specs.Means.{Effect, refuses, rejects, prints, runs, writes, misreads, distrusts, leaves_code, RunsTo, refused_run, no_input_read, input_read, ChecksTo, refused_check, checks, FormatsTo, refused_format, formats, ExecsTo, misread_exec, distrusted_exec, unrun, execs, ListsTo, misread_list, distrusted_list, lists, Means}
+use Rattle.vale_run.specs.CodeMeans.{ExecsTo, misread_exec, distrusted_exec, unrun, execs, ListsTo, misread_list, distrusted_list, lists}
+use Rattle.vale_run.specs.Effects.{Effect, refuses, rejects, prints, runs, writes, misreads, distrusts, leaves_code}
+use Rattle.vale_run.specs.Means.{RunsTo, refused_run, no_input_read, input_read, ChecksTo, refused_check, checks, FormatsTo, refused_format, formats, Means}
 use Rattle.vale_run.specs.Owed.{AnswersEnd, Allows, Serves, Owes, no_job, not_served, served}
 use Rattle.vale_state_spec.specs.Outcome.{End, Done, Trap, Cut, Wrong, output}
 use Rattle.vale_words.specs.FirstFault.{Word}

@@ -10,7 +10,8 @@ use Rattle.vale_format.specs.Format.{IsFixed}
 use Rattle.vale_format.proofs.Fixed.{formatted_fixed}
 use Rattle.vale_run.specs.Formatted.{StaysFormatted}
 use Rattle.vale_front.specs.Front.{Unread, too_long, no_tokens, no_tree}
-use Rattle.vale_run.specs.Means.{Effect, prints, FormatsTo, refused_format, formats}
+use Rattle.vale_run.specs.Effects.{Effect, prints}
+use Rattle.vale_run.specs.Means.{FormatsTo, refused_format, formats}
 
 -- a text that is its own canonical text isn't refused
 not_refused : (out : List ℕ) → length out ≤ program_limit → IsFixed out → (code : ℕ) (at : Spot) → Unread out code at → ⊥

@@ -11,7 +11,9 @@ use Rattle.vale_deliver.specs.declared.answer.Answer.{Answer}
 use Rattle.vale_ports.specs.Shelf.{ShelfState, HasFile}
 use Rattle.vale_ports.specs.Streams.{SourceState, SinkState}
 use Rattle.vale_run.specs.Causes.{ReadFailed, FileReadFailed, JobReadFailed, FileFails}
-use Rattle.vale_run.specs.Means.{Effect, HasText, RunsTo, ChecksTo, FormatsTo, BuildsTo, ExecsTo, ListsTo, Means}
+use Rattle.vale_run.specs.CodeMeans.{BuildsTo, ExecsTo, ListsTo}
+use Rattle.vale_run.specs.Effects.{Effect}
+use Rattle.vale_run.specs.Means.{HasText, RunsTo, ChecksTo, FormatsTo, Means}
 use Rattle.vale_run.specs.Owed.{AnswersSome, OwesUntaken, Serves, other_option, unserved, not_served, served, bad_word}
 use Rattle.vale_words.specs.FirstFault.{Word}
 use Rattle.vale_words.specs.Words.{Asks, AsksBehind, IsNameWith, IsOneName, AreTwoNames, texts}

@@ -35,7 +35,9 @@ use Rattle.vale_rules_spec.specs.Typing.{typed}
 use Rattle.vale_rules_spec.specs.WellFormed.{Reads}
 use Rattle.vale_run.specs.CodeFiles.{Misread, Uncertified, ReadsCertified, is_run}
 use Rattle.vale_run.proofs.OneCode.{one_misread, one_distrusted, one_certified, misread_distrusted, misread_certified, distrusted_certified}
-use Rattle.vale_run.specs.Means.{HasLeft, HasText, HasInput, input_form, Effect, refuses, rejects, prints, runs, RunsTo, refused_run, no_input_read, input_read, counts, ChecksTo, refused_check, checks, FormatsTo, refused_format, formats, writes, misreads, distrusts, leaves_code, BuildsTo, refused_build, builds, ExecsTo, misread_exec, distrusted_exec, unrun, execs, ListsTo, misread_list, distrusted_list, lists, Means}
+use Rattle.vale_run.specs.CodeMeans.{BuildsTo, refused_build, builds, ExecsTo, misread_exec, distrusted_exec, unrun, execs, ListsTo, misread_list, distrusted_list, lists}
+use Rattle.vale_run.specs.Effects.{Effect, refuses, rejects, prints, runs, writes, misreads, distrusts, leaves_code}
+use Rattle.vale_run.specs.Means.{HasLeft, HasText, HasInput, input_form, RunsTo, refused_run, no_input_read, input_read, counts, ChecksTo, refused_check, checks, FormatsTo, refused_format, formats, Means}
 use Rattle.vale_run.specs.Owed.{AnswersEnd, Allows, unserved, Serves, Owes, no_job, not_served, served, IsTold, OwesOne, bad_word}
 use Rattle.vale_state_spec.specs.Outcome.{Outcome, End, Done, Trap, Cut, Wrong, output}
 use Rattle.vale_state_spec.specs.State.{Given, no_input}

@@ -12,7 +12,9 @@ use Rattle.vale_rules_spec.specs.WellFormed.{Reads}
 use Rattle.vale_cert.specs.declared.facts.FuncFacts.{FuncFacts}
 use Rattle.vale_code.specs.Parts.{Parts}
 use Rattle.vale_run.specs.CodeFiles.{IsReadable, Misread, too_long as too_long_file, misspelled, ReadsCode, Uncertified, ReadsCertified}
-use Rattle.vale_run.specs.Means.{Effect, RunsTo, refused_run, no_input_read, input_read, ChecksTo, refused_check, checks, FormatsTo, refused_format, formats, BuildsTo, refused_build, builds, ExecsTo, misread_exec, distrusted_exec, unrun, execs, ListsTo, misread_list, distrusted_list, lists}
+use Rattle.vale_run.specs.CodeMeans.{BuildsTo, refused_build, builds, ExecsTo, misread_exec, distrusted_exec, unrun, execs, ListsTo, misread_list, distrusted_list, lists}
+use Rattle.vale_run.specs.Effects.{Effect}
+use Rattle.vale_run.specs.Means.{RunsTo, refused_run, no_input_read, input_read, ChecksTo, refused_check, checks, FormatsTo, refused_format, formats}
 use Rattle.vale_run.specs.Owed.{AnswersSome}
 use Rattle.vale_words.specs.declared.job.Options.{Options}
 

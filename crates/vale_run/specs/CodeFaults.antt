@@ -2,7 +2,7 @@
 use Rattle.std.specs.Prelude.{ℕ, List}
 use Rattle.vale_deliver.specs.declared.answer.Answer.{Answer}
 use Rattle.vale_run.specs.CodeFiles.{Misread, Uncertified}
-use Rattle.vale_run.specs.Means.{Effect, misreads, distrusts}
+use Rattle.vale_run.specs.Effects.{Effect, misreads, distrusts}
 use Rattle.vale_run.specs.Owed.{misread, distrusted}
 use Rattle.vale_run.specs.declared.codes.CodeFault.{CodeFault}
 use Rattle.vale_run.specs.declared.codes.CodeFault.TheVariants as f

@@ -2,6 +2,8 @@ pub mod Built
 pub mod Causes
 pub mod CodeFaults
 pub mod CodeFiles
+pub mod CodeMeans
+pub mod Effects
 pub mod Formatted
 pub mod Headline
 pub mod Means

@@ -1,30 +1,22 @@
 -- What a job comes to: by the words, by what the shelf holds, and by what the source gives.
 use Rattle.std.specs.Fmt.{decimal}
 use Rattle.std.specs.Io.KnownBytes.{IsAtEnd}
-use Rattle.std.specs.Prelude.{ℕ, ◌≡◌, ◌≢◌, ◌++◌, ⊤, true, false, List, Option, None, Some, Ok, Err, Result, codes, slice_get}
+use Rattle.std.specs.Prelude.{ℕ, ◌≡◌, ◌≢◌, ◌++◌, ⊤, List, Option, None, Some, Ok, Err, Result, codes, slice_get}
 use Rattle.vale_base.specs.declared.spot.Spot.{Spot}
-use Rattle.vale_cert.specs.declared.facts.FuncFacts.{FuncFacts}
-use Rattle.vale_code.specs.Parts.{Parts}
-use Rattle.vale_code.specs.Run.{run_code}
 use Rattle.vale_deliver.specs.Outside.{Outside}
-use Rattle.vale_file_spec.specs.File.{Spells}
 use Rattle.vale_front.specs.Front.{Unread, Refused, Accepts}
-use Rattle.vale_listing.specs.Listing.{listing}
-use Rattle.vale_lower_facts.specs.Marks.{lowered_facts}
-use Rattle.vale_lowering.specs.Lowered.{lowered}
 use Rattle.vale_model.specs.Input.{Form, takes_nothing, form_of, taken}
 use Rattle.vale_model.specs.Meaning.{main_takes, meaning}
 use Rattle.vale_model.specs.Need.{need}
 use Rattle.vale_model.specs.Parts.{parts_of, main_of}
 use Rattle.vale_ports.specs.Shelf.{ShelfState, HasFile}
 use Rattle.vale_ports.specs.Streams.{SourceState}
-use Rattle.vale_ports.specs.declared.files.File.{File}
 use Rattle.vale_rules_spec.specs.Sites.{sites}
 use Rattle.vale_rules_spec.specs.Typed.{Typed}
 use Rattle.vale_rules_spec.specs.WellFormed.{Reads}
-use Rattle.vale_run.specs.CodeFiles.{Misread, Uncertified, ReadsCertified, is_run}
-use Rattle.vale_state_spec.specs.Outcome.{Outcome}
-use Rattle.vale_state_spec.specs.State.{Given, no_input}
+use Rattle.vale_run.specs.CodeMeans.{BuildsTo, ExecsTo, ListsTo}
+use Rattle.vale_run.specs.Effects.{Effect, refuses, rejects, prints, runs}
+use Rattle.vale_state_spec.specs.State.{Given}
 use Rattle.vale_syntax.specs.Canon.{canon}
 use Rattle.vale_syntax.specs.Tree.{Tree}
 use Rattle.vale_syntax.specs.declared.decls.Decls.{Decls}
@@ -61,24 +53,6 @@ HasInput program source input = (bytes : List ℕ) × HasLeft source.left bytes 
 
 -- ---- what is done
 
-pub data Effect : Type 0 where
-  -- the text is refused, with this code at this spot
-  refuses : ℕ → Spot → Effect
-  -- the input is unlawful at this byte
-  rejects : ℕ → Effect
-  -- this is the output, none of which goes out before all of it is known
-  prints : List ℕ → Effect
-  -- this is what the run does, whose output may go out while it goes on
-  runs : Outcome → Effect
-  -- this file is written
-  writes : File → Effect
-  -- the code file can't be read: its first fault, and at which byte
-  misreads : ℕ → ℕ → Effect
-  -- the code of the file isn't certified: the first rule that is broken, and where
-  distrusts : ℕ → ℕ → Effect
-  -- the code of the file isn't run yet
-  leaves_code : Effect
-
 -- what the run of a text comes to, with the source before the call and after it
 pub data RunsTo (text : List ℕ) (options : Options) (old new : SourceState) (e : Effect) : Type 0 where
   refused_run : (code : ℕ) (at : Spot) → Refused text code at → e ≡ refuses code at → RunsTo text options old new e
@@ -102,28 +76,6 @@ pub data ChecksTo (text : List ℕ) (e : Effect) : Type 0 where
 pub data FormatsTo (text : List ℕ) (e : Effect) : Type 0 where
   refused_format : (code : ℕ) (at : Spot) → Unread text code at → e ≡ refuses code at → FormatsTo text e
   formats : (tree : Tree) → Reads text tree → e ≡ prints (canon tree) → FormatsTo text e
-
--- what the build of a text comes to: the file of this name gets the one spelling of its lowered code with the facts
-pub data BuildsTo (text name : List ℕ) (e : Effect) : Type 0 where
-  refused_build : (code : ℕ) (at : Spot) → Refused text code at → e ≡ refuses code at → BuildsTo text name e
-  builds : (tree : Tree) (decls : Decls) (program : Typed) → Accepts text tree decls program
-      → (bytes : List ℕ) → Spells bytes 1 (lowered program) (lowered_facts program)
-      → e ≡ writes (record { name = name; bytes = bytes }) → BuildsTo text name e
-
--- what the run of a code file comes to
-pub data ExecsTo (bytes : List ℕ) (options : Options) (e : Effect) : Type 0 where
-  misread_exec : (code at : ℕ) → Misread bytes code at → e ≡ misreads code at → ExecsTo bytes options e
-  distrusted_exec : (rule at : ℕ) → Uncertified bytes rule at → e ≡ distrusts rule at → ExecsTo bytes options e
-  unrun : (code : Parts) (facts : List FuncFacts) → ReadsCertified bytes code facts → is_run code ≡ false
-      → e ≡ leaves_code → ExecsTo bytes options e
-  execs : (code : Parts) (facts : List FuncFacts) → ReadsCertified bytes code facts → is_run code ≡ true
-      → e ≡ runs (run_code code no_input options.ticks) → ExecsTo bytes options e
-
--- what the listing of a code file comes to
-pub data ListsTo (bytes : List ℕ) (e : Effect) : Type 0 where
-  misread_list : (code at : ℕ) → Misread bytes code at → e ≡ misreads code at → ListsTo bytes e
-  distrusted_list : (rule at : ℕ) → Uncertified bytes rule at → e ≡ distrusts rule at → ListsTo bytes e
-  lists : (code : Parts) (facts : List FuncFacts) → ReadsCertified bytes code facts → e ≡ prints (listing code facts) → ListsTo bytes e
 
 -- what a job that is served comes to, with the outside before the call and after it
 abbrev pub Means : Job → List Word → Outside → Outside → Effect → Type 0

@@ -9,7 +9,8 @@ use Rattle.vale_ports.specs.Shelf.{ShelfState}
 use Rattle.vale_ports.specs.Streams.{SourceState, SinkState}
 use Rattle.vale_ports.specs.declared.files.File.{File}
 use Rattle.vale_model.specs.Report.{spot_text, report_text}
-use Rattle.vale_run.specs.Means.{Effect, refuses, rejects, prints, runs, writes, misreads, distrusts, leaves_code, Means}
+use Rattle.vale_run.specs.Effects.{Effect, refuses, rejects, prints, runs, writes, misreads, distrusts, leaves_code}
+use Rattle.vale_run.specs.Means.{Means}
 use Rattle.vale_state_spec.specs.Outcome.{Outcome, End, Done, Trap, Cut, Wrong, output}
 use Rattle.vale_words.specs.FirstFault.{Word, IsFirstFault}
 use Rattle.vale_words.specs.Words.{Asks, Lawful}

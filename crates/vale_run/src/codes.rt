@@ -10,7 +10,7 @@ ghost use Rattle.vale_lower_facts.specs.Marks.{lowered_facts};
 ghost use Rattle.vale_lowering.specs.Lowered.{lowered};
 ghost use Rattle.vale_run.specs.CodeFaults.{IsFaulty, told_of};
 ghost use Rattle.vale_run.specs.CodeFiles.{ReadsCertified, is_run};
-ghost use Rattle.vale_run.specs.Means.{BuildsTo, ExecsTo, ListsTo};
+ghost use Rattle.vale_run.specs.CodeMeans.{BuildsTo, ExecsTo, ListsTo};
 ghost use Rattle.vale_run.specs.Owed.{AnswersSome, EndsWith, plain_answer, misread, distrusted, written};
 ghost use Rattle.vale_sound.specs.Runs.{Runs};
 ghost use Rattle.vale_state_spec.specs.State.{no_input};

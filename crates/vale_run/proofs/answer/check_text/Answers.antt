@@ -2,7 +2,8 @@ use Rattle.std.proofs.Common.{refl, ap, sym, arith}
 use Rattle.std.proofs.lemmas.Result.{IfOk-weaker}
 use Rattle.vale_core.specs.View.{view_core}
 use Rattle.vale_front.proofs.ByteLaws.{all_bytes}
-use Rattle.vale_run.specs.Means.{counts, prints, refuses, refused_check, checks}
+use Rattle.vale_run.specs.Effects.{prints, refuses}
+use Rattle.vale_run.specs.Means.{counts, refused_check, checks}
 use Rattle.vale_run.proofs.answer.check_text.Goals as goal
 
 pub returns-in-Ok : goal.returns-in-Ok

@@ -2,7 +2,8 @@ use Rattle.std.proofs.Common.{refl}
 use Rattle.std.proofs.lemmas.Result.{IfOk-weaker}
 use Rattle.vale_syntax.specs.Canon.{canon}
 use Rattle.vale_syntax.specs.View.{view_tree}
-use Rattle.vale_run.specs.Means.{prints, refuses, refused_format, formats}
+use Rattle.vale_run.specs.Effects.{prints, refuses}
+use Rattle.vale_run.specs.Means.{refused_format, formats}
 use Rattle.vale_run.proofs.answer.format_text.Goals as goal
 
 pub returns-in-Ok : goal.returns-in-Ok

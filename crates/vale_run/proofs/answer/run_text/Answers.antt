@@ -4,7 +4,8 @@ use Rattle.vale_core.specs.View.{view_core}
 use Rattle.vale_front.proofs.ByteLaws.{all_bytes}
 use Rattle.vale_model.specs.Meaning.{meaning}
 use Rattle.vale_run.proofs.PlainLaws.{has_no_input, takes_none}
-use Rattle.vale_run.specs.Means.{refuses, runs, refused_run, input_read}
+use Rattle.vale_run.specs.Effects.{refuses, runs}
+use Rattle.vale_run.specs.Means.{refused_run, input_read}
 use Rattle.vale_state_spec.specs.State.{no_input}
 use Rattle.vale_run.proofs.answer.run_text.Goals as goal
 

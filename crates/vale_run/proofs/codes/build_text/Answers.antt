@@ -2,7 +2,8 @@ use Rattle.std.proofs.Common.{refl, arith}
 use Rattle.std.proofs.lemmas.Result.{IfOk-weaker}
 use Rattle.vale_core.specs.View.{view_core}
 use Rattle.vale_front.proofs.ByteLaws.{all_bytes}
-use Rattle.vale_run.specs.Means.{refuses, writes, refused_build, builds}
+use Rattle.vale_run.specs.CodeMeans.{refused_build, builds}
+use Rattle.vale_run.specs.Effects.{refuses, writes}
 use Rattle.vale_run.proofs.codes.build_text.Goals as goal
 
 pub build_program-requires : goal.build_program-requires

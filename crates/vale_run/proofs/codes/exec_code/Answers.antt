@@ -2,7 +2,8 @@ use Rattle.std.proofs.Common.{refl, sym, ◌∙◌}
 use Rattle.std.proofs.lemmas.Result.{IfOk-weaker}
 use Rattle.vale_code.specs.Run.{run_code}
 use Rattle.vale_run.proofs.CodeAnswers.{exec_faulty}
-use Rattle.vale_run.specs.Means.{leaves_code, runs, unrun, execs}
+use Rattle.vale_run.specs.CodeMeans.{unrun, execs}
+use Rattle.vale_run.specs.Effects.{leaves_code, runs}
 use Rattle.vale_state_spec.specs.State.{no_input}
 use Rattle.vale_run.proofs.codes.exec_code.Goals as goal
 

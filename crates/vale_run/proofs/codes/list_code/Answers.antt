@@ -2,7 +2,8 @@ use Rattle.std.proofs.Common.{refl}
 use Rattle.std.proofs.lemmas.Result.{IfOk-weaker}
 use Rattle.vale_listing.specs.Listing.{listing}
 use Rattle.vale_run.proofs.CodeAnswers.{list_faulty}
-use Rattle.vale_run.specs.Means.{prints, lists}
+use Rattle.vale_run.specs.CodeMeans.{lists}
+use Rattle.vale_run.specs.Effects.{prints}
 use Rattle.vale_run.proofs.codes.list_code.Goals as goal
 
 pub returns-in-Ok : goal.returns-in-Ok
