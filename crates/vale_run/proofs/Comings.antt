@@ -158,6 +158,7 @@ module _ (a : Answer) (status : ℕ) (out err new_out new_err : SinkState) (earl
     (keeps : KeepsFiles earlier.files before.files) (later : earlier.faults ≤ before.faults) where
   abbrev old : Outside
   old = record { shelf = earlier; input = input; out = out; err = err }
+
   abbrev new : Outside
   new = record { shelf = after; input = input; out = new_out; err = new_err }
 
