@@ -7,13 +7,20 @@ use Rattle.vale_deliver.proofs.SentLaws.{sent_alike}
 use Rattle.vale_ports.specs.Shelf.{Files, ShelfState, KeepsFiles, KeepsOtherFiles}
 use Rattle.vale_ports.specs.Streams.{SourceState, SinkState}
 use Rattle.vale_ports.specs.declared.files.File.{File}
+use Rattle.vale_base.specs.declared.spot.Spot.{Spot}
+use Rattle.vale_code.specs.Run.{run_code}
+use Rattle.vale_listing.specs.Listing.{listing}
+use Rattle.vale_model.specs.Meaning.{meaning}
+use Rattle.vale_rules_spec.specs.Sites.{sites}
 use Rattle.vale_run.specs.Causes.{MayRead, MayWrite}
 use Rattle.vale_run.specs.Headline.{Answers, owed, wants_memory as wants_any}
 use Rattle.vale_run.specs.CodeMeans.{ExecsTo, misread_exec, distrusted_exec, unrun, execs, ListsTo, misread_list, distrusted_list, lists}
 use Rattle.vale_run.specs.Effects.{Effect, refuses, rejects, prints, runs, writes, misreads, distrusts, leaves_code}
-use Rattle.vale_run.specs.Means.{RunsTo, refused_run, no_input_read, input_read, ChecksTo, refused_check, checks, FormatsTo, refused_format, formats, Means}
+use Rattle.vale_run.specs.Means.{counts, RunsTo, refused_run, no_input_read, input_read, ChecksTo, refused_check, checks, FormatsTo, refused_format, formats, Means}
 use Rattle.vale_run.specs.Owed.{AnswersEnd, Allows, Serves, Owes, no_job, not_served, served}
-use Rattle.vale_state_spec.specs.Outcome.{End, Done, Trap, Cut, Wrong, output}
+use Rattle.vale_state_spec.specs.Outcome.{Outcome, End, Done, Trap, Cut, Wrong, output}
+use Rattle.vale_state_spec.specs.State.{no_input}
+use Rattle.vale_syntax.specs.Canon.{canon}
 use Rattle.vale_words.specs.FirstFault.{Word}
 use Rattle.vale_words.specs.declared.job.Job.{Job}
 use Rattle.vale_words.specs.declared.job.Job.TheVariants.{Run, Check, Fmt, Build, Exec, List as ListCode}
@@ -75,37 +82,57 @@ allowed_no_file (misreads code at) a plain is = no_file a _ refl is
 allowed_no_file (distrusts rule at) a plain is = no_file a _ refl is
 allowed_no_file leaves_code a plain is = no_file a _ refl is
 
-no_file_at : (e f : Effect) → IsNoFile f → e ≡ f → IsNoFile e
-no_file_at e f plain is = subst IsNoFile (sym is) plain
+refuses_no_file : (e : Effect) (code : ℕ) (at : Spot) → e ≡ refuses code at → IsNoFile e
+unfolding IsNoFile
+refuses_no_file e code at is = rw is tt
+
+rejects_no_file : (e : Effect) (place : ℕ) → e ≡ rejects place → IsNoFile e
+unfolding IsNoFile
+rejects_no_file e place is = rw is tt
+
+prints_no_file : (e : Effect) (out : List ℕ) → e ≡ prints out → IsNoFile e
+unfolding IsNoFile
+prints_no_file e out is = rw is tt
+
+runs_no_file : (e : Effect) (o : Outcome) → e ≡ runs o → IsNoFile e
+unfolding IsNoFile
+runs_no_file e o is = rw is tt
+
+misreads_no_file : (e : Effect) (code at : ℕ) → e ≡ misreads code at → IsNoFile e
+unfolding IsNoFile
+misreads_no_file e code at is = rw is tt
+
+distrusts_no_file : (e : Effect) (rule at : ℕ) → e ≡ distrusts rule at → IsNoFile e
+unfolding IsNoFile
+distrusts_no_file e rule at is = rw is tt
+
+leaves_no_file : (e : Effect) → e ≡ leaves_code → IsNoFile e
+unfolding IsNoFile
+leaves_no_file e is = rw is tt
 
 run_no_file : (text : List ℕ) (options : Options) (old new : SourceState) (e : Effect) → RunsTo text options old new e → IsNoFile e
-unfolding IsNoFile
-run_no_file text options old new e (refused_run code at r is) = no_file_at e _ tt is
-run_no_file text options old new e (no_input_read tree decls program h place i is) = no_file_at e _ tt is
-run_no_file text options old new e (input_read tree decls program h input i t is) = no_file_at e _ tt is
+run_no_file text options old new e (refused_run code at r is) = refuses_no_file e code at is
+run_no_file text options old new e (no_input_read tree decls program h place i is) = rejects_no_file e place is
+run_no_file text options old new e (input_read tree decls program h input i t is) = runs_no_file e (meaning program input options.ticks) is
 
 check_no_file : (text : List ℕ) (e : Effect) → ChecksTo text e → IsNoFile e
-unfolding IsNoFile
-check_no_file text e (refused_check code at r is) = no_file_at e _ tt is
-check_no_file text e (checks tree decls program h is) = no_file_at e _ tt is
+check_no_file text e (refused_check code at r is) = refuses_no_file e code at is
+check_no_file text e (checks tree decls program h is) = prints_no_file e (counts (sites program) 0) is
 
 layout_no_file : (text : List ℕ) (e : Effect) → FormatsTo text e → IsNoFile e
-unfolding IsNoFile
-layout_no_file text e (refused_format code at r is) = no_file_at e _ tt is
-layout_no_file text e (formats tree reads is) = no_file_at e _ tt is
+layout_no_file text e (refused_format code at r is) = refuses_no_file e code at is
+layout_no_file text e (formats tree reads is) = prints_no_file e (canon tree) is
 
 exec_no_file : (bytes : List ℕ) (options : Options) (e : Effect) → ExecsTo bytes options e → IsNoFile e
-unfolding IsNoFile
-exec_no_file bytes options e (misread_exec code at m is) = no_file_at e _ tt is
-exec_no_file bytes options e (distrusted_exec rule at u is) = no_file_at e _ tt is
-exec_no_file bytes options e (unrun code facts r no is) = no_file_at e _ tt is
-exec_no_file bytes options e (execs code facts r yes is) = no_file_at e _ tt is
+exec_no_file bytes options e (misread_exec code at m is) = misreads_no_file e code at is
+exec_no_file bytes options e (distrusted_exec rule at u is) = distrusts_no_file e rule at is
+exec_no_file bytes options e (unrun code facts r no is) = leaves_no_file e is
+exec_no_file bytes options e (execs code facts r yes is) = runs_no_file e (run_code code no_input options.ticks) is
 
 listing_no_file : (bytes : List ℕ) (e : Effect) → ListsTo bytes e → IsNoFile e
-unfolding IsNoFile
-listing_no_file bytes e (misread_list code at m is) = no_file_at e _ tt is
-listing_no_file bytes e (distrusted_list rule at u is) = no_file_at e _ tt is
-listing_no_file bytes e (lists code facts r is) = no_file_at e _ tt is
+listing_no_file bytes e (misread_list code at m is) = misreads_no_file e code at is
+listing_no_file bytes e (distrusted_list rule at u is) = distrusts_no_file e rule at is
+listing_no_file bytes e (lists code facts r is) = prints_no_file e (listing code facts) is
 
 job_no_file : (job : Job) (words : List Word) (old new : Outside) (e : Effect) → ((file code : ℕ) → job ≡ Build file code → ⊥) → Means job words old new e → IsNoFile e
 job_no_file (Run file options) words old new e other (text, has, does) = run_no_file text options old.input new.input e does
