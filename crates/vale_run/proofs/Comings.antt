@@ -1,5 +1,7 @@
 -- How an answer that is owed comes.
-use Rattle.std.proofs.Common.{◌≡◌, ◌≢◌, ◌≤◌, ℕ, List, [], Option, None, Some, refl, sym, ap, subst, ◌∙◌, arith, inl}
+use Rattle.std.proofs.Common.{◌≡◌, ◌≢◌, ◌≤◌, ◌+◌, ◌-◌, ◌^◌, ℕ, List, [], Option, None, Some, refl, sym, ap, subst, ◌∙◌, arith, inl}
+use Rattle.std.proofs.Math.Nat.{min-le_left, min-le_right, le-min}
+use Rattle.std.specs.Prelude.{min}
 use Rattle.vale_deliver.specs.Delivered.{Handed, delivered, wants_memory, Delivered, sent, put_failed, Sent, all_sent, out_failed, err_failed, PutsFile, WriteFailed, no_memory}
 use Rattle.vale_deliver.specs.Outside.{Outside, KeepsCounts}
 use Rattle.vale_deliver.specs.declared.answer.Answer.{Answer}
@@ -179,7 +181,10 @@ puts_after None earlier before after keeps puts = keeps_both earlier.files befor
 puts_after (Some file) earlier before after keeps (has, others) = (has, keeps_others earlier.files before.files after.files file.name keeps others)
 
 failed_after : (earlier before after : ShelfState) (name : List ℕ) → earlier.faults ≤ before.faults → WriteFailed before after name → WriteFailed earlier after name
-failed_after earlier before after name later (rose, last) = (omega (arith, later, rose), last)
+failed_after earlier before after name later (rose, last) =
+    let near : min (earlier.faults + 1) (2 ^ 64 - 1) ≤ before.faults + 1 = omega (arith, min-le_left (earlier.faults + 1) (2 ^ 64 - 1), later) in
+    let less : min (earlier.faults + 1) (2 ^ 64 - 1) ≤ min (before.faults + 1) (2 ^ 64 - 1) = le-min near (min-le_right (earlier.faults + 1) (2 ^ 64 - 1)) in
+    (omega (arith, less, rose), last)
 
 module _ (a : Answer) (status : ℕ) (out err new_out new_err : SinkState) (earlier before after : ShelfState) (input : SourceState)
     (keeps : KeepsFiles earlier.files before.files) (later : earlier.faults ≤ before.faults) where
