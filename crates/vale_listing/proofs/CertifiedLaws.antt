@@ -1,5 +1,5 @@
 -- The labels of certified code rise.
-use Rattle.std.proofs.Common.{◌≡◌, ℕ, suc, ◌+◌, ◌<◌, Bool, true, false, ◌&&◌, List, [], ◌∷◌, length, Option, Some, None, refl, sym, ap, ◌∙◌, arith, inl, inr}
+use Rattle.std.proofs.Common.{◌≡◌, ℕ, zero, suc, ◌+◌, ◌<◌, Bool, true, false, ◌&&◌, List, [], ◌∷◌, length, Option, Some, None, refl, sym, ap, ◌∙◌, arith, inl, inr}
 use Rattle.std.proofs.lemmas.Bool.{and_parts, cases_Bool}
 use Rattle.std.specs.List.{slice_get}
 use Rattle.vale_cert.specs.Certificate.{Certified, rule_one}
@@ -13,7 +13,7 @@ use Rattle.vale_code.specs.declared.func.Func.{Func}
 use Rattle.vale_listing.specs.Labels.{each_rises}
 use Rattle.vale_listing.specs.Listing.{labels_of}
 
-neither : {A : Type 0} (a b : Option A) → or_else a b ≡ None → (a ≡ None) × (b ≡ None)
+neither : (a b : Option Fault) → or_else a b ≡ None → (a ≡ None) × (b ≡ None)
 neither None b h = (refl, h)
 neither (Some x) b h = absurd cc
 
@@ -40,5 +40,5 @@ certified_rises code facts h =
 pub labels_rise : (fs : List Func) (facts : List FuncFacts) (n : ℕ) → each_rises fs facts ≡ true → n < length fs → rise (labels_of (slice_get facts n)) ≡ true
 labels_rise [] facts n h lt = absurd (omega arith)
 labels_rise (f ∷ fs) [] n h lt = refl
-labels_rise (f ∷ fs) (known ∷ facts) 0 h lt = (and_parts (rise known.labels) (each_rises fs facts) h).0
+labels_rise (f ∷ fs) (known ∷ facts) zero h lt = (and_parts (rise known.labels) (each_rises fs facts) h).0
 labels_rise (f ∷ fs) (known ∷ facts) (suc n) h lt = labels_rise fs facts n (and_parts (rise known.labels) (each_rises fs facts) h).1 (omega arith)

@@ -4,7 +4,5 @@
 
 mod instrs;
 mod lines;
-#[cfg(test)]
-mod tests;
 
 pub use lines::list;
