@@ -1,4 +1,4 @@
-use Rattle.std.proofs.Common.{◌≡◌, ◌∙◌, arith}
+use Rattle.std.proofs.Common.{◌≡◌, ◌∙◌, ap, arith}
 use Rattle.vale_file_spec.proofs.WholeLaws.{bytes_of, fails_is, file_takes, only_one, no_fault, not_spelled, first_fault, same_fault}
 use Rattle.vale_base.specs.declared.fault.Fail.TheVariants as fails
 use Rattle.vale_file_spec.specs.File.{file_read}
@@ -8,7 +8,9 @@ pub returns-in-Ok-clause-found : goal.returns-in-Ok-clause-found
 returns-in-Ok-clause-found c = file_takes c.args.bytes.now 1 c.in-Ok.code c.in-Ok.facts (bytes_of c.args.bytes.now (λ i. omega (arith, c.type_inv.bytes i))) c.in-Ok.ensures
 
 pub returns-in-Ok-clause-only : goal.returns-in-Ok-clause-only
-returns-in-Ok-clause-only c = λ code facts s. only_one c.args.bytes.now c.in-Ok.code code c.in-Ok.facts facts c.in-Ok.ensures s
+returns-in-Ok-clause-only c = λ code facts s.
+    let both = only_one c.args.bytes.now c.in-Ok.code code c.in-Ok.facts facts c.in-Ok.ensures s in
+    (ap (λ z. z.0) both, ap (λ z. z.1) both)
 
 pub returns-in-Ok-clause-faulty : goal.returns-in-Ok-clause-faulty
 returns-in-Ok-clause-faulty c = no_fault c.args.bytes.now (tt, (1, (c.in-Ok.code, c.in-Ok.facts))) (bytes_of c.args.bytes.now (λ i. omega (arith, c.type_inv.bytes i))) c.in-Ok.ensures
