@@ -1,18 +1,17 @@
 -- Numbers, types, kinds and implementations that fit have a spelling.
-use Rattle.std.proofs.Common.{◌≡◌, ℕ, ℤ, zero, suc, ◌+◌, ◌*◌, ◌/◌, ◌%◌, ◌<◌, ◌≤◌, Bool, true, false, cond, eqb, ◌&&◌, List, [], ◌∷◌, length, get_or, Option, Some, None, pos, negsuc, refl, sym, ap, ◌∙◌, arith}
+use Rattle.std.proofs.Common.{◌≡◌, ℕ, ℤ, suc, ◌+◌, ◌*◌, ◌/◌, ◌%◌, ◌<◌, ◌≤◌, Bool, true, false, cond, List, [], ◌∷◌, length, get_or, Option, Some, None, pos, negsuc, refl, sym, ap, ◌∙◌, arith}
 use Rattle.std.proofs.lemmas.Bool.{eq-eqb, ne_eqb, and_parts, ltb-true}
 use Rattle.std.specs.List.{AllByRecursion, list_all}
 use Rattle.vale_base.specs.declared.name.Kind.{Kind}
 use Rattle.vale_base.specs.declared.spot.Spot.{Spot}
-use Rattle.vale_code.specs.Sizes.{is_few, method_is_small, kind_is_small, impl_is_small}
+use Rattle.vale_code.specs.Sizes.{is_few, method_is_small}
 use Rattle.vale_code.specs.declared.func.Impl.{Impl}
 use Rattle.vale_code.specs.declared.kind.Field.{Field}
 use Rattle.vale_code.specs.declared.kind.KindInfo.TheVariants as k
 use Rattle.vale_code.specs.declared.kind.MethodInfo.{MethodInfo}
 use Rattle.vale_code.specs.declared.ty.Ty.{Ty}
 use Rattle.vale_code.specs.declared.ty.Ty.TheVariants as t
-use Rattle.vale_codec.specs.Format.{Format}
-use Rattle.vale_codec.specs.Numbers.{largest_word, list_of}
+use Rattle.vale_codec.specs.Numbers.{largest_word}
 use Rattle.vale_file_fits.specs.Fits.{MethodIsFit, KindIsFit, ImplIsFit}
 use Rattle.vale_file_fits.specs.Tables.{DestructorFits}
 use Rattle.vale_file_fits.proofs.ListFits.{list_fits, apply_all}

@@ -1,5 +1,5 @@
 -- A code with its facts that lies in the tables has a spelling.
-use Rattle.std.proofs.Common.{◌≡◌, ℕ, suc, ◌+◌, ◌<◌, ◌≤◌, Bool, true, ◌&&◌, List, [], ◌∷◌, length, map, None, refl, sym, ap, ap₂, ◌∙◌, arith}
+use Rattle.std.proofs.Common.{◌≡◌, ℕ, ◌<◌, ◌≤◌, true, List, [], ◌∷◌, length, map, None, refl, sym, ap, ap₂, arith}
 use Rattle.std.proofs.lemmas.Bool.{and_parts}
 use Rattle.std.specs.List.{AllByRecursion, list_all}
 use Rattle.vale_cert.specs.Shape.{shape_fault}
@@ -8,7 +8,7 @@ use Rattle.vale_cert.specs.declared.facts.FuncFacts.{FuncFacts}
 use Rattle.vale_code.specs.Parts.{Parts}
 use Rattle.vale_code.specs.Sizes.{is_few, parts_limit, text_is_small, kind_is_small, impl_is_small, func_is_small, instructions, IsSmall}
 use Rattle.vale_code.specs.declared.func.Func.{Func}
-use Rattle.vale_codec.specs.Numbers.{largest_word, text, list_of}
+use Rattle.vale_codec.specs.Numbers.{largest_word, text}
 use Rattle.vale_file_fits.specs.Fits.{KindIsFit, ImplIsFit, FuncIsFit}
 use Rattle.vale_file_fits.specs.Tables.{DestructorFits, FuncFits, InTables}
 use Rattle.vale_file_fits.proofs.ListFits.{list_fits, apply_all, apply_both}

@@ -1,15 +1,13 @@
 -- Walking past labels that rise.
-use Rattle.std.proofs.Common.{◌≡◌, ℕ, zero, suc, ◌+◌, ◌<◌, ◌≤◌, Bool, true, false, eqb, leb, ltb, ◌&&◌, List, [], ◌∷◌, ◌++◌, length, get_or, take, drop, drop-cons, ◌-◌, subst, Option, Some, None, refl, sym, ap, ap₂, ◌∙◌, append_assoc, arith, inl, inr}
-use Rattle.std.proofs.lemmas.Bool.{and_parts, cases_Bool, leb-true, ltb-true, le-leb, lt-ltb, eqb-true, eqb-false, ne_eqb}
+use Rattle.std.proofs.Common.{◌≡◌, ℕ, suc, ◌+◌, ◌<◌, ◌≤◌, true, false, eqb, leb, ltb, List, [], ◌∷◌, ◌++◌, length, get_or, take, drop, drop-cons, ◌-◌, subst, Option, Some, None, refl, sym, ap, ap₂, ◌∙◌, append_assoc, arith, inl, inr}
+use Rattle.std.proofs.lemmas.Bool.{and_parts, cases_Bool, leb-true, ltb-true, le-leb, eqb-true, eqb-false, ne_eqb}
 use Rattle.std.proofs.lemmas.Grind.{common_steps}
 use Rattle.std.proofs.lemmas.List.{append-nil}
 use Rattle.vale_cert.specs.Known.{label_at, rise, rise_from}
-use Rattle.vale_cert.specs.declared.facts.FuncFacts.{FuncFacts}
 use Rattle.vale_cert.specs.declared.facts.Label.{Label}
-use Rattle.vale_code.specs.declared.func.Func.{Func}
 use Rattle.vale_code.specs.declared.instr.Instr.{Instr}
-use Rattle.vale_listing.specs.Labels.{rise_at, past, each_rises}
-use Rattle.vale_listing.specs.Listing.{label_line, instr_line, body_lines, func_lines, funcs_lines, labels_of}
+use Rattle.vale_listing.specs.Labels.{rise_at, past}
+use Rattle.vale_listing.specs.Listing.{label_line, instr_line, body_lines}
 
 -- nothing stands at a place before labels that rise
 pub none_before : (p q : ℕ) (labels : List Label) → rise_from q labels ≡ true → p ≤ q → label_at labels p ≡ None
