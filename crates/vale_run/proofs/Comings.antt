@@ -128,7 +128,7 @@ layout_no_file text e (formats tree reads is) = prints_no_file e (canon tree) is
 exec_no_file : (bytes : List ℕ) (options : Options) (e : Effect) → ExecsTo bytes options e → IsNoFile e
 exec_no_file bytes options e (misread_exec code at m is) = misreads_no_file e code at is
 exec_no_file bytes options e (distrusted_exec rule at u is) = distrusts_no_file e rule at is
-exec_no_file bytes options e (unrun code facts r no is) = leaves_no_file e is
+exec_no_file bytes options e (unrun code facts r un is) = leaves_no_file e is
 exec_no_file bytes options e (execs code facts r yes is) = runs_no_file e (run_code code no_input options.ticks) is
 
 listing_no_file : (bytes : List ℕ) (e : Effect) → ListsTo bytes e → IsNoFile e

@@ -68,7 +68,7 @@ list_behind code more c.List behind = (behind.0, omega (arith, one_name more beh
 list_behind code more _ behind = absurd behind
 
 build_behind : (file code : ℕ) (more : List Word) (command : Command) → AsksBehind command more (j.Build file code) → (file ≡ 1) × (code ≡ 2) × (2 ≤ length more)
-build_behind file code more c.Build behind = (behind.0, behind.1.0, omega (arith, two_names more behind.1.1))
+build_behind file code more c.Build behind = (behind.0, behind.1, omega (arith, two_names more behind.2))
 build_behind file code more _ behind = absurd behind
 
 -- there is a word before those behind the command
@@ -117,8 +117,8 @@ module _ {A : Type 0} (words : List (String A)) (job : Job) where
   pub build_within : (file code : ℕ) → Asks (texts words) job → job ≡ j.Build file code → (file < length words) × (code < length words)
   build_within file code asks is =
       let asked = rw is at asks in
-      let (first, three) = word_within (j.Build file code) code 2 (λ more command behind. (build_behind file code more command behind).1) (texts words) asked in
-      let (one, four) = word_within (j.Build file code) file 1 (λ more command behind. let b = build_behind file code more command behind in (b.0, omega (arith, b.1.1))) (texts words) asked in
+      let (first, three) = word_within (j.Build file code) code 2 (λ more command behind. let b = build_behind file code more command behind in (b.1, b.2)) (texts words) asked in
+      let (one, four) = word_within (j.Build file code) file 1 (λ more command behind. let b = build_behind file code more command behind in (b.0, omega (arith, b.2))) (texts words) asked in
       (omega (arith, one, four, as_many), omega (arith, first, three, as_many))
 
 -- ---- what is served
@@ -207,7 +207,7 @@ module _ {A : Type 0} (words : List (String A)) (job : Job) (serves : Serves (te
   module _ (code : ℕ) (other : List ℕ) (names : slice_get (texts words) code ≡ Some other) (is : job ≡ j.Build file code) where
     pub build_owes : (a : Answer) → (text : List ℕ) × HasFile before.files name text × AnswersSome (BuildsTo text other) a → OwesUntaken (texts words) before a
     build_owes a (text, has, answered) =
-        file_owes (λ input text. BuildsTo text other) (λ input after out err new_out new_err e h. subst (λ z. Means z (texts words) (outside before input out err) (outside after input new_out new_err) e) (sym is) (h.0, h.1.0, other, names, h.1.1)) a (text, has, λ input. answered)
+        file_owes (λ input text. BuildsTo text other) (λ input after out err new_out new_err e h. subst (λ z. Means z (texts words) (outside before input out err) (outside after input new_out new_err) e) (sym is) (h.0, h.1, other, names, h.2)) a (text, has, λ input. answered)
 
     pub build_fails : (after : ShelfState) → ReadFailed before after name → FileFails (texts words) before after
     build_fails after = file_fails after (λ failed. subst (λ z. JobReadFailed z (texts words) before after) (sym is) failed)

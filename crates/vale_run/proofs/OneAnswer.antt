@@ -290,26 +290,26 @@ one_exec bytes options e f (misread_exec c a m is) (misread_exec d b n gives) =
     let (code, at) = one_misread bytes c d a b m n in
     is ∙ ap (λ z. misreads z a) code ∙ ap (misreads d) at ∙ sym gives
 one_exec bytes options e f (misread_exec c a m is) (distrusted_exec d b u gives) = absurd (misread_distrusted bytes c a d b m u)
-one_exec bytes options e f (misread_exec c a m is) (unrun code facts r no gives) = absurd (misread_certified bytes c a code facts m r)
-one_exec bytes options e f (misread_exec c a m is) (execs code facts r yes gives) = absurd (misread_certified bytes c a code facts m r)
+one_exec bytes options e f (misread_exec c a m is) (unrun code facts r un gives) = absurd (misread_certified bytes c a code facts m r)
+one_exec bytes options e f (misread_exec c a m is) (execs code facts r fit gives) = absurd (misread_certified bytes c a code facts m r)
 one_exec bytes options e f (distrusted_exec d b u is) (misread_exec c a m gives) = absurd (misread_distrusted bytes c a d b m u)
 one_exec bytes options e f (distrusted_exec c a u is) (distrusted_exec d b v gives) =
     let (rule, at) = one_distrusted bytes c d a b u v in
     is ∙ ap (λ z. distrusts z a) rule ∙ ap (distrusts d) at ∙ sym gives
-one_exec bytes options e f (distrusted_exec c a u is) (unrun code facts r no gives) = absurd (distrusted_certified bytes c a code facts u r)
-one_exec bytes options e f (distrusted_exec c a u is) (execs code facts r yes gives) = absurd (distrusted_certified bytes c a code facts u r)
-one_exec bytes options e f (unrun code facts r no is) (misread_exec c a m gives) = absurd (misread_certified bytes c a code facts m r)
-one_exec bytes options e f (unrun code facts r no is) (distrusted_exec c a u gives) = absurd (distrusted_certified bytes c a code facts u r)
-one_exec bytes options e f (unrun code facts r no is) (unrun other known s never gives) = is ∙ sym gives
-one_exec bytes options e f (unrun code facts r no is) (execs other known s yes gives) =
+one_exec bytes options e f (distrusted_exec c a u is) (unrun code facts r un gives) = absurd (distrusted_certified bytes c a code facts u r)
+one_exec bytes options e f (distrusted_exec c a u is) (execs code facts r fit gives) = absurd (distrusted_certified bytes c a code facts u r)
+one_exec bytes options e f (unrun code facts r un is) (misread_exec c a m gives) = absurd (misread_certified bytes c a code facts m r)
+one_exec bytes options e f (unrun code facts r un is) (distrusted_exec c a u gives) = absurd (distrusted_certified bytes c a code facts u r)
+one_exec bytes options e f (unrun code facts r un is) (unrun other known s unfit gives) = is ∙ sym gives
+one_exec bytes options e f (unrun code facts r un is) (execs other known s fit gives) =
     let (same, also) = one_certified bytes code other facts known r s in
-    absurd (let both : false ≡ true = sym no ∙ ap is_run same ∙ yes in cc both)
-one_exec bytes options e f (execs code facts r yes is) (misread_exec c a m gives) = absurd (misread_certified bytes c a code facts m r)
-one_exec bytes options e f (execs code facts r yes is) (distrusted_exec c a u gives) = absurd (distrusted_certified bytes c a code facts u r)
-one_exec bytes options e f (execs code facts r yes is) (unrun other known s no gives) =
+    absurd (let both : false ≡ true = sym un ∙ ap is_run same ∙ fit in cc both)
+one_exec bytes options e f (execs code facts r fit is) (misread_exec c a m gives) = absurd (misread_certified bytes c a code facts m r)
+one_exec bytes options e f (execs code facts r fit is) (distrusted_exec c a u gives) = absurd (distrusted_certified bytes c a code facts u r)
+one_exec bytes options e f (execs code facts r fit is) (unrun other known s un gives) =
     let (same, also) = one_certified bytes code other facts known r s in
-    absurd (let both : true ≡ false = sym yes ∙ ap is_run same ∙ no in cc both)
-one_exec bytes options e f (execs code facts r yes is) (execs other known s also_yes gives) =
+    absurd (let both : true ≡ false = sym fit ∙ ap is_run same ∙ un in cc both)
+one_exec bytes options e f (execs code facts r fit is) (execs other known s fits gives) =
     let (same, also) = one_certified bytes code other facts known r s in
     is ∙ ap (λ z. runs (run_code z no_input options.ticks)) same ∙ sym gives
 

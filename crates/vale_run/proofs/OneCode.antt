@@ -1,6 +1,6 @@
 -- A code file comes to one thing at most.
 use Rattle.std.proofs.Common.{◌≡◌, ◌<◌, ◌≤◌, ◌&&◌, ℕ, true, List, [], ◌∷◌, Some, None, Ok, Err, refl, sym, ap, subst, ◌∙◌, arith}
-use Rattle.std.proofs.lemmas.Bool.{and_parts}
+use Rattle.std.proofs.lemmas.Bool.{and_parts, leb-true}
 use Rattle.std.specs.List.{list_all}
 use Rattle.std.specs.Prelude.{length}
 use Rattle.vale_cert.specs.Certificate.{Certified, first_fault}
@@ -15,7 +15,9 @@ use Rattle.vale_run.specs.CodeFiles.{IsReadable, Misread, too_long, misspelled, 
 use Rattle.vale_syntax.specs.Bytes.{is_byte}
 
 below : (b : ℕ) → is_byte b ≡ true → b < 256
-below b is = search
+below b is =
+    let le : b ≤ 255 = leb-true b 255 is in
+    omega (arith, le)
 
 are_bytes : (bytes : List ℕ) → list_all is_byte bytes ≡ true → IsBytes bytes
 are_bytes [] all = tt
@@ -49,7 +51,9 @@ misread_reads bytes c a code facts (too_long long x y) r = omega (arith, long, r
 misread_reads bytes c a code facts (misspelled s h) r = not_both bytes code facts c a s r.spells h
 
 one_code : (bytes : List ℕ) (code other : Parts) (facts known : List FuncFacts) → ReadsCode bytes code facts → ReadsCode bytes other known → (code ≡ other) × (facts ≡ known)
-one_code bytes code other facts known r s = (one_meaning bytes 1 1 code other facts known r.spells s.spells).1
+one_code bytes code other facts known r s =
+    let all = one_meaning bytes 1 1 code other facts known r.spells s.spells in
+    (all.1, all.2)
 
 pub misread_distrusted : (bytes : List ℕ) (c a d b : ℕ) → Misread bytes c a → Uncertified bytes d b → ⊥
 misread_distrusted bytes c a d b m u = misread_reads bytes c a u.code u.facts m u.reads

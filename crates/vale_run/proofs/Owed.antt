@@ -70,8 +70,8 @@ ReadsCertified-whole code facts bytes r = subst (λ t. ReadsCertified t code fac
 ExecsTo-whole : (options : Options) (e : Effect) (bytes : List ℕ) → ExecsTo (take 268435457 bytes) options e → ExecsTo bytes options e
 ExecsTo-whole options e bytes (misread_exec code at m is) = misread_exec code at (Misread-whole bytes code at m) is
 ExecsTo-whole options e bytes (distrusted_exec rule at u is) = distrusted_exec rule at (Uncertified-whole bytes rule at u) is
-ExecsTo-whole options e bytes (unrun code facts r no is) = unrun code facts (ReadsCertified-whole code facts bytes r) no is
-ExecsTo-whole options e bytes (execs code facts r yes is) = execs code facts (ReadsCertified-whole code facts bytes r) yes is
+ExecsTo-whole options e bytes (unrun code facts r un is) = unrun code facts (ReadsCertified-whole code facts bytes r) un is
+ExecsTo-whole options e bytes (execs code facts r fit is) = execs code facts (ReadsCertified-whole code facts bytes r) fit is
 
 ListsTo-whole : (e : Effect) (bytes : List ℕ) → ListsTo (take 268435457 bytes) e → ListsTo bytes e
 ListsTo-whole e bytes (misread_list code at m is) = misread_list code at (Misread-whole bytes code at m) is

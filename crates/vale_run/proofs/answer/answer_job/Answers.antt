@@ -2,9 +2,9 @@ use Rattle.std.proofs.Common.{sym, ◌∙◌}
 use Rattle.vale_run.proofs.Jobs.{job_unserved, job_served}
 use Rattle.vale_run.proofs.answer.answer_job.Goals as goal
 
-pub returns-in-Some-clause-owed : goal.returns-in-Some-clause-owed
-returns-in-Some-clause-owed g c =
-    job_unserved _ _ c.requires _ _ _ (sym c.unserved.ensures ∙ c.in-Some.is) c.in_ok-bad_word.ensures
+pub returns-in_ok-bad_word-in-Some-clause-owed : goal.returns-in_ok-bad_word-in-Some-clause-owed
+returns-in_ok-bad_word-in-Some-clause-owed g c =
+    job_unserved _ _ c.requires _ _ _ (sym c.unserved.ensures ∙ c.in-Some.is) c.in_ok-bad_word-in-Some.ensures
 
 pub do_job-requires : goal.do_job-requires
 do_job-requires g c = job_served _ _ c.requires (sym c.unserved.ensures ∙ c.in-None.is)

@@ -7,12 +7,12 @@ use Rattle.vale_run.proofs.answer.do_job.Goals as goal
 pub returns-in-Run-clause-owed : goal.returns-in-Run-clause-owed
 returns-in-Run-clause-owed g c =
     let (first, two) = run_within _ _ _ _ c.requires.asked c.in-Run.is in
-    IfOk-weaker c.run_file.result _ _ (λ a owed. run_owes _ _ c.requires (g.H.Shelf.state c.args.shelf.now) _ _ _ (omega (arith, first, two)) c.index-words-file-in-Run.is c.as_str-in-Run.ensures.value _ c.in-Run.is a owed) c.run_file.ensures.owed
+    IfOk-weaker c.run_file.result _ _ (λ a owed. run_owes _ _ c.requires (g.H.Shelf.state c.args.shelf.now) _ _ _ (omega (arith, first, two)) c.index-words-file.is c.as_str.ensures.value _ c.in-Run.is a owed) c.run_file.ensures.owed
 
 pub returns-in-Run-clause-read : goal.returns-in-Run-clause-read
 returns-in-Run-clause-read g c failed =
     let (first, two) = run_within _ _ _ _ c.requires.asked c.in-Run.is in
-    run_fails _ _ c.requires (g.H.Shelf.state c.args.shelf.now) _ _ _ (omega (arith, first, two)) c.index-words-file-in-Run.is c.as_str-in-Run.ensures.value _ c.in-Run.is (g.H.Shelf.state c.run_file.new.shelf) (c.run_file.ensures.read failed)
+    run_fails _ _ c.requires (g.H.Shelf.state c.args.shelf.now) _ _ _ (omega (arith, first, two)) c.index-words-file.is c.as_str.ensures.value _ c.in-Run.is (g.H.Shelf.state c.run_file.new.shelf) (c.run_file.ensures.read failed)
 
 pub run_file-requires-clause-some : goal.run_file-requires-clause-some
 run_file-requires-clause-some g c =
@@ -47,13 +47,13 @@ returns-in-Fmt-clause-read g c failed =
 pub returns-in-Build-clause-owed : goal.returns-in-Build-clause-owed
 returns-in-Build-clause-owed g c =
     let (within, other) = build_within _ _ _ _ c.requires.asked c.in-Build.is in
-    let names = name_found _ _ _ _ other c.index-words-code-in-Build.is c.as_str-in-Build.ensures.value in
+    let names = name_found _ _ _ _ other c.index-words-code.is c.as_str-in-Build.ensures.value in
     IfOk-weaker c.build_file.result _ _ (λ a owed. build_owes _ _ c.requires (g.H.Shelf.state c.args.shelf.now) _ _ _ within c.index-words-file-in-Build.is c.as_str-name.ensures.value _ _ names c.in-Build.is a owed) c.build_file.ensures.owed
 
 pub returns-in-Build-clause-read : goal.returns-in-Build-clause-read
 returns-in-Build-clause-read g c failed =
     let (within, other) = build_within _ _ _ _ c.requires.asked c.in-Build.is in
-    let names = name_found _ _ _ _ other c.index-words-code-in-Build.is c.as_str-in-Build.ensures.value in
+    let names = name_found _ _ _ _ other c.index-words-code.is c.as_str-in-Build.ensures.value in
     build_fails _ _ c.requires (g.H.Shelf.state c.args.shelf.now) _ _ _ within c.index-words-file-in-Build.is c.as_str-name.ensures.value _ _ names c.in-Build.is (g.H.Shelf.state c.build_file.new.shelf) (c.build_file.ensures.read failed)
 
 pub returns-in-Exec-clause-owed : goal.returns-in-Exec-clause-owed
