@@ -1,0 +1,3 @@
+mod RegionTexts
+pub mod FoundLaws
+pub mod GivenLaws
