@@ -1,0 +1,4 @@
+pub mod BirthLaws
+pub mod Destroying
+pub mod Mirrors
+pub mod Stepping
