@@ -129,7 +129,7 @@ exec_no_file : (bytes : List ℕ) (options : Options) (e : Effect) → ExecsTo b
 exec_no_file bytes options e (misread_exec code at m is) = misreads_no_file e code at is
 exec_no_file bytes options e (distrusted_exec rule at u is) = distrusts_no_file e rule at is
 exec_no_file bytes options e (unrun code facts r un is) = leaves_no_file e is
-exec_no_file bytes options e (execs code facts r yes is) = runs_no_file e (run_code code no_input options.ticks) is
+exec_no_file bytes options e (execs code facts r fit is) = runs_no_file e (run_code code no_input options.ticks) is
 
 listing_no_file : (bytes : List ℕ) (e : Effect) → ListsTo bytes e → IsNoFile e
 listing_no_file bytes e (misread_list code at m is) = misreads_no_file e code at is

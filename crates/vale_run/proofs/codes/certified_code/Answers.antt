@@ -1,13 +1,14 @@
 use Rattle.std.proofs.Common.{arith}
 use Rattle.vale_front.proofs.ByteLaws.{all_bytes}
 use Rattle.vale_run.proofs.CodeLaws.{is_certified}
-use Rattle.vale_run.specs.CodeFiles.{misspelled}
+use Rattle.vale_run.specs.CodeFiles.{IsReadable, misspelled}
 use Rattle.vale_run.proofs.codes.certified_code.Goals as goal
 
 pub returns-in-Err-Is-clause-fault : goal.returns-in-Err-Is-clause-fault
 returns-in-Err-Is-clause-fault c =
     let why = rw c.in-Err-Is.field-0-is at c.in-Err-Is.ensures.fault in
-    misspelled (record { within = omega (arith, c.if-bytes-gt-CODE_FILE_LIMIT.false); small = all_bytes c.args.bytes.now (λ k. omega (arith, c.type_inv.bytes k)) }) why
+    let readable : IsReadable c.args.bytes.now = record { within = omega (arith, c.if-bytes-gt-CODE_FILE_LIMIT.false); small = all_bytes c.args.bytes.now (λ k. omega (arith, c.type_inv.bytes k)) } in
+    rw c.in-Err-Is.field-0-is (misspelled readable why)
 
 pub returns-in-Ok-verify-clause-found : goal.returns-in-Ok-verify-clause-found
 returns-in-Ok-verify-clause-found c = record {
@@ -15,7 +16,7 @@ returns-in-Ok-verify-clause-found c = record {
     readable = record { within = omega (arith, c.if-bytes-gt-CODE_FILE_LIMIT.false); small = all_bytes c.args.bytes.now (λ k. omega (arith, c.type_inv.bytes k)) };
     spells = rw (c.in-Ok-verify.ensures.found.0, c.in-Ok-verify.ensures.found.1) c.in-Ok.ensures.found;
   };
-  certified = is_certified _ _ c.in-Ok-verify.verified.certified;
+  certified = is_certified c.in-Ok-verify.verified.code c.in-Ok-verify.verified.facts c.in-Ok-verify.verified.certified;
 }
 
 pub returns-in-Err-Is-verify-clause-fault : goal.returns-in-Err-Is-verify-clause-fault
