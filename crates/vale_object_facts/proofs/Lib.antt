@@ -1,0 +1,24 @@
+mod Agreeing
+mod Arguments
+pub mod Bodies
+mod Callees
+mod Covering
+mod Entries
+mod Examples
+mod Functions
+mod Labels
+mod Leaving
+mod Locals
+mod Operators
+mod Owners
+mod Parts
+mod Places
+mod Rows
+mod Runs
+mod Scopes
+mod Sets
+mod Taking
+mod Tree
+mod Turns
+mod Waits
+mod Ways
