@@ -145,7 +145,9 @@ fn what_is_built_runs_as_its_text(rt: HostRuntime) -> Result<(), Fail> {
         assert!(rt; runs_alike(&rt, rt.alloc(), text, "9")?, "{text}");
     }
     let (_, code) = build(&rt, rt.alloc(), SEVEN.as_bytes(), &CALM)?;
-    assert!(rt; code.as_slice() == FILE);
+    let listed = run_code(&rt, rt.alloc(), &["list", "c"], &code)?;
+    let text = "func 0 main\n  0 int 1 7\n  1 print 1 1\n  2 retvoid\n";
+    assert!(rt; listed.is(0, text, ""));
     Ok(())
 }
 
