@@ -1,0 +1,3 @@
+pub mod FlowLaws
+pub mod PartLaws
+pub mod ScopeLaws
