@@ -1,3 +1,4 @@
+pub mod ClosingLaws
 pub mod FlowLaws
 pub mod PartLaws
 pub mod ScopeLaws

@@ -1,10 +1,13 @@
 -- What is in scope and what is gone, with one more.
-use Rattle.std.proofs.Common.{◌≡◌, ℕ, List, [], ◌∷◌, ◌++◌, refl, ap, sym, ◌∙◌}
-use Rattle.std.specs.Prelude.{Bool, true, false, ◌&&◌, ◌==◌, if◌then◌else◌}
-use Rattle.vale_lowering_objects.specs.Scopes.{Entry, is_gone, without, same_gone, same_truth}
+use Rattle.std.proofs.Common.{◌≡◌, ℕ, ◌+◌, ◌<◌, List, [], ◌∷◌, ◌++◌, length, take, get_or, refl, ap, sym, ◌∙◌}
+use Rattle.std.proofs.lemmas.List.{take_more}
+use Rattle.std.specs.Prelude.{Bool, true, false, ◌&&◌, ◌==◌, Option, Some, None, option_map, if◌then◌else◌}
+use Rattle.vale_model.specs.Runs.{has_name}
+use Rattle.vale_lowering_objects.specs.Scopes.{Entry, find, is_gone, without, same_gone, same_truth}
 use Rattle.vale_lowering_objects.specs.Scopes as s
 use Rattle.vale_lower_flow.specs.declared.scope.Local.{Local}
 use Rattle.vale_lower_flow.specs.Entries.{entry_of, framed, gone_over, all_same}
+use Rattle.vale_lower_flow.specs.Kept.{or_else}
 
 pub framed_more : (ls : List Local) (l : Local) (outer : List Entry) → framed (ls ++ l ∷ []) outer ≡ entry_of l ∷ framed ls outer
 framed_more [] l outer = refl
@@ -42,9 +45,6 @@ without_none r (q ∷ g) h = with_test (q == r) refl
     with_test true e = absurd (ap (λ b. if b then true else is_gone r g) (sym e) ∙ h)
     with_test false e = ap (λ b. if b then without r g else q ∷ without r g) e ∙ ap (λ z. q ∷ z) (without_none r g (ap (λ b. if b then true else is_gone r g) (sym e) ∙ h))
 
-pub not_gone : (r : ℕ) (g : s.Gone) (b : Bool) → b ≡ is_gone r g → b ≡ false → without r g ≡ g
-not_gone r g b e f = without_none r g (sym e ∙ f)
-
 pub ruleset withouts = (without_none)
 
 -- ---- which are the same
@@ -60,3 +60,20 @@ same_framed [] outer g g' = refl
 same_framed (l ∷ ls) outer g g' =
     same_framed ls (entry_of l ∷ outer) g g'
     ∙ and_swap (all_same ls g g') (same_truth (is_gone l.register g) (is_gone l.register g')) (same_gone outer g g')
+
+-- ---- the last of a name
+
+pub find_next : (n : ℕ) (ls : List Local) (i : ℕ) (l : Local) (found found2 : Option Local) → i < length ls → l ≡ get_or ls i l
+    → ((outer : List Entry) → find n (framed (take i ls) outer) ≡ or_else (option_map entry_of found) (find n outer))
+    → found2 ≡ (if has_name n (entry_of l).name then Some l else found)
+    → (outer : List Entry) → find n (framed (take (i + 1) ls) outer) ≡ or_else (option_map entry_of found2) (find n outer)
+find_next n ls i l found found2 lt is so_far e outer =
+    let one : take (i + 1) ls ≡ take i ls ++ l ∷ [] = take_more ls i l lt ∙ ap (λ (z : Local). take i ls ++ z ∷ []) (sym is) in
+    ap (λ (z : List Local). find n (framed z outer)) one
+    ∙ (ap (λ (z : List Entry). find n z) (framed_more (take i ls) l outer)
+    ∙ (ap (λ (z : Option Entry). if has_name n (entry_of l).name then Some (entry_of l) else z) (so_far outer)
+    ∙ (by (has_name n (entry_of l).name) ∙ ap (λ (z : Option Local). or_else (option_map entry_of z) (find n outer)) (sym e))))
+  where
+    by : (b : Bool) → (if b then Some (entry_of l) else or_else (option_map entry_of found) (find n outer)) ≡ or_else (option_map entry_of (if b then Some l else found)) (find n outer)
+    by true = refl
+    by false = refl

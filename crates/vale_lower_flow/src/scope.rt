@@ -1,5 +1,5 @@
 // The locals and waiting values in scope.
-ghost use Rattle.std.specs.Prelude.{◌≡◌, ◌&&◌, List, option_map};
+ghost use Rattle.std.specs.Prelude.{◌≡◌, ◌&&◌, List, Some, option_map, if◌then◌else◌};
 ghost use Rattle.vale_lowering_objects.specs.Scopes.{Entry, find, is_gone, same_gone, same_truth};
 ghost use Rattle.vale_model.specs.Runs.{has_name};
 ghost use Rattle.vale_lower_flow.specs.Entries.{entry_of, framed, entries, gone_of, all_same};
@@ -35,15 +35,24 @@ pub enum Scope<'a> {
     Frame(&'a [Local], &'a Scope<'a>),
 }
 
+// The local where it has the name, or else what was found before.
+fn later(local: &Local, name: Name, found: Option<Local>) -> Option<Local>
+    ensures { result ≡ (if has_name name.0 (entry_of local.now).name then Some local.now else found) }
+{
+    if local.is_named(name) {
+        Some(*local)
+    } else {
+        found
+    }
+}
+
 // The last of them that has the name.
 fn last_named(locals: &[Local], name: Name) -> Option<Local>
     ensures { (outer : List Entry) → find name.0 (framed locals.now outer) ≡ or_else (option_map entry_of result) (find name.0 outer) }
 {
     let mut found = None;
     for local in locals {
-        if local.is_named(name) {
-            found = Some(*local);
-        }
+        found = later(local, name, found);
     }
     found
 }

@@ -1,0 +1,9 @@
+-- What a step starts from, as the code has it.
+use Rattle.std.specs.Prelude.{ℕ}
+use Rattle.vale_lowering_objects.specs.Lowered as l
+use Rattle.vale_lower_places.specs.declared.places.Origin.{Origin}
+use Rattle.vale_lower_places.specs.declared.places.Origin.TheVariants as o
+
+abbrev pub view_origin : Origin → l.Origin
+view_origin (o.AtHand r) = l.at_hand r
+view_origin (o.Reference r) = l.reference r
