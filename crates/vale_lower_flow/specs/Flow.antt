@@ -44,6 +44,9 @@ put xs f = record { code = f.code ++ xs; gone = f.gone; comes = true }
 unfoldable pub arrived : Going → Going
 arrived f = record { code = f.code; gone = f.gone; comes = true }
 
+unfoldable pub left : Going → Going
+left f = record { code = f.code; gone = f.gone; comes = false }
+
 -- the owner of a register is gone
 unfoldable pub taken : ℕ → Going → Going
 taken r f = record { code = f.code; gone = r ∷ f.gone; comes = f.comes }

@@ -3,7 +3,7 @@ ghost use Rattle.std.specs.Prelude.{◌≡◌, ◌∷◌, [], true, length, take
 ghost use Rattle.vale_code.specs.declared.instr.Instr.TheVariants as i;
 ghost use Rattle.vale_lowering_objects.specs.Scopes.{is_gone, may_meet, closes};
 ghost use Rattle.vale_lower_flow.specs.Entries.{entries, gone_of};
-ghost use Rattle.vale_lower_flow.specs.Flow.{going, put, arrived, taken, filled, back_to, only, mark_of, begun, ended, turned, joined, skipped, looped, side_after, after_of};
+ghost use Rattle.vale_lower_flow.specs.Flow.{going, put, arrived, left, taken, filled, back_to, only, mark_of, begun, ended, turned, joined, skipped, looped, side_after, after_of};
 
 use crate::gone::Gone;
 use crate::scope::{Scope, same_gone};
@@ -75,6 +75,14 @@ impl Flow {
         ensures { going self.new ≡ arrived (going self.old) }
     {
         self.comes = true;
+    }
+
+    /// No run comes here.
+    #[tactic(auto, unfolding(crate::specs::Flow::going, crate::specs::Flow::left))]
+    pub fn leave(&mut self)
+        ensures { going self.new ≡ left (going self.old) }
+    {
+        self.comes = false;
     }
 
     /// Whether the owner of the register is gone.
@@ -183,7 +191,7 @@ impl Flow {
     /// The first side ends, and the other begins with what was gone before; the test was held at its place.
     #[tactic(auto, unfolding(crate::specs::Flow::going, crate::specs::Flow::turned))]
     pub fn turn(&mut self, test: u32, h: u32, before: Gone) -> Result<Side, Memory>
-        ensures after { IfOk result (λ d. side_after d ≡ after_of (going self.old).comes (going self.old).gone) }
+        ensures gone { IfOk result (λ d. gone_of d.gone ≡ (going self.old).gone) }
         ensures comes { IfOk result (λ d. d.comes ≡ (going self.old).comes) }
         ensures jump { IfOk result (λ d. d.jump ≡ length (going self.old).code) }
         ensures turned { OnOk result (going self.new ≡ turned test h (gone_of before) (going self.old)) }

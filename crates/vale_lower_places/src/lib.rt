@@ -1,8 +1,9 @@
-//! What is emitted of single nodes with owners, once their parts are: fields and elements and what they start from, locals that are named, set and dropped, objects that are made, and calls.
+//! What is emitted of single nodes with owners, once their parts are: plain values, fields and elements and what they start from, and locals that are named, set and dropped.
 #![tactic(auto)]
 
 mod locals;
 mod places;
+mod values;
 
 pub use locals::{
     drop_scope, drop_value, put_exchange, put_hand, put_lent, put_moved, put_store,
@@ -10,3 +11,4 @@ pub use locals::{
 pub use places::{
     Origin, is_there, origin_of, put_element, put_field, put_stuck, swap_element, swap_field,
 };
+pub use values::{put_number, put_operator, put_quote, put_thaw, put_truth, put_unary};

@@ -22,7 +22,7 @@ use std::alloc::Global;
 use vale_base::{Memory, Spot};
 use vale_code::{Instr, Sequence};
 use vale_core::{Block, ElseIf, Expr, Form, Link, Node, Step, Stmt, Ty, View};
-use vale_lower_expr::{above, put_operator, put_unary, registers_from};
+use vale_lower_expr::{above, registers_from};
 use vale_lower_flow::{Closings, Flow, Gives, Gone, Local, Mark, Scope, find};
 use vale_lower_looks::{expr_comes, step_changes};
 use vale_lower_places::{
@@ -233,7 +233,7 @@ fn emit_unary(
         UnaryOp::Minus | UnaryOp::Not => {
             emit_expr(alloc, operand, here, flow)?;
             let mark = flow.begin(above(here.next)?)?;
-            put_unary_of(flow, op, at, here.next)?;
+            put_unary(flow, op, at, here.next)?;
             flow.end(mark)?;
             let ok = given.is_value() && gives.agrees(Gives::Copied);
             flow.keep(ok, start, here.next)
@@ -353,7 +353,7 @@ fn emit_link(
             let behind = Standing { next, ..*here };
             emit_expr(alloc, &link.operand, &behind, flow)?;
             let mark = flow.begin(above(next)?)?;
-            put_operator_of(flow, link.op, &link.seen.value, link.at, h)?;
+            put_operator(flow, link.op, &link.seen.value, link.at, h)?;
             flow.end(mark)
         }
     }
