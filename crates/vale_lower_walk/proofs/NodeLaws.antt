@@ -37,7 +37,7 @@ pub leaves_same : (part : Part) (x z : Gone → After) (f : Going) → x f.gone 
 unfolding emitted
 leaves_same part x z f e = ap (λ q. record { code = f.code ++ part (length f.code) f.gone; gone = gone_in q; comes = comes_in q }) e
 
-then_nothing : (q : After) → then_after q (λ g. comes g) ≡ q
+pub then_nothing : (q : After) → then_after q (λ g. comes g) ≡ q
 then_nothing (comes g) = refl
 then_nothing (never g) = refl
 
