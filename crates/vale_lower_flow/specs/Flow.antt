@@ -16,7 +16,7 @@ pub record Going : Type 0 where
   pub comes : Bool
 
 unfoldable pub going : Flow → Going
-going f = record { code = f.buffer.code.items; gone = gone_of f.gone; comes = f.comes }
+going f = record { code = f.code.items; gone = gone_of f.gone; comes = f.comes }
 
 -- ---- what a part makes of it
 
@@ -40,6 +40,10 @@ emitted part after f = record { code = f.code ++ part (length f.code) f.gone; go
 
 unfoldable pub put : List Instr → Going → Going
 put xs f = record { code = f.code ++ xs; gone = f.gone; comes = true }
+
+-- another instruction at a place
+unfoldable pub replaced : ℕ → Instr → Going → Going
+replaced place x f = record { code = slice_set f.code place x; gone = f.gone; comes = f.comes }
 
 unfoldable pub arrived : Going → Going
 arrived f = record { code = f.code; gone = f.gone; comes = true }

@@ -30,10 +30,11 @@ impl Flow {
         if !self.comes || !local.owned || self.gone.has(local.register) {
             return Ok(());
         }
-        self.buffer.put(Instr::Destroy {
+        self.code.push(Instr::Destroy {
             from: local.register,
             at,
-        })
+        })?;
+        Ok(())
     }
 
     fn close(&mut self, closing: Closing) -> Result<(), Memory>

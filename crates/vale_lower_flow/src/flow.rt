@@ -1,9 +1,9 @@
 // Code that grows at its end, with what is gone there.
-ghost use Rattle.std.specs.Prelude.{◌≡◌, ◌∷◌, [], true, length, take, IfOk, OnOk};
+ghost use Rattle.std.specs.Prelude.{◌≡◌, ◌+◌, ◌∷◌, [], true, length, IfOk, OnOk};
 ghost use Rattle.vale_code.specs.declared.instr.Instr.TheVariants as i;
 ghost use Rattle.vale_lowering_objects.specs.Scopes.{is_gone, may_meet, closes};
 ghost use Rattle.vale_lower_flow.specs.Entries.{entries, gone_of};
-ghost use Rattle.vale_lower_flow.specs.Flow.{going, put, arrived, left, taken, filled, back_to, only, mark_of, begun, ended, turned, joined, skipped, looped, side_after, after_of};
+ghost use Rattle.vale_lower_flow.specs.Flow.{going, put, replaced, arrived, left, taken, filled, back_to, only, mark_of, begun, ended, turned, joined, skipped, looped, side_after, after_of};
 
 use crate::gone::Gone;
 use crate::scope::{Scope, same_gone};
@@ -11,12 +11,11 @@ use std::alloc::Global;
 use std::mem;
 use vale_base::Memory;
 use vale_code::Instr;
-use vale_lower_expr::CodeBuffer;
 
 /// What was emitted of a body so far, which registers' owners are gone there, and whether a run comes there.
 #[derive(Drop)]
 pub struct Flow {
-    pub buffer: CodeBuffer,
+    pub code: Vec<Instr>,
     pub gone: Gone,
     pub comes: bool,
 }
@@ -45,7 +44,7 @@ impl Flow {
         ensures { going result ≡ record { code = []; gone = []; comes = true } }
     {
         Flow {
-            buffer: CodeBuffer::new(alloc),
+            code: Vec::new(alloc),
             gone: Gone::new(alloc),
             comes: true,
         }
@@ -56,7 +55,11 @@ impl Flow {
     pub fn place(&self) -> Result<u32, Memory>
         ensures { IfOk result (λ place. place ≡ length (going self.now).code) }
     {
-        self.buffer.place()
+        let place = self.code.len();
+        if place > u32::MAX as usize {
+            return Err(Memory);
+        }
+        Ok(place as u32)
     }
 
     /// One more instruction.
@@ -64,9 +67,20 @@ impl Flow {
     pub fn put(&mut self, instr: Instr) -> Result<(), Memory>
         ensures { OnOk result (going self.new ≡ put (instr ∷ []) (going self.old)) }
     {
-        self.buffer.put(instr)?;
+        self.code.push(instr)?;
         self.comes = true;
         Ok(())
+    }
+
+    // Another instruction at a place, where one stands there: what is jumped to is known only once what is jumped over was
+    // emitted.
+    #[tactic(auto, using(crate::proofs::FlowLaws::set_past), unfolding(crate::specs::Flow::going, crate::specs::Flow::replaced))]
+    fn set(&mut self, place: u32, instr: Instr)
+        ensures { going self.new ≡ replaced place instr (going self.old) }
+    {
+        if (place as usize) < self.code.len() {
+            self.code[place as usize] = instr;
+        }
     }
 
     /// A run comes here.
@@ -134,8 +148,9 @@ impl Flow {
         if test {
             return Ok(());
         }
-        self.buffer.code.truncate(place as usize);
-        self.buffer.put_stuck(h)
+        self.code.truncate(place as usize);
+        self.code.push(Instr::Truth { to: h, choice: 2 })?;
+        Ok(())
     }
 
     /// What follows a part begins, where `r` is the first free register: where no run comes, with a label.
@@ -150,8 +165,8 @@ impl Flow {
             start,
         };
         if !self.comes {
-            self.buffer.put(Instr::Truth { to: r, choice: 1 })?;
-            self.buffer.put(Instr::Unless {
+            self.code.push(Instr::Truth { to: r, choice: 1 })?;
+            self.code.push(Instr::Unless {
                 condition: r,
                 target: start,
             })?;
@@ -171,25 +186,25 @@ impl Flow {
         self.comes = false;
         let end = self.place()?;
         if u64::from(end) == u64::from(mark.start) + 2 {
-            self.buffer.code.truncate(mark.start as usize);
+            self.code.truncate(mark.start as usize);
             return Ok(());
         }
-        self.buffer.put(Instr::Jump { target: end })
+        self.code.push(Instr::Jump { target: end })?;
+        Ok(())
     }
 
     /// An instruction that is set later, and its place.
-    #[tactic(auto, unfolding(crate::specs::Flow::going, crate::specs::Flow::put))]
     pub fn hold(&mut self) -> Result<u32, Memory>
         ensures place { IfOk result (λ place. place ≡ length (going self.old).code) }
         ensures held { OnOk result (going self.new ≡ put (i.Jump 0 ∷ []) (going self.old)) }
     {
-        let place = self.buffer.hold()?;
-        self.comes = true;
+        let place = self.place()?;
+        self.put(Instr::Jump { target: 0 })?;
         Ok(place)
     }
 
     /// The first side ends, and the other begins with what was gone before; the test was held at its place.
-    #[tactic(auto, unfolding(crate::specs::Flow::going, crate::specs::Flow::turned))]
+    #[tactic(auto, unfolding(crate::specs::Flow::going, crate::specs::Flow::replaced, crate::specs::Flow::turned))]
     pub fn turn(&mut self, test: u32, h: u32, before: Gone) -> Result<Side, Memory>
         ensures gone { IfOk result (λ d. gone_of d.gone ≡ (going self.old).gone) }
         ensures comes { IfOk result (λ d. d.comes ≡ (going self.old).comes) }
@@ -199,10 +214,10 @@ impl Flow {
         let comes = self.comes;
         let jump = self.place()?;
         if comes {
-            self.buffer.put(Instr::Jump { target: 0 })?;
+            self.code.push(Instr::Jump { target: 0 })?;
         }
-        let target = self.buffer.place()?;
-        self.buffer.set(
+        let target = self.place()?;
+        self.set(
             test,
             Instr::Unless {
                 condition: h,
@@ -237,14 +252,14 @@ impl Flow {
     }
 
     /// Both sides end; this was gone before them.
-    #[tactic(auto, unfolding(crate::specs::Flow::going, crate::specs::Flow::joined))]
+    #[tactic(auto, unfolding(crate::specs::Flow::going, crate::specs::Flow::replaced, crate::specs::Flow::joined))]
     pub fn join(&mut self, side: Side, before: Gone) -> Result<(), Memory>
         ensures { OnOk result (going self.new ≡ joined side.comes side.jump (gone_of before) (side_after side) (going self.old)) }
     {
         let Side { comes, gone, jump } = side;
         if comes {
             let target = self.place()?;
-            self.buffer.set(jump, Instr::Jump { target });
+            self.set(jump, Instr::Jump { target });
             self.gone = gone;
             self.comes = true;
             return Ok(());
@@ -256,18 +271,25 @@ impl Flow {
     }
 
     /// What is done only where the test is true ends: the test was held at its place, and this was gone before.
-    #[tactic(auto, unfolding(crate::specs::Flow::going, crate::specs::Flow::skipped))]
+    #[tactic(auto, unfolding(crate::specs::Flow::going, crate::specs::Flow::replaced, crate::specs::Flow::skipped))]
     pub fn skip(&mut self, test: u32, h: u32, before: Gone) -> Result<(), Memory>
         ensures { OnOk result (going self.new ≡ skipped test h (gone_of before) (going self.old)) }
     {
-        self.buffer.end_and(test, h)?;
+        let target = self.place()?;
+        self.set(
+            test,
+            Instr::Unless {
+                condition: h,
+                target,
+            },
+        );
         self.gone = before;
         self.comes = true;
         Ok(())
     }
 
     /// A loop ends after its test, whose code begins at this place; its first jump was held at `start`.
-    #[tactic(auto, unfolding(crate::specs::Flow::going, crate::specs::Flow::looped))]
+    #[tactic(auto, using(crate::proofs::FlowLaws::begins), unfolding(crate::specs::Flow::going, crate::specs::Flow::replaced, crate::specs::Flow::looped))]
     pub fn end_loop(
         &mut self,
         start: u32,
@@ -277,9 +299,28 @@ impl Flow {
     ) -> Result<(), Memory>
         ensures { OnOk result (going self.new ≡ looped start test h (gone_of before) (going self.old)) }
     {
-        self.buffer.end_loop(start, test, h)?;
+        let end = above(above(self.place()?)?)?;
+        self.code.push(Instr::Unless {
+            condition: h,
+            target: end,
+        })?;
+        self.code.push(Instr::Jump {
+            target: above(start)?,
+        })?;
+        self.set(start, Instr::Jump { target: test });
         self.gone = before;
         self.comes = true;
         Ok(())
+    }
+}
+
+/// The next register or place. One that would be 2^32 is want of memory.
+pub fn above(number: u32) -> Result<u32, Memory>
+    ensures { IfOk result (λ next. next ≡ number + 1) }
+{
+    if number == u32::MAX {
+        Err(Memory)
+    } else {
+        Ok(number + 1)
     }
 }

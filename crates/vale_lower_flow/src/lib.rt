@@ -8,7 +8,7 @@ mod gone;
 mod scope;
 
 pub use closing::{Closing, Closings};
-pub use flow::{Flow, Mark, Side};
+pub use flow::{Flow, Mark, Side, above};
 pub use gives::Gives;
 pub use gone::Gone;
 pub use scope::{Local, Scope, find, same_gone};

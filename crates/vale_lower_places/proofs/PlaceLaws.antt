@@ -1,12 +1,18 @@
 -- What single nodes make, by cases.
-use Rattle.std.proofs.Common.{◌≡◌, ℕ, ◌+◌, ◌-◌, ◌<◌, List, [], ◌∷◌, ◌++◌, length, take, get_or, refl, ap, sym, ◌∙◌, arith, append_assoc, append-nil}
-use Rattle.std.specs.Prelude.{Bool, true, false, not, ◌&&◌, Option, Some, None, if◌then◌else◌}
+use Rattle.std.proofs.Common.{◌≡◌, ℕ, zero, suc, ◌+◌, ◌<◌, rules, List, [], ◌∷◌, ◌++◌, length, take, get_or, refl, ap, sym, ◌∙◌, arith, append_assoc, append-nil}
+use Rattle.std.specs.Prelude.{Bool, true, false, not, ◌&&◌, nat_le, Option, Some, None, if◌then◌else◌}
+use Rattle.std.specs.List.{list_all}
+use Rattle.vale_base.specs.Limits.{text_limit}
+use Rattle.vale_syntax.specs.Bytes.{is_byte}
+use Rattle.vale_syntax.specs.declared.tree.BinaryOp.TheVariants as op
+use Rattle.vale_lowering.specs.Texts.{is_lawful_text}
+use Rattle.vale_lower_places.specs.Origins.{is_text}
 use Rattle.std.proofs.lemmas.List.{take_more}
 use Rattle.vale_base.specs.declared.spot.Spot.{Spot}
 use Rattle.vale_rules_spec.specs.Types as y
 use Rattle.vale_code.specs.declared.instr.Instr.{Instr}
 use Rattle.vale_code.specs.declared.instr.Instr.TheVariants as i
-use Rattle.vale_lowering.specs.Instructions.{stuck, only_if}
+use Rattle.vale_lowering.specs.Instructions.{stuck, only_if, operator, registers_from}
 use Rattle.vale_lowering_objects.specs.Scopes.{Gives, void, copy, owner, is_owner, agree, Entry, Scope, Gone, is_gone, same_truth}
 use Rattle.vale_lowering_objects.specs.Lowered.{move_out, moved_out, lend_local, exchange, exchange_by, store, store_by, is_there, drop_entry, drop_scope}
 use Rattle.vale_lower_flow.specs.declared.scope.Local.{Local}
@@ -116,3 +122,37 @@ drop_next ls k l at f f2 outer lt is e =
     ∙ (sym (first_dropped (entry_of l) (framed (take k ls) outer) at f)
     ∙ (ap (λ (z : List Entry). scope_dropped z at f) (sym (framed_more (take k ls) l outer))
     ∙ ap (λ (z : List Local). scope_dropped (framed z outer) at f) (sym one)))
+
+-- ---- plain values
+
+pub add_by_type : (x : y.Ty) (at : Spot) (h : ℕ) → operator op.Add x at h ≡ (if is_text x then i.Join h h (h + 1) at else i.Add h h (h + 1) at)
+add_by_type y.void at h = refl
+add_by_type y.int at h = refl
+add_by_type y.bool at h = refl
+add_by_type y.str at h = refl
+add_by_type (y.kind n) at h = refl
+add_by_type (y.array x) at h = refl
+add_by_type (y.ref x) at h = refl
+add_by_type (y.imm x) at h = refl
+add_by_type (y.iso x) at h = refl
+
+pub registers_more : (h count : ℕ) → registers_from h (count + 1) ≡ registers_from h count ++ (h + count) ∷ []
+registers_more h zero = let e : h ≡ h + 0 = omega arith in ap (λ n. n ∷ []) e
+registers_more h (suc count) =
+    let e : (h + 1) + count ≡ h + suc count = omega arith in
+    let m : suc count + 1 ≡ suc (count + 1) = omega arith in
+    ap (λ n. registers_from h n) m ∙ ap (λ z. h ∷ z) (registers_more (h + 1) count ∙ ap (λ n. registers_from (h + 1) count ++ n ∷ []) e)
+
+all_bytes : (text : List ℕ) → ((k : ℕ) → get_or text k 0 < 256) → list_all is_byte text ≡ true
+all_bytes [] each = refl
+all_bytes (b ∷ text) each = rw (byte b (each 0), all_bytes text (λ k. each (suc k))) refl
+  where
+    byte : (b : ℕ) → b < 256 → is_byte b ≡ true
+    byte b h = search (rules, arith)
+
+pub lawful_text : (text : List ℕ) → ((k : ℕ) → get_or text k 0 < 256) → is_lawful_text text ≡ nat_le (length text) text_limit
+lawful_text text each = rw (all_bytes text each) (and_true (nat_le (length text) text_limit))
+  where
+    and_true : (a : Bool) → (a && true) ≡ a
+    and_true true = refl
+    and_true false = refl

@@ -11,4 +11,6 @@ pub use locals::{
 pub use places::{
     Origin, is_there, origin_of, put_element, put_field, put_stuck, swap_element, swap_field,
 };
-pub use values::{put_number, put_operator, put_quote, put_thaw, put_truth, put_unary};
+pub use values::{
+    put_number, put_operator, put_quote, put_thaw, put_truth, put_unary, registers_from,
+};

@@ -11,8 +11,7 @@ ghost use Rattle.vale_lower_places.specs.Places.{moved, lent, exchanged, stored,
 use crate::places::{is_there, put_stuck};
 use vale_base::{Memory, Spot};
 use vale_code::Instr;
-use vale_lower_expr::above;
-use vale_lower_flow::{Flow, Gives, Local, Scope};
+use vale_lower_flow::{Flow, Gives, Local, Scope, above};
 
 // The owner of the local leaves it, where it is there.
 fn move_local(flow: &mut Flow, local: Local, h: u32) -> Result<(), Memory>
