@@ -17,7 +17,7 @@ framed (l ∷ ls) outer = framed ls (entry_of l ∷ outer)
 
 abbrev pub entries : Scope → List Entry
 entries Outside = []
-entries (Frame' ls outer) = framed ls.now (entries outer)
+entries (Frame' ls p outer) = framed ls.now (entries outer)
 
 -- the last first, before others
 abbrev pub gone_over : List ℕ → s.Gone → s.Gone

@@ -15,13 +15,8 @@ use Rattle.vale_lowering_objects.specs.Lowered.{all_gives, then_code, if_comes, 
 use Rattle.vale_lower_flow.specs.Closing.{dropped}
 use Rattle.vale_lower_flow.specs.Flow.{Going, emitted, put, arrived, only, mark_of, begun, ended, filled, if_there}
 use Rattle.vale_lower_flow.proofs.PartLaws.{Part, only_is, then_is, there_is, put_then, fill_then, nothing_is}
+use Rattle.vale_lower_walk.specs.Located.{Rest, Leaves, located, at_rest}
 use Rattle.vale_lower_walk.specs.Emitted.{expr_emitted, stmts_emitted, stmt_emitted, block_emitted}
-
-abbrev pub Rest : Type 0
-Rest = ℕ → ℕ → Scope → Gone → List Instr
-
-abbrev pub Leaves : Type 0
-Leaves = ℕ → Scope → Gone → After
 
 -- what may be done where a run comes
 there_by : (xs : List Instr) (f : Going) (k : Bool) → f.comes ≡ k → if_there (λ place g. xs) f ≡ (if k then put xs f else f)
@@ -38,18 +33,12 @@ there_not xs f e = there_by xs f false e
 -- ---- locals
 
 module _ (end : Spot) (after : Leaves) (rest : Rest) where
-  unfoldable pub located : List ℕ → List Gives → ℕ → Scope → Going → Going
-  located ns qs h s = emitted (λ place g. locals_code ns qs end place h s g after rest) (λ g. locals_after ns qs h s g after)
-
-  unfoldable pub at_rest : ℕ → Scope → Going → Going
-  at_rest h s = emitted (λ place g. rest place h s g) (λ g. after h s g)
-
-  pub none_located : (h : ℕ) (s : Scope) (f : Going) → located [] [] h s f ≡ at_rest h s f
+  pub none_located : (h : ℕ) (s : Scope) (f : Going) → located end after rest [] [] h s f ≡ at_rest end after rest h s f
   unfolding located at_rest
   none_located h s f = refl
 
   pub more_located : (n : ℕ) (ns : List ℕ) (q : Gives) (qs : List Gives) (h : ℕ) (s : Scope) (f : Going) →
-      located (n ∷ ns) (q ∷ qs) h s f ≡ only (is_value q) (length f.code) h (dropped (entry n h q) end (located ns qs (h + 1) (entry n h q ∷ s) (filled h f)))
+      located end after rest (n ∷ ns) (q ∷ qs) h s f ≡ only (is_value q) (length f.code) h (dropped (entry n h q) end (located end after rest ns qs (h + 1) (entry n h q ∷ s) (filled h f)))
   unfolding located dropped
   more_located n ns q qs h s f =
       let inner : Scope = entry n h q ∷ s in
@@ -60,11 +49,11 @@ module _ (end : Spot) (after : Leaves) (rest : Rest) where
       ∙ ap (λ z. only (is_value q) (length f.code) h z) (there_is drops (λ place g. one place (without h g)) (λ g. leaves (without h g)) f)
       ∙ only_is (λ g. is_value q) h (λ place g. if_comes place (one place (without h g)) (leaves (without h g)) drops) (λ g. leaves (without h g)) f)
 
-  pub fewer_located : (n : ℕ) (ns : List ℕ) (h : ℕ) (s : Scope) (f : Going) → located (n ∷ ns) [] h s f ≡ only false (length f.code) h (at_rest h s f)
+  pub fewer_located : (n : ℕ) (ns : List ℕ) (h : ℕ) (s : Scope) (f : Going) → located end after rest (n ∷ ns) [] h s f ≡ only false (length f.code) h (at_rest end after rest h s f)
   unfolding located at_rest
   fewer_located n ns h s f = sym (only_is (λ g. false) h (λ place g. rest place h s g) (λ g. after h s g) f)
 
-  pub others_located : (q : Gives) (qs : List Gives) (h : ℕ) (s : Scope) (f : Going) → located [] (q ∷ qs) h s f ≡ only false (length f.code) h (at_rest h s f)
+  pub others_located : (q : Gives) (qs : List Gives) (h : ℕ) (s : Scope) (f : Going) → located end after rest [] (q ∷ qs) h s f ≡ only false (length f.code) h (at_rest end after rest h s f)
   unfolding located at_rest
   others_located q qs h s f = sym (only_is (λ g. false) h (λ place g. rest place h s g) (λ g. after h s g) f)
 

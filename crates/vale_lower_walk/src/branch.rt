@@ -69,3 +69,62 @@ impl Base {
         flow.keep(self.is_there, self.start, h)
     }
 }
+
+// The same from a local: from its register where it stays there, and else from a reference to what it holds.
+#[tactic(auto, using(crate::proofs::StepLaws::bases), unfolding(crate::specs::Branches::base_ended))]
+pub fn base_of_local(
+    local: Option<Local>,
+    view: &View,
+    changes: bool,
+    h: u32,
+    flow: &mut Flow,
+) -> Result<Base, Memory>
+    ensures { IfOk result (λ b. (part : l.Origin → ℕ → ℕ → s.Gone → List Instr) (after : ℕ → s.Gone → s.After) → base_ended b h (emitted (λ place g. part (view_origin b.origin) place b.next g) (after b.next) (going flow.new)) ≡ local_started (view_view view.now) h part after (option_map entry_of local) changes (going flow.old)) }
+{
+    let start = flow.place()?;
+    let Some(local) = local else {
+        return Ok(Base {
+            origin: Origin::Reference(h),
+            next: h,
+            start,
+            is_there: false,
+            mark: Mark { comes: true, start },
+        });
+    };
+    if !changes && (!local.owned || is_direct(view)) {
+        return Ok(Base {
+            origin: origin_of(local),
+            next: h,
+            start,
+            is_there: is_there(local, flow),
+            mark: Mark { comes: true, start },
+        });
+    }
+    put_lent(flow, Some(local), Gives::Copied, is_frozen(view), h)?;
+    let next = above(h)?;
+    let mark = flow.begin(next)?;
+    Ok(Base {
+        origin: Origin::Reference(h),
+        next,
+        start,
+        is_there: true,
+        mark,
+    })
+}
+
+// The branches end, the last first.
+pub fn end_branches(
+    alloc: Global,
+    mut branches: Vec<Branch>,
+    before: &Gone,
+    h: u32,
+    scope: &Scope,
+    flow: &mut Flow,
+) -> Result<(), Memory>
+    ensures { OnOk result (going flow.new ≡ branches_ended branches.items h (entries scope.now) (gone_of before.now) (going flow.old)) }
+{
+    while let Some(branch) = branches.pop() {
+        branch.end(alloc, flow, h, scope, before)?;
+    }
+    Ok(())
+}

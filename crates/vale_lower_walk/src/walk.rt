@@ -16,19 +16,20 @@ ghost use Rattle.vale_lower_tables.specs.Surroundings.{view_around};
 ghost use Rattle.vale_lower_walk.specs.Branches.{branch_ended, branches_ended, base_ended};
 ghost use Rattle.vale_lower_walk.specs.Emitted.{expr_emitted, node_emitted, borrow_emitted, args_emitted, link_emitted, links_emitted, started, step_emitted, swap_emitted, first_emitted, first_swapped, steps_emitted, targets_emitted, place_emitted, form_emitted, elses_emitted, block_emitted, stmts_emitted, stmt_emitted};
 
-use crate::branch::{Base, Branch};
+use crate::branch::{Base, Branch, base_of_local, end_branches};
+use crate::frame::Frame;
+use crate::named::{declared, is_frozen, is_text, unmoved_name, view_of, waiting};
 use sqlite_items::{Boxed, Items};
 use std::alloc::Global;
 use vale_base::{Memory, Spot};
 use vale_code::{Instr, Sequence};
 use vale_core::{Block, ElseIf, Expr, Form, Link, Node, Step, Stmt, Ty, View};
-use vale_lower_expr::{above, registers_from};
-use vale_lower_flow::{Closings, Flow, Gives, Gone, Local, Mark, Scope, find};
+use vale_lower_flow::{Closings, Flow, Gives, Gone, Local, Mark, Scope, above, find};
 use vale_lower_looks::{expr_comes, step_changes};
 use vale_lower_places::{
     Call, Origin, drop_scope, drop_value, is_there, origin_of, put_callee, put_element,
-    put_exchange, put_field, put_hand, put_lent, put_made, put_moved, put_number, put_quote,
-    put_store, put_stuck, put_thaw, put_truth, swap_element, swap_field,
+    put_exchange, put_field, put_hand, put_lent, put_moved, put_number, put_operator, put_quote,
+    put_store, put_stuck, put_thaw, put_truth, put_unary, registers_from, swap_element, swap_field,
 };
 use vale_lower_tables::Around;
 use vale_syntax::{BinaryOp, NameAt, UnaryOp};
@@ -36,6 +37,7 @@ use vale_syntax::{BinaryOp, NameAt, UnaryOp};
 /// Where a node of a body stands.
 #[derive(Drop)]
 pub struct Standing<'a> {
+    pub alloc: Global,
     /// The next free register, to which the node's value goes.
     pub next: u32,
     /// The locals and waiting values in scope.
@@ -51,34 +53,13 @@ struct Values {
     next: u32,
 }
 
-// A value that waits in the register.
-fn waiting(register: u32, gives: Gives) -> Local
-    ensures { entry_of result ≡ s.waiting register (view_gives gives) }
-{
-    Local {
-        name: None,
-        register,
-        owned: gives.is_owner(),
-    }
-}
 
-// A local in the register.
-fn declared(name: Name, register: u32, gives: Gives) -> Local
-    ensures { entry_of result ≡ s.entry name.0 register (view_gives gives) }
-{
-    Local {
-        name: Some(name),
-        register,
-        owned: gives.is_owner(),
-    }
-}
 
 // ---- expressions
 
 #[cycle(emit)]
 #[tactic(auto, using(crate::proofs::NodeLaws::exprs))]
 fn emit_expr(
-    alloc: Global,
     expr: &Expr,
     here: &Standing,
     flow: &mut Flow,
@@ -86,14 +67,13 @@ fn emit_expr(
     ensures { OnOk result (going flow.new ≡ expr_emitted (view_around here.now.around.now) (view_expr expr.now) here.now.next (entries here.now.scope.now) (going flow.old)) }
 {
     let gives = Gives::of(&expr.seen.value);
-    emit_node(alloc, &expr.node, &expr.seen.value, gives, here, flow)
+    emit_node(&expr.node, &expr.seen.value, gives, here, flow)
 }
 
 // A node that has this type and gives so much.
 #[cycle(emit)]
 #[tactic(auto, using(crate::proofs::NodeLaws::nodes))]
 fn emit_node(
-    alloc: Global,
     node: &Node,
     ty: &Ty,
     gives: Gives,
@@ -105,7 +85,7 @@ fn emit_node(
     let h = here.next;
     match node {
         Node::Number(_, number) => put_number(flow, gives, *number, h),
-        Node::Quote(_, text) => put_quote(flow, here.around.texts, gives, text, h),
+        Node::Quote(_, text) => put_quote(flow, here.around.number_of_text(text), gives, text, h),
         Node::Truth(_, truth) => put_truth(flow, gives, *truth, h),
         Node::Name { name, is_moved, .. } => {
             let local = find(name.name, here.scope);
@@ -115,17 +95,17 @@ fn emit_node(
                 put_lent(flow, local, gives, true, h)
             }
         }
-        Node::Paren(_, inner) => emit_paren(alloc, inner.get(), gives, here, flow),
-        Node::Chain(first, links) => emit_chain(alloc, first.get(), links, gives, here, flow),
+        Node::Paren(_, inner) => emit_paren(inner.get(), gives, here, flow),
+        Node::Chain(first, links) => emit_chain(first.get(), links, gives, here, flow),
         Node::Unary(at, op, operand) => {
-            emit_unary(alloc, *at, *op, operand.get(), gives, here, flow)
+            emit_unary(*at, *op, operand.get(), gives, here, flow)
         }
         Node::Set(_, place, value) => {
-            emit_set(alloc, place.get(), value.get(), gives, here, flow)
+            emit_set(place.get(), value.get(), gives, here, flow)
         }
         Node::Call(name, callee, args) => {
             let args = args.as_slice();
-            let values = emit_args(alloc, args, here, flow)?;
+            let values = emit_args(args, here, flow)?;
             let mark = flow.begin(values.next)?;
             let call = Call {
                 name: *name,
@@ -134,37 +114,27 @@ fn emit_node(
                 values: &values.gives,
                 first: h,
             };
-            put_callee(alloc, flow, here.around, *callee, call)?;
+            put_callee(here.alloc, flow, here.around, *callee, call)?;
             flow.end(mark)
         }
         Node::Array(_, _, elements) => {
-            let values = emit_args(alloc, elements.as_slice(), here, flow)?;
+            let values = emit_args(elements.as_slice(), here, flow)?;
             let mark = flow.begin(values.next)?;
-            put_made(alloc, flow, here.around, gives, ty, values.gives.len(), h)?;
+            put_made(here.alloc, flow, here.around, gives, ty, values.gives.len(), h)?;
             flow.end(mark)
         }
         Node::Steps(base, steps) => {
-            emit_chain_of_steps(alloc, base.get(), steps.as_slice(), gives, here, flow)
+            emit_chain_of_steps(base.get(), steps.as_slice(), gives, here, flow)
         }
-        Node::Iso(at, block) => emit_iso(alloc, *at, block, gives, here, flow),
-        Node::Form(form) => emit_form(alloc, form.get(), ty, gives, here, flow),
+        Node::Iso(at, block) => emit_iso(*at, block, gives, here, flow),
+        Node::Form(form) => emit_form(form.get(), ty, gives, here, flow),
     }
 }
 
-// Whether the first value is a text.
-fn is_text(args: &[Expr]) -> bool
-    ensures { result ≡ is_text (first_type (exprs_of (map view_expr args.now))) }
-{
-    match args {
-        [] => false,
-        [first, ..] => matches!(first.seen.value, Ty::Str),
-    }
-}
 
 #[cycle(emit)]
 #[tactic(auto, using(crate::proofs::NodeLaws::parens))]
 fn emit_paren(
-    alloc: Global,
     inner: &Expr,
     gives: Gives,
     here: &Standing,
@@ -174,14 +144,13 @@ fn emit_paren(
 {
     let start = flow.place()?;
     let ok = gives.agrees(Gives::of(&inner.seen.value));
-    emit_expr(alloc, inner, here, flow)?;
+    emit_expr(inner, here, flow)?;
     flow.keep(ok, start, here.next)
 }
 
 #[cycle(emit)]
 #[tactic(auto, using(crate::proofs::NodeLaws::chains))]
 fn emit_chain(
-    alloc: Global,
     first: &Expr,
     links: &Items<Link>,
     gives: Gives,
@@ -192,9 +161,9 @@ fn emit_chain(
 {
     let start = flow.place()?;
     let ok = Gives::of(&first.seen.value).is_value() && gives.agrees(Gives::Copied);
-    emit_expr(alloc, first, here, flow)?;
+    emit_expr(first, here, flow)?;
     let mark = flow.begin(above(here.next)?)?;
-    emit_links(alloc, links, here, flow)?;
+    emit_links(links, here, flow)?;
     flow.end(mark)?;
     flow.keep(ok, start, here.next)
 }
@@ -202,7 +171,6 @@ fn emit_chain(
 #[cycle(emit)]
 #[tactic(auto, using(crate::proofs::NodeLaws::unaries))]
 fn emit_unary(
-    alloc: Global,
     at: Spot,
     op: UnaryOp,
     operand: &Expr,
@@ -216,11 +184,11 @@ fn emit_unary(
     let given = Gives::of(&operand.seen.value);
     match op {
         UnaryOp::Borrow => {
-            emit_borrow(alloc, operand, here, flow)?;
+            emit_borrow(operand, here, flow)?;
             flow.keep(gives.agrees(Gives::Copied), start, here.next)
         }
         UnaryOp::Merge => {
-            emit_expr(alloc, operand, here, flow)?;
+            emit_expr(operand, here, flow)?;
             let mark = flow.begin(above(here.next)?)?;
             flow.put(Instr::Merge {
                 to: here.next,
@@ -231,7 +199,7 @@ fn emit_unary(
             flow.keep(ok, start, here.next)
         }
         UnaryOp::Minus | UnaryOp::Not => {
-            emit_expr(alloc, operand, here, flow)?;
+            emit_expr(operand, here, flow)?;
             let mark = flow.begin(above(here.next)?)?;
             put_unary(flow, op, at, here.next)?;
             flow.end(mark)?;
@@ -245,42 +213,28 @@ fn emit_unary(
 #[cycle(emit)]
 #[tactic(auto, using(crate::proofs::NodeLaws::borrows))]
 fn emit_borrow(
-    alloc: Global,
     expr: &Expr,
     here: &Standing,
     flow: &mut Flow,
 ) -> Result<(), Memory>
     ensures { OnOk result (going flow.new ≡ borrow_emitted (view_around here.now.around.now) (view_expr expr.now) here.now.next (entries here.now.scope.now) (going flow.old)) }
 {
-    match &expr.node {
-        Node::Name {
-            name,
-            is_moved: false,
-            ..
-        } => {
-            let local = find(name.name, here.scope);
+    match unmoved_name(expr) {
+        Some(name) => {
+            let local = find(name, here.scope);
             put_lent(flow, local, Gives::Copied, is_frozen(&expr.seen.view), here.next)
         }
-        _ => emit_node(alloc, &expr.node, &expr.seen.value, Gives::Copied, here, flow),
+        None => emit_node(&expr.node, &expr.seen.value, Gives::Copied, here, flow),
     }
 }
 
-fn is_frozen(view: &View) -> bool
-    ensures { result ≡ y.is_frozen (view_view view.now) }
-{
-    matches!(view, View::Frozen(_))
-}
 
-fn is_direct(view: &View) -> bool
-    ensures { result ≡ y.is_direct (view_view view.now) }
-{
-    matches!(view, View::Direct(_))
-}
+
+
 
 // The values go to registers from one on; each waits for those after it.
 #[cycle(emit)]
 fn emit_args(
-    alloc: Global,
     args: &[Expr],
     here: &Standing,
     flow: &mut Flow,
@@ -289,10 +243,10 @@ fn emit_args(
     ensures next { IfOk result (λ v. v.next ≡ here.now.next + length args.now) }
     ensures emitted { OnOk result (going flow.new ≡ args_emitted (view_around here.now.around.now) (exprs_of (map view_expr args.now)) here.now.next (entries here.now.scope.now) (going flow.old)) }
 {
-    let mut closings = Closings::new(alloc);
-    let mut waits = Vec::new(alloc);
+    let mut closings = Closings::new(here.alloc);
+    let mut waits = Vec::new(here.alloc);
     let mut values = Values {
-        gives: Vec::new(alloc),
+        gives: Vec::new(here.alloc),
         next: here.next,
     };
     for arg in args {
@@ -304,7 +258,7 @@ fn emit_args(
         };
         let start = flow.place()?;
         let gives = Gives::of(&arg.seen.value);
-        emit_expr(alloc, arg, &inner, flow)?;
+        emit_expr(arg, &inner, flow)?;
         closings.keep(gives.is_value(), start, values.next)?;
         let next = above(values.next)?;
         closings.end(flow.begin(next)?)?;
@@ -322,7 +276,6 @@ fn emit_args(
 #[cycle(emit)]
 #[tactic(auto, using(crate::proofs::NodeLaws::links))]
 fn emit_link(
-    alloc: Global,
     link: &Link,
     here: &Standing,
     flow: &mut Flow,
@@ -332,18 +285,18 @@ fn emit_link(
     let h = here.next;
     match link.op {
         BinaryOp::Or => {
-            let before = flow.copy_gone(alloc)?;
+            let before = flow.copy_gone(here.alloc)?;
             let test = flow.hold()?;
             let side = flow.turn(test, h, before)?;
-            emit_expr(alloc, &link.operand, here, flow)?;
+            emit_expr(&link.operand, here, flow)?;
             let closes = flow.closes(here.scope, &side.gone);
-            flow.join(side, Gone::new(alloc))?;
+            flow.join(side, Gone::new(here.alloc))?;
             flow.keep(closes, test, h)
         }
         BinaryOp::And => {
-            let before = flow.copy_gone(alloc)?;
+            let before = flow.copy_gone(here.alloc)?;
             let test = flow.hold()?;
-            emit_expr(alloc, &link.operand, here, flow)?;
+            emit_expr(&link.operand, here, flow)?;
             let closes = flow.closes(here.scope, &before);
             flow.skip(test, h, before)?;
             flow.keep(closes, test, h)
@@ -351,7 +304,7 @@ fn emit_link(
         _ => {
             let next = above(h)?;
             let behind = Standing { next, ..*here };
-            emit_expr(alloc, &link.operand, &behind, flow)?;
+            emit_expr(&link.operand, &behind, flow)?;
             let mark = flow.begin(above(next)?)?;
             put_operator(flow, link.op, &link.seen.value, link.at, h)?;
             flow.end(mark)
@@ -361,20 +314,19 @@ fn emit_link(
 
 #[cycle(emit)]
 fn emit_links(
-    alloc: Global,
     links: &Items<Link>,
     here: &Standing,
     flow: &mut Flow,
 ) -> Result<(), Memory>
     ensures { OnOk result (going flow.new ≡ links_emitted (view_around here.now.around.now) (links_of (map view_link links.now)) here.now.next (entries here.now.scope.now) (going flow.old)) }
 {
-    let mut closings = Closings::new(alloc);
+    let mut closings = Closings::new(here.alloc);
     let behind = above(here.next)?;
     let slice = links.as_slice();
     for link in slice {
         let start = flow.place()?;
         let copied = Gives::Copied.agrees(Gives::of(&link.operand.seen.value));
-        emit_link(alloc, link, here, flow)?;
+        emit_link(link, here, flow)?;
         closings.keep(copied, start, here.next)?;
         closings.end(flow.begin(behind)?)?;
     }
@@ -388,7 +340,6 @@ fn emit_links(
 #[cycle(emit)]
 #[tactic(auto, using(crate::proofs::StepLaws::bases))]
 fn emit_base(
-    alloc: Global,
     expr: &Expr,
     step: &Step,
     here: &Standing,
@@ -396,20 +347,16 @@ fn emit_base(
 ) -> Result<Base, Memory>
     ensures { IfOk result (λ b. (part : l.Origin → ℕ → ℕ → s.Gone → List Instr) (after : ℕ → s.Gone → s.After) → base_ended b here.now.next (emitted (λ place g. part (view_origin b.origin) place b.next g) (after b.next) (going flow.new)) ≡ started (view_around here.now.around.now) (view_expr expr.now) (step_view (view_step step.now)) (λ n. step_changes n (view_step step.now)) here.now.next (entries here.now.scope.now) part after (going flow.old)) }
 {
-    match &expr.node {
-        Node::Name {
-            name,
-            is_moved: false,
-            ..
-        } => {
-            let local = find(name.name, here.scope);
-            let changes = step_changes(step, name.name);
+    match unmoved_name(expr) {
+        Some(name) => {
+            let local = find(name, here.scope);
+            let changes = step_changes(step, name);
             base_of_local(local, view_of(step), changes, here.next, flow)
         }
-        _ => {
+        None => {
             let start = flow.place()?;
             let is_there = Gives::Copied.agrees(Gives::of(&expr.seen.value));
-            emit_node(alloc, &expr.node, &expr.seen.value, Gives::Copied, here, flow)?;
+            emit_node(&expr.node, &expr.seen.value, Gives::Copied, here, flow)?;
             let next = above(here.next)?;
             let mark = flow.begin(next)?;
             Ok(Base {
@@ -423,11 +370,11 @@ fn emit_base(
     }
 }
 
+
 // A step whose base is known: what it leads to goes to the register `to`.
 #[cycle(emit)]
 #[tactic(auto, using(crate::proofs::StepLaws::steps))]
 fn emit_step(
-    alloc: Global,
     step: &Step,
     origin: Origin,
     to: u32,
@@ -442,7 +389,7 @@ fn emit_step(
         }
         Step::Index(_, _, at, index) => {
             let start = flow.place()?;
-            let mark = emit_index(alloc, index, here, flow)?;
+            let mark = emit_index(index, here, flow)?;
             put_element(flow, origin, here.next, *at, to)?;
             flow.end(mark)?;
             flow.keep(Gives::Copied.agrees(Gives::of(&index.seen.value)), start, to)
@@ -455,7 +402,6 @@ fn emit_step(
 #[cycle(emit)]
 #[tactic(auto, using(crate::proofs::StepLaws::steps))]
 fn emit_swap(
-    alloc: Global,
     step: &Step,
     origin: Origin,
     new: u32,
@@ -470,7 +416,7 @@ fn emit_swap(
         }
         Step::Index(_, _, at, index) => {
             let start = flow.place()?;
-            let mark = emit_index(alloc, index, here, flow)?;
+            let mark = emit_index(index, here, flow)?;
             swap_element(flow, origin, here.next, *at, new)?;
             flow.end(mark)?;
             flow.keep(Gives::Copied.agrees(Gives::of(&index.seen.value)), start, new)
@@ -482,7 +428,6 @@ fn emit_swap(
 // An index, and what follows it begins.
 #[cycle(emit)]
 fn emit_index(
-    alloc: Global,
     index: &Expr,
     here: &Standing,
     flow: &mut Flow,
@@ -490,14 +435,13 @@ fn emit_index(
     ensures mark { IfOk result (λ m. m ≡ mark_of (expr_emitted (view_around here.now.around.now) (view_expr index.now) here.now.next (entries here.now.scope.now) (going flow.old))) }
     ensures begun { OnOk result (going flow.new ≡ begun (here.now.next + 1) (expr_emitted (view_around here.now.around.now) (view_expr index.now) here.now.next (entries here.now.scope.now) (going flow.old))) }
 {
-    emit_expr(alloc, index, here, flow)?;
+    emit_expr(index, here, flow)?;
     flow.begin(above(here.next)?)
 }
 
 #[cycle(emit)]
 #[tactic(auto, using(crate::proofs::StepLaws::firsts))]
 fn emit_first(
-    alloc: Global,
     base: &Expr,
     step: &Step,
     here: &Standing,
@@ -505,19 +449,18 @@ fn emit_first(
 ) -> Result<(), Memory>
     ensures { OnOk result (going flow.new ≡ first_emitted (view_around here.now.around.now) (view_expr base.now) (view_step step.now) here.now.next (entries here.now.scope.now) (going flow.old)) }
 {
-    let base = emit_base(alloc, base, step, here, flow)?;
+    let base = emit_base(base, step, here, flow)?;
     let inner = Standing {
         next: base.next,
         ..*here
     };
-    emit_step(alloc, step, base.origin, here.next, &inner, flow)?;
+    emit_step(step, base.origin, here.next, &inner, flow)?;
     base.end(flow, here.next)
 }
 
 #[cycle(emit)]
 #[tactic(auto, using(crate::proofs::StepLaws::firsts))]
 fn emit_first_swap(
-    alloc: Global,
     base: &Expr,
     step: &Step,
     new: u32,
@@ -526,12 +469,12 @@ fn emit_first_swap(
 ) -> Result<(), Memory>
     ensures { OnOk result (going flow.new ≡ first_swapped (view_around here.now.around.now) (view_expr base.now) (view_step step.now) new here.now.next (entries here.now.scope.now) (going flow.old)) }
 {
-    let base = emit_base(alloc, base, step, here, flow)?;
+    let base = emit_base(base, step, here, flow)?;
     let inner = Standing {
         next: base.next,
         ..*here
     };
-    emit_swap(alloc, step, base.origin, new, &inner, flow)?;
+    emit_swap(step, base.origin, new, &inner, flow)?;
     base.end(flow, here.next)
 }
 
@@ -539,7 +482,6 @@ fn emit_first_swap(
 #[cycle(emit)]
 #[tactic(auto, using(crate::proofs::StepLaws::chains))]
 fn emit_chain_of_steps(
-    alloc: Global,
     base: &Expr,
     steps: &[Step],
     gives: Gives,
@@ -552,9 +494,9 @@ fn emit_chain_of_steps(
         return put_stuck(flow, here.next);
     };
     let start = flow.place()?;
-    emit_first(alloc, base, first, here, flow)?;
+    emit_first(base, first, here, flow)?;
     let mark = flow.begin(above(here.next)?)?;
-    emit_steps(alloc, more, here, flow)?;
+    emit_steps(more, here, flow)?;
     flow.end(mark)?;
     flow.keep(gives.agrees(Gives::Copied), start, here.next)
 }
@@ -562,19 +504,18 @@ fn emit_chain_of_steps(
 // Steps from what stands in the register.
 #[cycle(emit)]
 fn emit_steps(
-    alloc: Global,
     steps: &[Step],
     here: &Standing,
     flow: &mut Flow,
 ) -> Result<(), Memory>
     ensures { OnOk result (going flow.new ≡ steps_emitted (view_around here.now.around.now) (steps_of (map view_step steps.now)) here.now.next (entries here.now.scope.now) (going flow.old)) }
 {
-    let mut closings = Closings::new(alloc);
+    let mut closings = Closings::new(here.alloc);
     let next = above(here.next)?;
     let inner = Standing { next, ..*here };
     let origin = Origin::Reference(here.next);
     for step in steps {
-        emit_step(alloc, step, origin, here.next, &inner, flow)?;
+        emit_step(step, origin, here.next, &inner, flow)?;
         closings.end(flow.begin(next)?)?;
     }
     flow.arrive();
@@ -584,7 +525,6 @@ fn emit_steps(
 // The steps of a place that is set, from what stands in the register.
 #[cycle(emit)]
 fn emit_targets(
-    alloc: Global,
     steps: &[Step],
     new: u32,
     here: &Standing,
@@ -596,15 +536,15 @@ fn emit_targets(
     if count == 0 {
         return put_stuck(flow, new);
     }
-    let mut closings = Closings::new(alloc);
+    let mut closings = Closings::new(here.alloc);
     let next = above(here.next)?;
     let inner = Standing { next, ..*here };
     let origin = Origin::Reference(here.next);
     for at in 0..count - 1 {
-        emit_step(alloc, &steps[at], origin, here.next, &inner, flow)?;
+        emit_step(&steps[at], origin, here.next, &inner, flow)?;
         closings.end(flow.begin(next)?)?;
     }
-    emit_swap(alloc, &steps[count - 1], origin, new, &inner, flow)?;
+    emit_swap(&steps[count - 1], origin, new, &inner, flow)?;
     closings.close(flow)
 }
 
@@ -613,7 +553,6 @@ fn emit_targets(
 #[cycle(emit)]
 #[tactic(auto, using(crate::proofs::StepLaws::sets))]
 fn emit_set(
-    alloc: Global,
     place: &Expr,
     value: &Expr,
     gives: Gives,
@@ -624,9 +563,9 @@ fn emit_set(
 {
     let start = flow.place()?;
     let given = Gives::of(&value.seen.value);
-    emit_expr(alloc, value, here, flow)?;
+    emit_expr(value, here, flow)?;
     let mark = flow.begin(above(here.next)?)?;
-    emit_place(alloc, place, given, here, flow)?;
+    emit_place(place, given, here, flow)?;
     flow.end(mark)?;
     flow.keep(given.is_value() && gives.agrees(given), start, here.next)
 }
@@ -635,7 +574,6 @@ fn emit_set(
 #[cycle(emit)]
 #[tactic(auto, using(crate::proofs::StepLaws::places))]
 fn emit_place(
-    alloc: Global,
     place: &Expr,
     gives: Gives,
     here: &Standing,
@@ -649,7 +587,7 @@ fn emit_place(
             put_exchange(flow, local, gives, here.next)
         }
         Node::Steps(base, steps) => {
-            emit_place_of_steps(alloc, base.get(), steps.as_slice(), gives, here, flow)
+            emit_place_of_steps(base.get(), steps.as_slice(), gives, here, flow)
         }
         _ => put_stuck(flow, here.next),
     }
@@ -658,7 +596,6 @@ fn emit_place(
 #[cycle(emit)]
 #[tactic(auto, using(crate::proofs::StepLaws::places))]
 fn emit_place_of_steps(
-    alloc: Global,
     base: &Expr,
     steps: &[Step],
     gives: Gives,
@@ -680,11 +617,11 @@ fn emit_place_of_steps(
     };
     flow.fill(here.next);
     if more.is_empty() {
-        return emit_first_swap(alloc, base, first, here.next, &inner, flow);
+        return emit_first_swap(base, first, here.next, &inner, flow);
     }
-    emit_first(alloc, base, first, &inner, flow)?;
+    emit_first(base, first, &inner, flow)?;
     let mark = flow.begin(above(next)?)?;
-    emit_targets(alloc, more, here.next, &inner, flow)?;
+    emit_targets(more, here.next, &inner, flow)?;
     flow.end(mark)
 }
 
@@ -693,7 +630,6 @@ fn emit_place_of_steps(
 #[cycle(emit)]
 #[tactic(auto, using(crate::proofs::FormLaws::isos))]
 fn emit_iso(
-    alloc: Global,
     at: Spot,
     block: &Block,
     gives: Gives,
@@ -706,7 +642,7 @@ fn emit_iso(
     let next = above(here.next)?;
     let inner = Standing { next, ..*here };
     flow.put(Instr::Freeze { at })?;
-    emit_block(alloc, block, Gives::Owned, here.next, &inner, flow)?;
+    emit_block(block, Gives::Owned, here.next, &inner, flow)?;
     if flow.comes {
         flow.put(Instr::ThawKeep {
             to: here.next,
@@ -719,7 +655,6 @@ fn emit_iso(
 #[cycle(emit)]
 #[tactic(auto, using(crate::proofs::FormLaws::forms))]
 fn emit_form(
-    alloc: Global,
     form: &Form,
     ty: &Ty,
     gives: Gives,
@@ -730,16 +665,16 @@ fn emit_form(
 {
     match form {
         Form::If(_, condition, block, else_ifs, otherwise) => {
-            let before = flow.copy_gone(alloc)?;
-            let branch = emit_branch(alloc, condition, block, gives, here, flow)?;
-            emit_else_ifs(alloc, else_ifs, otherwise, gives, &before, here, flow)?;
-            branch.end(alloc, flow, here.next, here.scope, &before)
+            let before = flow.copy_gone(here.alloc)?;
+            let branch = emit_branch(condition, block, gives, here, flow)?;
+            emit_else_ifs(else_ifs, otherwise, gives, &before, here, flow)?;
+            branch.end(here.alloc, flow, here.next, here.scope, &before)
         }
         Form::Pure(at, block) => {
             let next = above(here.next)?;
             let inner = Standing { next, ..*here };
             flow.put(Instr::Freeze { at: *at })?;
-            emit_block(alloc, block, gives, here.next, &inner, flow)?;
+            emit_block(block, gives, here.next, &inner, flow)?;
             if flow.comes {
                 put_thaw(flow, ty.is_owner(), gives, here.next)?;
             }
@@ -753,7 +688,6 @@ fn emit_form(
 #[cycle(emit)]
 #[tactic(auto, using(crate::proofs::FormLaws::branches))]
 fn emit_branch(
-    alloc: Global,
     condition: &Expr,
     block: &Block,
     gives: Gives,
@@ -766,11 +700,11 @@ fn emit_branch(
     let is_value = Gives::of(&condition.seen.value).is_value();
     let next = above(here.next)?;
     let inner = Standing { next, ..*here };
-    emit_expr(alloc, condition, here, flow)?;
+    emit_expr(condition, here, flow)?;
     let mark = flow.begin(next)?;
-    let now = flow.copy_gone(alloc)?;
+    let now = flow.copy_gone(here.alloc)?;
     let test = flow.hold()?;
-    emit_block(alloc, block, gives, here.next, &inner, flow)?;
+    emit_block(block, gives, here.next, &inner, flow)?;
     let side = flow.turn(test, here.next, now)?;
     Ok(Branch {
         start,
@@ -784,7 +718,6 @@ fn emit_branch(
 // Each `else if`, and what stands after them.
 #[cycle(emit)]
 fn emit_else_ifs(
-    alloc: Global,
     else_ifs: &Items<ElseIf>,
     otherwise: &Option<Block>,
     gives: Gives,
@@ -794,37 +727,21 @@ fn emit_else_ifs(
 ) -> Result<(), Memory>
     ensures { OnOk result (going flow.new ≡ elses_emitted (view_around here.now.around.now) (view_gives gives) (elses_of (map view_else_if else_ifs.now) (option_map view_block otherwise.now)) (gone_of before.now) here.now.next (entries here.now.scope.now) (going flow.old)) }
 {
-    let mut branches = Vec::new(alloc);
+    let mut branches = Vec::new(here.alloc);
     let slice = else_ifs.as_slice();
     for else_if in slice {
         branches.push(
-            emit_branch(alloc, &else_if.condition, &else_if.block, gives, here, flow)?,
+            emit_branch(&else_if.condition, &else_if.block, gives, here, flow)?,
         )?;
     }
-    emit_else(alloc, otherwise, gives, here, flow)?;
-    end_branches(alloc, branches, before, here, flow)
+    emit_else(otherwise, gives, here, flow)?;
+    end_branches(here.alloc, branches, before, here.next, here.scope, flow)
 }
 
-// The branches end, the last first.
-fn end_branches(
-    alloc: Global,
-    mut branches: Vec<Branch>,
-    before: &Gone,
-    here: &Standing,
-    flow: &mut Flow,
-) -> Result<(), Memory>
-    ensures { OnOk result (going flow.new ≡ branches_ended branches.items here.now.next (entries here.now.scope.now) (gone_of before.now) (going flow.old)) }
-{
-    while let Some(branch) = branches.pop() {
-        branch.end(alloc, flow, here.next, here.scope, before)?;
-    }
-    Ok(())
-}
 
 #[cycle(emit)]
 #[tactic(auto, using(crate::proofs::FormLaws::elses))]
 fn emit_else(
-    alloc: Global,
     otherwise: &Option<Block>,
     gives: Gives,
     here: &Standing,
@@ -836,7 +753,7 @@ fn emit_else(
         Some(block) => {
             let next = above(here.next)?;
             let inner = Standing { next, ..*here };
-            emit_block(alloc, block, gives, here.next, &inner, flow)
+            emit_block(block, gives, here.next, &inner, flow)
         }
         None => {
             let start = flow.place()?;
@@ -848,18 +765,9 @@ fn emit_else(
 
 // ---- blocks
 
-/// The locals of a block so far, the next free register, and what is done at the block's end.
-#[derive(Drop)]
-struct Frame {
-    locals: Vec<Local>,
-    next: u32,
-    closings: Closings,
-}
-
 /// The code of a block, whose value goes to the register `to`.
 #[cycle(emit)]
 pub fn emit_block(
-    alloc: Global,
     block: &Block,
     gives: Gives,
     to: u32,
@@ -869,12 +777,12 @@ pub fn emit_block(
     ensures { OnOk result (going flow.new ≡ block_emitted (view_around here.now.around.now) (view_gives gives) (view_block block.now) to here.now.next (entries here.now.scope.now) (going flow.old)) }
 {
     let mut frame = Frame {
-        locals: Vec::new(alloc),
+        locals: Vec::new(here.alloc),
         next: here.next,
-        closings: Closings::new(alloc),
+        closings: Closings::new(here.alloc),
     };
     for stmt in block.stmts.as_slice() {
-        emit_next(alloc, stmt, block.end, &mut frame, here, flow)?;
+        emit_next(stmt, block.end, &mut frame, here, flow)?;
     }
     let scope = Scope::Frame(&frame.locals, &*here.scope);
     let inner = Standing {
@@ -882,14 +790,13 @@ pub fn emit_block(
         scope: &scope,
         ..*here
     };
-    emit_last(alloc, &block.last, gives, to, &inner, flow)?;
+    emit_last(&block.last, gives, to, &inner, flow)?;
     frame.closings.close(flow)
 }
 
 #[cycle(emit)]
 #[tactic(auto, using(crate::proofs::BlockLaws::lasts))]
 fn emit_last(
-    alloc: Global,
     last: &Option<Boxed<Expr>>,
     gives: Gives,
     to: u32,
@@ -902,7 +809,7 @@ fn emit_last(
     match last {
         Some(value) => {
             let value = value.get();
-            emit_expr(alloc, value, here, flow)?;
+            emit_expr(value, here, flow)?;
             if flow.comes {
                 put_hand(flow, gives, to, here.next)?;
             }
@@ -919,7 +826,6 @@ fn emit_last(
 #[cycle(emit)]
 #[tactic(auto, using(crate::proofs::BlockLaws::nexts))]
 fn emit_next(
-    alloc: Global,
     stmt: &Stmt,
     end: Spot,
     frame: &mut Frame,
@@ -939,7 +845,7 @@ fn emit_next(
             let start = flow.place()?;
             let given = Gives::of(&value.seen.value);
             let gives = Gives::of(ty);
-            emit_expr(alloc, value, &here, flow)?;
+            emit_expr(value, &here, flow)?;
             let ok = given.is_value() && gives.is_value();
             frame.closings.keep(ok, start, frame.next)?;
             frame.closings.end(flow.begin(above(frame.next)?)?)?;
@@ -948,67 +854,21 @@ fn emit_next(
         Stmt::Destructure(_, names, types, value) => {
             let start = flow.place()?;
             let given = Gives::of(&value.seen.value);
-            emit_expr(alloc, value, &here, flow)?;
+            emit_expr(value, &here, flow)?;
             frame.closings.keep(given.is_value(), start, frame.next)?;
             frame.closings.end(flow.begin(above(frame.next)?)?)?;
             let names = names.as_slice();
             flow.put(Instr::Open {
-                to: registers_from(alloc, frame.next, names.len())?,
+                to: registers_from(outer.alloc, frame.next, names.len())?,
                 from: frame.next,
             })?;
             frame.declare_all(names, types.as_slice(), end, flow)
         }
         Stmt::Return(..) | Stmt::While(..) | Stmt::Foreach(..) | Stmt::Form(_) | Stmt::Express(_) =>
             {
-                emit_stmt(alloc, stmt, &here, flow)?;
+                emit_stmt(stmt, &here, flow)?;
                 frame.closings.end(flow.begin(frame.next)?)
             }
-    }
-}
-
-impl Frame {
-    // A local in the next free register, dropped at the block's end.
-    fn declare(
-        &mut self,
-        name: Name,
-        gives: Gives,
-        end: Spot,
-        flow: &mut Flow,
-    ) -> Result<(), Memory>
-        ensures next { OnOk result (self.new.next ≡ self.old.next + 1) }
-        ensures locals { OnOk result ((outer : s.Scope) → framed self.new.locals.items outer ≡ s.entry name.0 self.old.next (view_gives gives) ∷ framed self.old.locals.items outer) }
-        ensures filled { OnOk result (going flow.new ≡ filled self.old.next (going flow.old)) }
-        ensures closings { OnOk result ((f : Going) → closed self.new.closings f ≡ closed self.old.closings (dropped (s.entry name.0 self.old.next (view_gives gives)) end f)) }
-    {
-        let local = declared(name, self.next, gives);
-        flow.fill(self.next);
-        self.closings.drop_local(local, end)?;
-        self.locals.push(local)?;
-        self.next = above(self.next)?;
-        Ok(())
-    }
-
-    // Locals of these names and types, one after another. Where there are more of one than of the other, no step follows.
-    fn declare_all(
-        &mut self,
-        names: &[NameAt],
-        types: &[Ty],
-        end: Spot,
-        flow: &mut Flow,
-    ) -> Result<(), Memory>
-        ensures { OnOk result ((outer : s.Scope) (after : ℕ → s.Scope → s.Gone → s.After) (rest : ℕ → ℕ → s.Scope → s.Gone → List Instr) → closed self.new.closings (emitted (λ place g. rest place self.new.next (framed self.new.locals.items outer) g) (λ g. after self.new.next (framed self.new.locals.items outer) g) (going flow.new)) ≡ closed self.old.closings (emitted (λ place g. locals_code (numbers_of names.now) (all_gives (map view_ty types.now)) end place self.old.next (framed self.old.locals.items outer) g after rest) (λ g. locals_after (numbers_of names.now) (all_gives (map view_ty types.now)) self.old.next (framed self.old.locals.items outer) g after) (going flow.old))) }
-    {
-        for at in 0..names.len() {
-            if at >= types.len() {
-                break;
-            }
-            let gives = Gives::of(&types[at]);
-            let start = flow.place()?;
-            self.closings.keep(gives.is_value(), start, self.next)?;
-            self.declare(names[at].name, gives, end, flow)?;
-        }
-        let start = flow.place()?;
-        self.closings.keep(names.len() == types.len(), start, self.next)
     }
 }
 
@@ -1017,7 +877,6 @@ impl Frame {
 #[cycle(emit)]
 #[tactic(auto, using(crate::proofs::StmtLaws::stmts))]
 fn emit_stmt(
-    alloc: Global,
     stmt: &Stmt,
     here: &Standing,
     flow: &mut Flow,
@@ -1034,25 +893,24 @@ fn emit_stmt(
             flow.leave();
             Ok(())
         }
-        Stmt::Return(at, Some(value)) => emit_return(alloc, *at, value.get(), here, flow),
+        Stmt::Return(at, Some(value)) => emit_return(*at, value.get(), here, flow),
         Stmt::While(_, condition, block) => {
             if expr_comes(condition) {
-                return emit_turns(alloc, condition, block, here, flow);
+                return emit_turns(condition, block, here, flow);
             }
-            emit_no_turns(alloc, condition, block, here, flow)
+            emit_no_turns(condition, block, here, flow)
         }
         Stmt::Foreach(at, name, from, to, block) => {
-            emit_foreach(alloc, *at, *name, from, to, block, here, flow)
+            emit_foreach(*at, *name, from, to, block, here, flow)
         }
-        Stmt::Form(form) => emit_form(alloc, form, &Ty::Void, Gives::Void, here, flow),
-        Stmt::Express(value) => emit_unused(alloc, value, here, flow),
+        Stmt::Form(form) => emit_form(form, &Ty::Void, Gives::Void, here, flow),
+        Stmt::Express(value) => emit_unused(value, here, flow),
     }
 }
 
 #[cycle(emit)]
 #[tactic(auto, using(crate::proofs::StmtLaws::returns))]
 fn emit_return(
-    alloc: Global,
     at: Spot,
     value: &Expr,
     here: &Standing,
@@ -1062,7 +920,7 @@ fn emit_return(
 {
     let start = flow.place()?;
     let given = Gives::of(&value.seen.value);
-    emit_expr(alloc, value, here, flow)?;
+    emit_expr(value, here, flow)?;
     if flow.comes {
         drop_scope(flow, here.scope, at)?;
         flow.put(Instr::Ret { from: here.next })?;
@@ -1077,7 +935,6 @@ fn emit_return(
 #[cycle(emit)]
 #[tactic(auto, using(crate::proofs::StmtLaws::turns))]
 fn emit_turns(
-    alloc: Global,
     condition: &Expr,
     block: &Block,
     here: &Standing,
@@ -1088,15 +945,15 @@ fn emit_turns(
 {
     let next = above(here.next)?;
     let inner = Standing { next, ..*here };
-    let before = flow.copy_gone(alloc)?;
+    let before = flow.copy_gone(here.alloc)?;
     let start = flow.hold()?;
     flow.put(Instr::Tick)?;
-    emit_block(alloc, block, Gives::Void, here.next, &inner, flow)?;
+    emit_block(block, Gives::Void, here.next, &inner, flow)?;
     let body_closes = flow.closes(here.scope, &before);
     let test = flow.place()?;
-    flow.go_back(before.copy(alloc)?);
-    emit_expr(alloc, condition, here, flow)?;
-    let closes = body_closes && flow.closes(here.scope, &before);
+    flow.go_back(before.copy(here.alloc)?);
+    emit_expr(condition, here, flow)?;
+    let closes = flow.closes(here.scope, &before) && body_closes;
     flow.end_loop(start, test, here.next, before)?;
     let ok = Gives::of(&condition.seen.value).is_value() && closes;
     flow.keep(ok, start, here.next)
@@ -1106,7 +963,6 @@ fn emit_turns(
 #[cycle(emit)]
 #[tactic(auto, using(crate::proofs::StmtLaws::turns))]
 fn emit_no_turns(
-    alloc: Global,
     condition: &Expr,
     block: &Block,
     here: &Standing,
@@ -1117,13 +973,13 @@ fn emit_no_turns(
 {
     let next = above(here.next)?;
     let inner = Standing { next, ..*here };
-    let before = flow.copy_gone(alloc)?;
+    let before = flow.copy_gone(here.alloc)?;
     let start = flow.place()?;
-    emit_expr(alloc, condition, here, flow)?;
-    let now = flow.copy_gone(alloc)?;
+    emit_expr(condition, here, flow)?;
+    let now = flow.copy_gone(here.alloc)?;
     let mark = flow.begin(next)?;
-    flow.go_back(before.copy(alloc)?);
-    emit_block(alloc, block, Gives::Void, here.next, &inner, flow)?;
+    flow.go_back(before.copy(here.alloc)?);
+    emit_block(block, Gives::Void, here.next, &inner, flow)?;
     let closes = flow.closes(here.scope, &before);
     flow.end(mark)?;
     flow.go_back(now);
@@ -1137,7 +993,6 @@ fn emit_no_turns(
 #[cycle(emit)]
 #[tactic(auto, using(crate::proofs::StmtLaws::counts))]
 fn emit_foreach(
-    alloc: Global,
     at: Spot,
     name: NameAt,
     from: &Expr,
@@ -1151,15 +1006,15 @@ fn emit_foreach(
     let bound = above(here.next)?;
     let turn = above(bound)?;
     let start = flow.place()?;
-    emit_expr(alloc, from, here, flow)?;
+    emit_expr(from, here, flow)?;
     let from_mark = flow.begin(bound)?;
     let bounded = Standing {
         next: bound,
         ..*here
     };
-    emit_expr(alloc, to, &bounded, flow)?;
+    emit_expr(to, &bounded, flow)?;
     let to_mark = flow.begin(turn)?;
-    emit_count(alloc, at, name, block, turn, here, flow)?;
+    emit_count(at, name, block, turn, here, flow)?;
     flow.end(to_mark)?;
     flow.end(from_mark)?;
     let given = Gives::of(&from.seen.value).is_value() && Gives::of(&to.seen.value).is_value();
@@ -1170,7 +1025,6 @@ fn emit_foreach(
 #[cycle(emit)]
 #[tactic(auto, using(crate::proofs::StmtLaws::counts))]
 fn emit_count(
-    alloc: Global,
     at: Spot,
     name: NameAt,
     block: &Block,
@@ -1191,7 +1045,7 @@ fn emit_count(
         ..*here
     };
     let first = flow.place()?;
-    let before = flow.copy_gone(alloc)?;
+    let before = flow.copy_gone(here.alloc)?;
     flow.put(Instr::Sub {
         to: turn,
         left: h,
@@ -1202,11 +1056,11 @@ fn emit_count(
     flow.put(Instr::Tick)?;
     flow.put(Instr::Copy { to: turn, from: h })?;
     flow.fill(turn);
-    emit_block(alloc, block, Gives::Void, h, &inner, flow)?;
+    emit_block(block, Gives::Void, h, &inner, flow)?;
     let closes = flow.closes(here.scope, &before);
     put_count(flow, h, turn, at)?;
     let test = flow.place()?;
-    flow.go_back(before.copy(alloc)?);
+    flow.go_back(before.copy(here.alloc)?);
     flow.put(Instr::Cmp {
         to: turn,
         choice: 2,
@@ -1221,7 +1075,6 @@ fn emit_count(
 #[cycle(emit)]
 #[tactic(auto, using(crate::proofs::StmtLaws::unused))]
 fn emit_unused(
-    alloc: Global,
     value: &Expr,
     here: &Standing,
     flow: &mut Flow,
@@ -1232,25 +1085,24 @@ fn emit_unused(
     match &value.node {
         Node::Set(at, place, new) => match &place.get().node {
             Node::Name { name, .. } => {
-                emit_store(alloc, *at, *name, new.get(), gives, here, flow)
+                emit_store(*at, *name, new.get(), gives, here, flow)
             }
-            _ => emit_dropped(alloc, value, here, flow),
+            _ => emit_dropped(value, here, flow),
         },
-        _ => emit_dropped(alloc, value, here, flow),
+        _ => emit_dropped(value, here, flow),
     }
 }
 
 #[cycle(emit)]
 #[tactic(auto, using(crate::proofs::StmtLaws::unused))]
 fn emit_dropped(
-    alloc: Global,
     value: &Expr,
     here: &Standing,
     flow: &mut Flow,
 ) -> Result<(), Memory>
     ensures { OnOk result (going flow.new ≡ dropped_emitted (view_around here.now.around.now) (view_expr value.now) here.now.next (entries here.now.scope.now) (going flow.old)) }
 {
-    emit_expr(alloc, value, here, flow)?;
+    emit_expr(value, here, flow)?;
     if flow.comes {
         drop_value(flow, Gives::of(&value.seen.value), here.next, spot_of(value))?;
     }
@@ -1260,7 +1112,6 @@ fn emit_dropped(
 #[cycle(emit)]
 #[tactic(auto, using(crate::proofs::StmtLaws::unused))]
 fn emit_store(
-    alloc: Global,
     at: Spot,
     name: NameAt,
     new: &Expr,
@@ -1272,7 +1123,7 @@ fn emit_store(
 {
     let start = flow.place()?;
     let given = Gives::of(&new.seen.value);
-    emit_expr(alloc, new, here, flow)?;
+    emit_expr(new, here, flow)?;
     if flow.comes {
         let local = find(name.name, here.scope);
         put_store(flow, local, given, here.next, at)?;
