@@ -1,10 +1,9 @@
 -- What is to be done at the end, with one thing more.
-use Rattle.std.proofs.Common.{◌≡◌, ℕ, suc, ◌+◌, ◌-◌, ◌<◌, ◌≤◌, get_or, take, List, [], ◌∷◌, ◌++◌, length, refl, ap, sym, ◌∙◌, arith, append-nil}
-use Rattle.std.proofs.lemmas.List.{take_more, take_all}
+use Rattle.std.proofs.Common.{◌≡◌, List, [], ◌∷◌, ◌++◌, refl, ap, ◌∙◌, append-nil}
 use Rattle.std.specs.Prelude.{Bool, true, false, if◌then◌else◌}
 use Rattle.vale_base.specs.declared.spot.Spot.{Spot}
 use Rattle.vale_code.specs.declared.instr.Instr.TheVariants as i
-use Rattle.vale_lowering_objects.specs.Scopes.{Entry, is_gone}
+use Rattle.vale_lowering_objects.specs.Scopes.{is_gone}
 use Rattle.vale_lower_flow.specs.declared.closing.Closing.{Closing}
 use Rattle.vale_lower_flow.specs.declared.scope.Local.{Local}
 use Rattle.vale_lower_flow.specs.Entries.{entry_of}
@@ -30,8 +29,3 @@ dropped_copy l at f e = copied_by l false at f e refl
 pub ruleset copied = (dropped_copy)
 
 pub ruleset drops = (append-nil)
-
--- one of those to be done, from the last on
-pub close_next : (xs : List Closing) (at : ℕ) (x : Closing) (f : Going) → at < length xs → x ≡ get_or xs at x → closed_all (take (at + 1) xs) f ≡ closed_all (take at xs) (closed_one x f)
-close_next xs at x f lt is =
-    ap (λ z. closed_all z f) (take_more xs at x lt ∙ ap (λ z. take at xs ++ z ∷ []) (sym is)) ∙ closed_more (take at xs) x f

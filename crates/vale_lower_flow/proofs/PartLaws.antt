@@ -16,7 +16,7 @@ abbrev pub Part : Type 0
 Part = ℕ → Gone → List Instr
 
 abbrev pub state : List Instr → Gone → Bool → Going
-state code gone comes = record { code = code; gone = gone; comes = comes }
+state code gone k = record { code = code; gone = gone; comes = k }
 
 after_is : (q : After) → after_of (comes_in q) (gone_in q) ≡ q
 after_is (comes g) = refl

@@ -1,7 +1,8 @@
 -- What is in scope and what is gone, with one more.
-use Rattle.std.proofs.Common.{◌≡◌, ℕ, ◌+◌, ◌<◌, List, [], ◌∷◌, ◌++◌, length, take, get_or, refl, ap, sym, ◌∙◌}
-use Rattle.std.proofs.lemmas.List.{take_more}
-use Rattle.std.specs.Prelude.{Bool, true, false, ◌&&◌, ◌==◌, Option, Some, None, option_map, if◌then◌else◌}
+use Rattle.std.proofs.Common.{◌≡◌, ℕ, ◌+◌, ◌<◌, List, [], ◌∷◌, ◌++◌, length, take, drop, get_or, refl, ap, sym, ◌∙◌}
+use Rattle.std.proofs.lemmas.List.{take_more, drop_more}
+use Rattle.std.specs.Prelude.{Bool, true, false, not, ◌&&◌, ◌==◌, Option, Some, None, option_map, if◌then◌else◌}
+use Rattle.std.specs.List.{filter}
 use Rattle.vale_model.specs.Runs.{has_name}
 use Rattle.vale_lowering_objects.specs.Scopes.{Entry, find, is_gone, without, same_gone, same_truth}
 use Rattle.vale_lowering_objects.specs.Scopes as s
@@ -35,15 +36,45 @@ gone_first r q (p ∷ rs) g =
     ∙ or_swap (p == r) (q == r) (is_gone r (gone_over rs g))
     ∙ ap (λ b. if q == r then true else b) (sym (gone_first r p rs g))
 
-pub ruleset gones = (gone_first)
+without_by : (r q : ℕ) (g : s.Gone) (b : Bool) → (q == r) ≡ b → without r g ≡ g → (if b then true else is_gone r g) ≡ false → without r (q ∷ g) ≡ q ∷ g
+without_by r q g true e so_far h = absurd (search)
+without_by r q g false e so_far h = ap (λ b. if b then without r g else q ∷ without r g) e ∙ ap (λ z. q ∷ z) so_far
 
-without_none : (r : ℕ) (g : s.Gone) → is_gone r g ≡ false → without r g ≡ g
+left_gone : (b c : Bool) → (if b then true else c) ≡ false → c ≡ false
+left_gone true c h = absurd (search)
+left_gone false c h = h
+
+pub without_none : (r : ℕ) (g : s.Gone) → is_gone r g ≡ false → without r g ≡ g
 without_none r [] h = refl
-without_none r (q ∷ g) h = with_test (q == r) refl
-  where
-    with_test : (b : Bool) → (q == r) ≡ b → without r (q ∷ g) ≡ q ∷ g
-    with_test true e = absurd (ap (λ b. if b then true else is_gone r g) (sym e) ∙ h)
-    with_test false e = ap (λ b. if b then without r g else q ∷ without r g) e ∙ ap (λ z. q ∷ z) (without_none r g (ap (λ b. if b then true else is_gone r g) (sym e) ∙ h))
+without_none r (q ∷ g) h =
+    without_by r q g (q == r) refl (without_none r g (left_gone (q == r) (is_gone r g) h)) h
+
+abbrev pub other_than : ℕ → ℕ → Bool
+other_than r q = not (q == r)
+
+first_without : (r q : ℕ) (rs : List ℕ) (g : s.Gone) (b : Bool) → (q == r) ≡ b
+    → gone_over (filter (other_than r) rs) (if b then without r g else q ∷ without r g) ≡ gone_over (if not b then q ∷ filter (other_than r) rs else filter (other_than r) rs) (without r g)
+first_without r q rs g true e = refl
+first_without r q rs g false e = refl
+
+-- without one of all, those before too
+without_over : (r : ℕ) (rs : List ℕ) (g : s.Gone) → without r (gone_over rs g) ≡ gone_over (filter (other_than r) rs) (without r g)
+without_over r [] g = refl
+without_over r (q ∷ rs) g = without_over r rs (q ∷ g) ∙ first_without r q rs g (q == r) refl
+
+pub removed : (r : ℕ) (rs rs2 : List ℕ) → rs2 ≡ filter (other_than r) rs → gone_over rs2 [] ≡ without r (gone_over rs [])
+removed r rs rs2 e = ap (λ z. gone_over z []) e ∙ sym (without_over r rs [])
+
+-- one that is looked at, of those from a place on
+pub has_next : (r : ℕ) (rs : List ℕ) (i x : ℕ) (all : Bool) → i < length rs → x ≡ get_or rs i x → (x == r) ≡ false → is_gone r (gone_over (drop i rs) []) ≡ all → is_gone r (gone_over (drop (i + 1) rs) []) ≡ all
+has_next r rs i x all lt is e so_far =
+    let one : drop i rs ≡ x ∷ drop (i + 1) rs = drop_more rs i x lt ∙ ap (λ (z : ℕ). z ∷ drop (i + 1) rs) (sym is) in
+    sym (ap (λ b. if b then true else is_gone r (gone_over (drop (i + 1) rs) [])) e) ∙ (sym (gone_first r x (drop (i + 1) rs) []) ∙ (ap (λ (z : List ℕ). is_gone r (gone_over z [])) (sym one) ∙ so_far))
+
+pub has_here : (r : ℕ) (rs : List ℕ) (i x : ℕ) (all : Bool) → i < length rs → x ≡ get_or rs i x → (x == r) ≡ true → is_gone r (gone_over (drop i rs) []) ≡ all → true ≡ all
+has_here r rs i x all lt is e so_far =
+    let one : drop i rs ≡ x ∷ drop (i + 1) rs = drop_more rs i x lt ∙ ap (λ (z : ℕ). z ∷ drop (i + 1) rs) (sym is) in
+    sym (ap (λ b. if b then true else is_gone r (gone_over (drop (i + 1) rs) [])) e) ∙ (sym (gone_first r x (drop (i + 1) rs) []) ∙ (ap (λ (z : List ℕ). is_gone r (gone_over z [])) (sym one) ∙ so_far))
 
 pub ruleset withouts = (without_none)
 

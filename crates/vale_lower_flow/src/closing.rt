@@ -11,7 +11,7 @@ use vale_base::{Memory, Spot};
 use vale_code::Instr;
 
 /// What is done at the end of a part and of all that follows it.
-#[derive(Clone, Copy, Debug, PartialEq, Eq)]
+#[derive(Clone, Copy)]
 pub enum Closing {
     /// The code from the place on is left out: no step follows there.
     Cut(u32, u32),
@@ -103,13 +103,11 @@ impl Closings {
 
     /// All is done, the last first.
     #[tactic(auto, using(crate::proofs::ClosingLaws::more), unfolding(crate::specs::Closing::closed))]
-    pub fn close(self, flow: &mut Flow) -> Result<(), Memory>
+    pub fn close(mut self, flow: &mut Flow) -> Result<(), Memory>
         ensures { OnOk result (going flow.new ≡ closed self (going flow.old)) }
     {
-        let count = self.all.len();
-        for back in 0..count {
-            let at = count - 1 - back;
-            flow.close(self.all[at])?;
+        while let Some(closing) = self.all.pop() {
+            flow.close(closing)?;
         }
         Ok(())
     }

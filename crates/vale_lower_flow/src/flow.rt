@@ -21,7 +21,7 @@ pub struct Flow {
 }
 
 /// Where a part ended, and whether a run comes there.
-#[derive(Clone, Copy, Debug, PartialEq, Eq)]
+#[derive(Clone, Copy)]
 pub struct Mark {
     pub comes: bool,
     pub start: u32,

@@ -7,7 +7,7 @@ ghost use Rattle.vale_lower_flow.specs.Kept.{view_gives};
 use vale_core::Ty;
 
 /// Nothing; a value that is no owner and no isolate; an owner or an isolate.
-#[derive(Clone, Copy, Debug, PartialEq, Eq)]
+#[derive(Clone, Copy)]
 pub enum Gives {
     Void,
     Copied,

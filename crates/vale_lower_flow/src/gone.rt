@@ -24,12 +24,13 @@ impl Gone {
     }
 
     /// Whether the owner of this register is gone.
-    #[tactic(auto, using(crate::proofs::ScopeLaws::gones), unfolding(crate::specs::Entries::gone_of))]
+    #[tactic(auto, unfolding(crate::specs::Entries::gone_of))]
     pub fn has(&self, register: u32) -> bool
         ensures { result ≡ is_gone register (gone_of self.now) }
     {
-        for gone in &self.registers {
-            if *gone == register {
+        let registers = self.registers.as_slice();
+        for at in 0..registers.len() {
+            if registers[at] == register {
                 return true;
             }
         }

@@ -10,7 +10,7 @@ use vale_base::Name;
 
 /// A local, or a value that waits for the rest of its expression and has no name: its register, and whether it is an owner
 /// or an isolate.
-#[derive(Clone, Copy, Debug, PartialEq, Eq)]
+#[derive(Clone, Copy)]
 pub struct Local {
     pub name: Option<Name>,
     pub register: u32,

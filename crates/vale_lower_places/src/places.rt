@@ -11,7 +11,7 @@ use vale_code::Instr;
 use vale_lower_flow::{Flow, Local};
 
 /// What a step starts from: an owner in a register, or a reference.
-#[derive(Clone, Copy, Debug, PartialEq, Eq)]
+#[derive(Clone, Copy)]
 pub enum Origin {
     AtHand(u32),
     Reference(u32),

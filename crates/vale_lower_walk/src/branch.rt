@@ -49,7 +49,7 @@ impl Branch {
 }
 
 /// What a first step starts from: an origin and the next free register, and what was begun for it.
-#[derive(Clone, Copy, Debug, PartialEq, Eq)]
+#[derive(Clone, Copy)]
 pub struct Base {
     pub origin: Origin,
     pub next: u32,

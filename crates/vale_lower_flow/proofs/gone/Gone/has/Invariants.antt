@@ -4,5 +4,5 @@ use Rattle.vale_lower_flow.specs.Entries.{gone_over}
 use Rattle.vale_lower_flow.proofs.gone.Gone.has.Given as goal
 
 -- it is up to what is left of the list
-abbrev pub invariant-loop-gone : goal.invariant-loop-gone
-invariant-loop-gone l = is_gone l.register (gone_over (drop l.gone-index l.self.registers.items) []) ≡ is_gone l.register (gone_over l.self.registers.items [])
+abbrev pub invariant-loop-at : goal.invariant-loop-at
+invariant-loop-at l = is_gone l.register (gone_over (drop l.at l.registers) []) ≡ is_gone l.register (gone_over l.registers [])
