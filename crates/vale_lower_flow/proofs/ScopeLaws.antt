@@ -1,6 +1,6 @@
 -- What is in scope and what is gone, with one more.
-use Rattle.std.proofs.Common.{◌≡◌, ℕ, ◌+◌, ◌<◌, List, [], ◌∷◌, ◌++◌, length, take, drop, get_or, refl, ap, sym, ◌∙◌}
-use Rattle.std.proofs.lemmas.List.{take_more, drop_more}
+use Rattle.std.proofs.Common.{◌≡◌, ℕ, ◌+◌, ◌<◌, List, [], ◌∷◌, ◌++◌, length, take, drop, get_or, refl, ap, sym, ◌∙◌, true≢false}
+use Rattle.std.proofs.lemmas.List.{take_more, drop_more, get_or_default}
 use Rattle.std.specs.Prelude.{Bool, true, false, not, ◌&&◌, ◌==◌, Option, Some, None, option_map, if◌then◌else◌}
 use Rattle.std.specs.List.{filter}
 use Rattle.vale_model.specs.Runs.{has_name}
@@ -37,11 +37,11 @@ gone_first r q (p ∷ rs) g =
     ∙ ap (λ b. if q == r then true else b) (sym (gone_first r p rs g))
 
 without_by : (r q : ℕ) (g : s.Gone) (b : Bool) → (q == r) ≡ b → without r g ≡ g → (if b then true else is_gone r g) ≡ false → without r (q ∷ g) ≡ q ∷ g
-without_by r q g true e so_far h = absurd (search)
+without_by r q g true e so_far h = absurd (true≢false h)
 without_by r q g false e so_far h = ap (λ b. if b then without r g else q ∷ without r g) e ∙ ap (λ z. q ∷ z) so_far
 
 left_gone : (b c : Bool) → (if b then true else c) ≡ false → c ≡ false
-left_gone true c h = absurd (search)
+left_gone true c h = absurd (true≢false h)
 left_gone false c h = h
 
 pub without_none : (r : ℕ) (g : s.Gone) → is_gone r g ≡ false → without r g ≡ g
