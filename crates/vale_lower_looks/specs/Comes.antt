@@ -18,7 +18,7 @@ abbrev mutual
   node_comes (set at p e) = expr_comes e && place_comes p
   node_comes (chain e ls) = expr_comes e && links_come ls
   node_comes (unary at op e) = expr_comes e
-  node_comes (steps e ss) = based e ss
+  node_comes (steps e ss) = based (expr_comes e) ss
   node_comes (number at n) = true
   node_comes (quote at text) = true
   node_comes (truth at b) = true
@@ -29,14 +29,14 @@ abbrev mutual
   node_comes (iso at b) = block_comes b
   node_comes (form f) = form_comes f
 
-  -- steps, and what they start from
-  pub based : Expr → Steps → Bool
-  based e no_steps = true
-  based e (more_steps x xs) = expr_comes e && (step_comes x && steps_come xs)
+  -- steps, by whether a run comes behind what they start from
+  pub based : Bool → Steps → Bool
+  based base no_steps = true
+  based base (more_steps x xs) = base && (step_comes x && steps_come xs)
 
   -- the place of a `set`
   pub place_comes : Expr → Bool
-  place_comes (expr x (steps e ss)) = based e ss
+  place_comes (expr x (steps e ss)) = based (expr_comes e) ss
   place_comes (expr x _) = true
 
   pub exprs_come : Exprs → Bool

@@ -40,7 +40,7 @@ fn node_comes(node: &Node) -> bool
 #[cycle(comes)]
 #[tactic(auto, using(crate::proofs::ComeLaws::bases))]
 fn based(base: &Expr, steps: &Items<Step>) -> bool
-    ensures { result ≡ based (view_expr base.now) (steps_of (map view_step steps.now)) }
+    ensures { result ≡ based (expr_comes (view_expr base.now)) (steps_of (map view_step steps.now)) }
 {
     (steps.as_slice().is_empty() || expr_comes(base)) && steps_come(steps)
 }

@@ -13,12 +13,9 @@ ghost use Rattle.vale_lower_flow.specs.Kept.{view_gives};
 ghost use Rattle.vale_lower_flow.proofs.PartLaws.{Part};
 ghost use Rattle.vale_lower_places.specs.Origins.{view_origin};
 ghost use Rattle.vale_lower_tables.specs.Surroundings.{view_around};
-ghost use Rattle.vale_lower_walk.specs.Branches.{branch_ended, branches_ended, base_ended};
-ghost use Rattle.vale_lower_walk.specs.Emitted.{expr_emitted, node_emitted, borrow_emitted, args_emitted, link_emitted, links_emitted, started, step_emitted, swap_emitted, first_emitted, first_swapped, steps_emitted, targets_emitted, place_emitted, form_emitted, elses_emitted, block_emitted, stmts_emitted, stmt_emitted};
+ghost use Rattle.vale_lower_parts.specs.Branches.{branch_ended, branches_ended, base_ended};
+ghost use Rattle.vale_lower_parts.specs.Emitted.{expr_emitted, node_emitted, borrow_emitted, args_emitted, link_emitted, links_emitted, started, step_emitted, swap_emitted, first_emitted, first_swapped, steps_emitted, targets_emitted, place_emitted, form_emitted, elses_emitted, block_emitted, stmts_emitted, stmt_emitted};
 
-use crate::branch::{Base, Branch, base_of_local, end_branches};
-use crate::frame::Frame;
-use crate::named::{declared, is_frozen, is_text, unmoved_name, view_of, waiting};
 use sqlite_items::{Boxed, Items};
 use std::alloc::Global;
 use vale_base::{Memory, Spot};
@@ -26,6 +23,10 @@ use vale_code::{Instr, Sequence};
 use vale_core::{Block, ElseIf, Expr, Form, Link, Node, Step, Stmt, Ty, View};
 use vale_lower_flow::{Closings, Flow, Gives, Gone, Local, Mark, Scope, above, find};
 use vale_lower_looks::{expr_comes, step_changes};
+use vale_lower_parts::{
+    Base, Branch, Frame, base_of_local, declared, end_branches, is_frozen, is_text, unmoved_name,
+    view_of, waiting,
+};
 use vale_lower_places::{
     Call, Origin, drop_scope, drop_value, is_there, origin_of, put_callee, put_element,
     put_exchange, put_field, put_hand, put_lent, put_moved, put_number, put_operator, put_quote,
@@ -58,7 +59,7 @@ struct Values {
 // ---- expressions
 
 #[cycle(emit)]
-#[tactic(auto, using(crate::proofs::NodeLaws::exprs))]
+#[tactic(auto, using(vale_lower_parts::proofs::NodeLaws::exprs))]
 fn emit_expr(
     expr: &Expr,
     here: &Standing,
@@ -72,7 +73,7 @@ fn emit_expr(
 
 // A node that has this type and gives so much.
 #[cycle(emit)]
-#[tactic(auto, using(crate::proofs::NodeLaws::nodes))]
+#[tactic(auto, using(vale_lower_parts::proofs::NodeLaws::nodes))]
 fn emit_node(
     node: &Node,
     ty: &Ty,
@@ -133,7 +134,7 @@ fn emit_node(
 
 
 #[cycle(emit)]
-#[tactic(auto, using(crate::proofs::NodeLaws::parens))]
+#[tactic(auto, using(vale_lower_parts::proofs::NodeLaws::parens))]
 fn emit_paren(
     inner: &Expr,
     gives: Gives,
@@ -149,7 +150,7 @@ fn emit_paren(
 }
 
 #[cycle(emit)]
-#[tactic(auto, using(crate::proofs::NodeLaws::chains))]
+#[tactic(auto, using(vale_lower_parts::proofs::NodeLaws::chains))]
 fn emit_chain(
     first: &Expr,
     links: &Items<Link>,
@@ -169,7 +170,7 @@ fn emit_chain(
 }
 
 #[cycle(emit)]
-#[tactic(auto, using(crate::proofs::NodeLaws::unaries))]
+#[tactic(auto, using(vale_lower_parts::proofs::NodeLaws::unaries))]
 fn emit_unary(
     at: Spot,
     op: UnaryOp,
@@ -211,7 +212,7 @@ fn emit_unary(
 
 // A reference to a place.
 #[cycle(emit)]
-#[tactic(auto, using(crate::proofs::NodeLaws::borrows))]
+#[tactic(auto, using(vale_lower_parts::proofs::NodeLaws::borrows))]
 fn emit_borrow(
     expr: &Expr,
     here: &Standing,
@@ -274,7 +275,7 @@ fn emit_args(
 
 // What stands in the register, with the operator and the operand after it.
 #[cycle(emit)]
-#[tactic(auto, using(crate::proofs::NodeLaws::links))]
+#[tactic(auto, using(vale_lower_parts::proofs::NodeLaws::links))]
 fn emit_link(
     link: &Link,
     here: &Standing,
@@ -338,7 +339,7 @@ fn emit_links(
 
 // What a first step starts from, where a part that starts there is ended with it.
 #[cycle(emit)]
-#[tactic(auto, using(crate::proofs::StepLaws::bases))]
+#[tactic(auto, using(vale_lower_parts::proofs::StepLaws::bases))]
 fn emit_base(
     expr: &Expr,
     step: &Step,
@@ -373,7 +374,7 @@ fn emit_base(
 
 // A step whose base is known: what it leads to goes to the register `to`.
 #[cycle(emit)]
-#[tactic(auto, using(crate::proofs::StepLaws::steps))]
+#[tactic(auto, using(vale_lower_parts::proofs::StepLaws::steps))]
 fn emit_step(
     step: &Step,
     origin: Origin,
@@ -400,7 +401,7 @@ fn emit_step(
 
 // The last step of a place that is set: it gets what stands in `new`, and `new` what it held.
 #[cycle(emit)]
-#[tactic(auto, using(crate::proofs::StepLaws::steps))]
+#[tactic(auto, using(vale_lower_parts::proofs::StepLaws::steps))]
 fn emit_swap(
     step: &Step,
     origin: Origin,
@@ -440,7 +441,7 @@ fn emit_index(
 }
 
 #[cycle(emit)]
-#[tactic(auto, using(crate::proofs::StepLaws::firsts))]
+#[tactic(auto, using(vale_lower_parts::proofs::StepLaws::firsts))]
 fn emit_first(
     base: &Expr,
     step: &Step,
@@ -459,7 +460,7 @@ fn emit_first(
 }
 
 #[cycle(emit)]
-#[tactic(auto, using(crate::proofs::StepLaws::firsts))]
+#[tactic(auto, using(vale_lower_parts::proofs::StepLaws::firsts))]
 fn emit_first_swap(
     base: &Expr,
     step: &Step,
@@ -480,7 +481,7 @@ fn emit_first_swap(
 
 // A first step and those after it.
 #[cycle(emit)]
-#[tactic(auto, using(crate::proofs::StepLaws::chains))]
+#[tactic(auto, using(vale_lower_parts::proofs::StepLaws::chains))]
 fn emit_chain_of_steps(
     base: &Expr,
     steps: &[Step],
@@ -551,7 +552,7 @@ fn emit_targets(
 // ---- what is set
 
 #[cycle(emit)]
-#[tactic(auto, using(crate::proofs::StepLaws::sets))]
+#[tactic(auto, using(vale_lower_parts::proofs::StepLaws::sets))]
 fn emit_set(
     place: &Expr,
     value: &Expr,
@@ -572,7 +573,7 @@ fn emit_set(
 
 // A place that is set gets what waits in the register, and the register what it held.
 #[cycle(emit)]
-#[tactic(auto, using(crate::proofs::StepLaws::places))]
+#[tactic(auto, using(vale_lower_parts::proofs::StepLaws::places))]
 fn emit_place(
     place: &Expr,
     gives: Gives,
@@ -594,7 +595,7 @@ fn emit_place(
 }
 
 #[cycle(emit)]
-#[tactic(auto, using(crate::proofs::StepLaws::places))]
+#[tactic(auto, using(vale_lower_parts::proofs::StepLaws::places))]
 fn emit_place_of_steps(
     base: &Expr,
     steps: &[Step],
@@ -628,7 +629,7 @@ fn emit_place_of_steps(
 // ---- forms
 
 #[cycle(emit)]
-#[tactic(auto, using(crate::proofs::FormLaws::isos))]
+#[tactic(auto, using(vale_lower_parts::proofs::FormLaws::isos))]
 fn emit_iso(
     at: Spot,
     block: &Block,
@@ -653,7 +654,7 @@ fn emit_iso(
 }
 
 #[cycle(emit)]
-#[tactic(auto, using(crate::proofs::FormLaws::forms))]
+#[tactic(auto, using(vale_lower_parts::proofs::FormLaws::forms))]
 fn emit_form(
     form: &Form,
     ty: &Ty,
@@ -686,7 +687,7 @@ fn emit_form(
 
 // A condition and the block after it, up to where the other side begins.
 #[cycle(emit)]
-#[tactic(auto, using(crate::proofs::FormLaws::branches))]
+#[tactic(auto, using(vale_lower_parts::proofs::FormLaws::branches))]
 fn emit_branch(
     condition: &Expr,
     block: &Block,
@@ -740,7 +741,7 @@ fn emit_else_ifs(
 
 
 #[cycle(emit)]
-#[tactic(auto, using(crate::proofs::FormLaws::elses))]
+#[tactic(auto, using(vale_lower_parts::proofs::FormLaws::elses))]
 fn emit_else(
     otherwise: &Option<Block>,
     gives: Gives,
@@ -795,7 +796,7 @@ pub fn emit_block(
 }
 
 #[cycle(emit)]
-#[tactic(auto, using(crate::proofs::BlockLaws::lasts))]
+#[tactic(auto, using(vale_lower_parts::proofs::BlockLaws::lasts))]
 fn emit_last(
     last: &Option<Boxed<Expr>>,
     gives: Gives,
@@ -824,7 +825,7 @@ fn emit_last(
 
 // The next statement of a block that ends at the spot.
 #[cycle(emit)]
-#[tactic(auto, using(crate::proofs::BlockLaws::nexts))]
+#[tactic(auto, using(vale_lower_parts::proofs::BlockLaws::nexts))]
 fn emit_next(
     stmt: &Stmt,
     end: Spot,
@@ -875,7 +876,7 @@ fn emit_next(
 // ---- statements
 
 #[cycle(emit)]
-#[tactic(auto, using(crate::proofs::StmtLaws::stmts))]
+#[tactic(auto, using(vale_lower_parts::proofs::StmtLaws::stmts))]
 fn emit_stmt(
     stmt: &Stmt,
     here: &Standing,
@@ -909,7 +910,7 @@ fn emit_stmt(
 }
 
 #[cycle(emit)]
-#[tactic(auto, using(crate::proofs::StmtLaws::returns))]
+#[tactic(auto, using(vale_lower_parts::proofs::StmtLaws::returns))]
 fn emit_return(
     at: Spot,
     value: &Expr,
@@ -933,7 +934,7 @@ fn emit_return(
 
 // A loop, where a run comes behind its condition.
 #[cycle(emit)]
-#[tactic(auto, using(crate::proofs::StmtLaws::turns))]
+#[tactic(auto, using(vale_lower_parts::proofs::StmtLaws::turns))]
 fn emit_turns(
     condition: &Expr,
     block: &Block,
@@ -961,7 +962,7 @@ fn emit_turns(
 
 // A condition behind which no run comes, and the body after it.
 #[cycle(emit)]
-#[tactic(auto, using(crate::proofs::StmtLaws::turns))]
+#[tactic(auto, using(vale_lower_parts::proofs::StmtLaws::turns))]
 fn emit_no_turns(
     condition: &Expr,
     block: &Block,
@@ -991,7 +992,7 @@ fn emit_no_turns(
 
 // A loop over numbers: the counter in the register, the bound in the next, and the local after both.
 #[cycle(emit)]
-#[tactic(auto, using(crate::proofs::StmtLaws::counts))]
+#[tactic(auto, using(vale_lower_parts::proofs::StmtLaws::counts))]
 fn emit_foreach(
     at: Spot,
     name: NameAt,
@@ -1023,7 +1024,7 @@ fn emit_foreach(
 
 // The turns of a loop over numbers.
 #[cycle(emit)]
-#[tactic(auto, using(crate::proofs::StmtLaws::counts))]
+#[tactic(auto, using(vale_lower_parts::proofs::StmtLaws::counts))]
 fn emit_count(
     at: Spot,
     name: NameAt,
@@ -1073,7 +1074,7 @@ fn emit_count(
 
 // A value that isn't used is dropped; so the old value of a local that is set.
 #[cycle(emit)]
-#[tactic(auto, using(crate::proofs::StmtLaws::unused))]
+#[tactic(auto, using(vale_lower_parts::proofs::StmtLaws::unused))]
 fn emit_unused(
     value: &Expr,
     here: &Standing,
@@ -1094,7 +1095,7 @@ fn emit_unused(
 }
 
 #[cycle(emit)]
-#[tactic(auto, using(crate::proofs::StmtLaws::unused))]
+#[tactic(auto, using(vale_lower_parts::proofs::StmtLaws::unused))]
 fn emit_dropped(
     value: &Expr,
     here: &Standing,
@@ -1110,7 +1111,7 @@ fn emit_dropped(
 }
 
 #[cycle(emit)]
-#[tactic(auto, using(crate::proofs::StmtLaws::unused))]
+#[tactic(auto, using(vale_lower_parts::proofs::StmtLaws::unused))]
 fn emit_store(
     at: Spot,
     name: NameAt,

@@ -1,6 +1,7 @@
 -- What steps and what is set make, by what their parts make.
 use Rattle.std.proofs.Common.{◌≡◌, ℕ, zero, suc, ◌+◌, List, [], ◌∷◌, ◌++◌, length, refl, ap, sym, ◌∙◌}
 use Rattle.std.specs.Prelude.{Bool, true, false, ◌&&◌, Option, Some, None, unwrap_or}
+use Rattle.std.proofs.lemmas.Option.{none-some}
 use Rattle.vale_base.specs.declared.name.Name.{Name}
 use Rattle.vale_base.specs.declared.spot.Spot.{Spot}
 use Rattle.vale_syntax.specs.declared.tree.NameAt.{NameAt}
@@ -17,29 +18,21 @@ use Rattle.vale_lower_flow.specs.declared.flow.Mark.{Mark}
 use Rattle.vale_lower_flow.specs.Flow.{Going, emitted, put, arrived, only, mark_of, begun, ended, filled}
 use Rattle.vale_lower_flow.proofs.PartLaws.{Part, only_is, then_is, fill_then, nothing_is}
 use Rattle.vale_lower_places.specs.Places.{lent, exchanged}
-use Rattle.vale_lower_walk.specs.Named.{unmoved, unmoved_in, node_of}
-use Rattle.vale_lower_walk.specs.Emitted.{expr_emitted, node_emitted, borrow_emitted, started, step_emitted, swap_emitted, first_emitted, first_swapped, steps_emitted, targets_emitted, place_emitted}
-use Rattle.vale_lower_walk.proofs.NodeLaws.{then_put}
-
-abbrev pub Rest : Type 0
-Rest = Origin → ℕ → ℕ → Gone → List Instr
-
-abbrev pub Leaves : Type 0
-Leaves = ℕ → Gone → After
+use Rattle.vale_lower_parts.specs.Branches.{Rest, Leaves, local_started}
+use Rattle.vale_lower_parts.specs.Named.{unmoved, unmoved_in, node_of}
+use Rattle.vale_lower_parts.specs.Emitted.{expr_emitted, node_emitted, borrow_emitted, started, step_emitted, swap_emitted, first_emitted, first_swapped, steps_emitted, targets_emitted, place_emitted}
+use Rattle.vale_lower_parts.proofs.NodeLaws.{then_put}
 
 some_none : (n : ℕ) → Some n ≡ None → ⊥
-some_none n e = search
+some_none n e = none-some n (sym e)
 
 module _ (a : Around) (h : ℕ) (s : Scope) where
   -- ---- what a first step starts from
 
   module _ (view : y.View) (changes : ℕ → Bool) (part : Rest) (after : Leaves) where
-    abbrev pub local_started : Option Entry → Bool → Going → Going
-    local_started x ch = emitted (λ place g. from_local x (stays_of x view ch) view place h g part) (λ g. after (free_register (stays_of x view ch) h) g)
-
-    pub started_named : (e : t.Expr) (n : ℕ) (f : Going) → Some n ≡ unmoved e → started a e view changes h s part after f ≡ local_started (find n s) (changes n) f
+    pub started_named : (e : t.Expr) (n : ℕ) (f : Going) → Some n ≡ unmoved e → started a e view changes h s part after f ≡ local_started view h part after (find n s) (changes n) f
     unfolding started
-    started_named (t.expr z (t.name n is_outer false)) m f e = ap (λ o. local_started (find (unwrap_or o m) s) (changes (unwrap_or o m)) f) (sym e)
+    started_named (t.expr z (t.name n is_outer false)) m f e = ap (λ o. local_started view h part after (find (unwrap_or o m) s) (changes (unwrap_or o m)) f) (sym e)
     started_named (t.expr z (t.name n is_outer true)) m f e = absurd (some_none m e)
     started_named (t.expr z (t.set at p w)) m f e = absurd (some_none m e)
     started_named (t.expr z (t.chain w ls)) m f e = absurd (some_none m e)
@@ -55,18 +48,18 @@ module _ (a : Around) (h : ℕ) (s : Scope) where
     started_named (t.expr z (t.form w)) m f e = absurd (some_none m e)
 
     -- no local: no step follows
-    pub local_none : (o : Origin) (ch : Bool) (f : Going) → only false (length f.code) h (emitted (λ place g. part o place h g) (after h) f) ≡ local_started None ch f
+    pub local_none : (o : Origin) (ch : Bool) (f : Going) → only false (length f.code) h (emitted (λ place g. part o place h g) (after h) f) ≡ local_started view h part after None ch f
     local_none o ch f = only_is (λ g. false) h (λ place g. part o place h g) (after h) f
 
     -- a local that stays in its register
-    pub local_stays : (x : Entry) (ch : Bool) (f : Going) → stays_of (Some x) view ch ≡ true → only (is_there x f.gone) (length f.code) h (emitted (λ place g. part (origin_of x) place h g) (after h) f) ≡ local_started (Some x) ch f
+    pub local_stays : (x : Entry) (ch : Bool) (f : Going) → stays_of (Some x) view ch ≡ true → only (is_there x f.gone) (length f.code) h (emitted (λ place g. part (origin_of x) place h g) (after h) f) ≡ local_started view h part after (Some x) ch f
     local_stays x ch f e =
         only_is (λ g. is_there x g) h (λ place g. part (origin_of x) place h g) (after h) f
         ∙ ap (λ b. emitted (λ place g. from_local (Some x) b view place h g part) (λ g. after (free_register b h) g) f) (sym e)
 
     -- a local that is lent first
     pub local_lent : (x : Entry) (ch : Bool) (f : Going) → stays_of (Some x) view ch ≡ false →
-        ended (mark_of (lent (Some x) copy view h f)) (emitted (λ place g. part (reference h) place (h + 1) g) (after (h + 1)) (begun (h + 1) (lent (Some x) copy view h f))) ≡ local_started (Some x) ch f
+        ended (mark_of (lent (Some x) copy view h f)) (emitted (λ place g. part (reference h) place (h + 1) g) (after (h + 1)) (begun (h + 1) (lent (Some x) copy view h f))) ≡ local_started view h part after (Some x) ch f
     unfolding lent emitted
     local_lent x ch f e =
         then_is (h + 1) (λ place g. lend_local (Some x) g view h) (λ place g. part (reference h) place (h + 1) g) (λ g. comes g) (after (h + 1)) f

@@ -27,7 +27,7 @@ use Rattle.vale_lower_flow.specs.Flow.{Going, gone_in, comes_in, emitted, put, a
 use Rattle.vale_lower_flow.proofs.PartLaws as p
 use Rattle.vale_lower_flow.proofs.PartLaws.{Part, only_is, then_is, put_is, fill_then, nothing_is, sides_is}
 use Rattle.vale_lower_places.specs.Places.{moved, lent}
-use Rattle.vale_lower_walk.specs.Emitted.{expr_emitted, node_emitted, borrow_emitted, args_emitted, one_link_code, one_link_after, link_emitted, links_emitted}
+use Rattle.vale_lower_parts.specs.Emitted.{expr_emitted, node_emitted, borrow_emitted, args_emitted, one_link_code, one_link_after, link_emitted, links_emitted}
 
 pub type_by_parts : (e : Expr) → type (view_expr e) ≡ view_ty (out-Expr e).seen.value
 type_by_parts e = ap type (of_out_expr e)

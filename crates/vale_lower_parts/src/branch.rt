@@ -1,13 +1,18 @@
 // What is begun before a part and ended after it.
-ghost use Rattle.std.specs.Prelude.{◌≡◌, OnOk};
-ghost use Rattle.vale_lower_flow.specs.Entries.{entries, gone_of};
-ghost use Rattle.vale_lower_flow.specs.Flow.{going};
-ghost use Rattle.vale_lower_walk.specs.Branches.{branch_ended, base_ended};
+ghost use Rattle.std.specs.Prelude.{◌≡◌, option_map, IfOk, OnOk};
+ghost use Rattle.vale_core.specs.View.{view_view};
 
+ghost use Rattle.vale_lower_flow.specs.Entries.{entry_of, entries, gone_of};
+ghost use Rattle.vale_lower_flow.specs.Flow.{going, emitted};
+ghost use Rattle.vale_lower_places.specs.Origins.{view_origin};
+ghost use Rattle.vale_lower_parts.specs.Branches.{branch_ended, branches_ended, base_ended, Rest, Leaves, local_started};
+
+use crate::named::{is_direct, is_frozen};
 use std::alloc::Global;
 use vale_base::Memory;
-use vale_lower_flow::{Flow, Gone, Mark, Scope, Side};
-use vale_lower_places::Origin;
+use vale_core::View;
+use vale_lower_flow::{Flow, Gives, Gone, Local, Mark, Scope, Side, above};
+use vale_lower_places::{Origin, is_there, origin_of, put_lent};
 
 /// A branch of an `if`: where its condition begins and ends, where its test is held, and how its block ended.
 #[derive(Drop)]
@@ -79,7 +84,7 @@ pub fn base_of_local(
     h: u32,
     flow: &mut Flow,
 ) -> Result<Base, Memory>
-    ensures { IfOk result (λ b. (part : l.Origin → ℕ → ℕ → s.Gone → List Instr) (after : ℕ → s.Gone → s.After) → base_ended b h (emitted (λ place g. part (view_origin b.origin) place b.next g) (after b.next) (going flow.new)) ≡ local_started (view_view view.now) h part after (option_map entry_of local) changes (going flow.old)) }
+    ensures { IfOk result (λ b. (part : Rest) (after : Leaves) → base_ended b h (emitted (λ place g. part (view_origin b.origin) place b.next g) (after b.next) (going flow.new)) ≡ local_started (view_view view.now) h part after (option_map entry_of local) changes (going flow.old)) }
 {
     let start = flow.place()?;
     let Some(local) = local else {

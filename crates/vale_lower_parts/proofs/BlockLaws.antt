@@ -15,8 +15,8 @@ use Rattle.vale_lowering_objects.specs.Lowered.{all_gives, then_code, if_comes, 
 use Rattle.vale_lower_flow.specs.Closing.{dropped}
 use Rattle.vale_lower_flow.specs.Flow.{Going, emitted, put, arrived, only, mark_of, begun, ended, filled, if_there}
 use Rattle.vale_lower_flow.proofs.PartLaws.{Part, only_is, then_is, there_is, put_then, fill_then, nothing_is}
-use Rattle.vale_lower_walk.specs.Located.{Rest, Leaves, located, at_rest}
-use Rattle.vale_lower_walk.specs.Emitted.{expr_emitted, stmts_emitted, stmt_emitted, block_emitted}
+use Rattle.vale_lower_parts.specs.Located.{Rest, Leaves, located, at_rest}
+use Rattle.vale_lower_parts.specs.Emitted.{expr_emitted, stmts_emitted, stmt_emitted, block_emitted}
 
 -- what may be done where a run comes
 there_by : (xs : List Instr) (f : Going) (k : Bool) → f.comes ≡ k → if_there (λ place g. xs) f ≡ (if k then put xs f else f)

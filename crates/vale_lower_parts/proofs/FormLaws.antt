@@ -14,8 +14,8 @@ use Rattle.vale_lowering_objects.specs.Scopes.{Gives, void, owner, gives_of, is_
 use Rattle.vale_lowering_objects.specs.Lowered.{then_code, sides, freeze_code, thaw_code, expr_code, expr_after, block_code, block_after, elses_code, elses_after}
 use Rattle.vale_lower_flow.specs.Flow.{Going, emitted, put, arrived, only, mark_of, begun, ended, if_there, turned, joined, after_of}
 use Rattle.vale_lower_flow.proofs.PartLaws.{Part, only_is, then_is, nothing_is, sides_is, freeze_is}
-use Rattle.vale_lower_walk.specs.Emitted.{expr_emitted, node_emitted, form_emitted, elses_emitted, block_emitted}
-use Rattle.vale_lower_walk.proofs.NodeLaws.{type_by_parts, after_emitted, gone_turned, gone_put}
+use Rattle.vale_lower_parts.specs.Emitted.{expr_emitted, node_emitted, form_emitted, elses_emitted, block_emitted}
+use Rattle.vale_lower_parts.proofs.NodeLaws.{type_by_parts, after_emitted, gone_turned, gone_put}
 
 module _ (a : Around) (h : ℕ) (s : Scope) where
   pub form_is : (x : y.Ty) (q : Gives) (z : t.Form) (f : Going) → node_emitted a x q (t.form z) h s f ≡ form_emitted a x q z h s f

@@ -7,7 +7,7 @@ ghost use Rattle.vale_lowering_objects.specs.Scopes as s;
 ghost use Rattle.vale_lower_flow.specs.Entries.{entry_of};
 ghost use Rattle.vale_lower_flow.specs.Kept.{view_gives};
 ghost use Rattle.vale_lower_places.specs.Origins.{is_text};
-ghost use Rattle.vale_lower_walk.specs.Named.{unmoved};
+ghost use Rattle.vale_lower_parts.specs.Named.{unmoved};
 
 use vale_base::Name;
 use vale_core::{Expr, Node, Step, Ty, View};

@@ -1,5 +1,5 @@
 -- What statements make, by what their parts make.
-use Rattle.std.proofs.Common.{◌≡◌, ℕ, ◌+◌, List, [], ◌∷◌, ◌++◌, length, refl, ap, sym, ◌∙◌, append_assoc}
+use Rattle.std.proofs.Common.{◌≡◌, ℕ, ◌+◌, List, [], ◌∷◌, ◌++◌, length, refl, ap, sym, ◌∙◌, append_assoc, true≢false}
 use Rattle.std.specs.Prelude.{Bool, true, false, ◌&&◌, pos, if◌then◌else◌}
 use Rattle.vale_base.specs.declared.spot.Spot.{Spot}
 use Rattle.vale_syntax.specs.declared.tree.NameAt.{NameAt}
@@ -17,8 +17,8 @@ use Rattle.vale_lower_flow.proofs.PartLaws.{Part, state, only_is, then_is, there
 use Rattle.vale_lower_places.specs.Places.{scope_dropped, stored}
 use Rattle.vale_lower_looks.specs.Comes.{expr_comes}
 use Rattle.vale_lower_looks.proofs.AfterLaws.{expr_comes_is}
-use Rattle.vale_lower_walk.specs.Emitted.{expr_emitted, block_emitted, form_emitted, stmt_emitted}
-use Rattle.vale_lower_walk.proofs.NodeLaws.{type_by_parts, leaves_same, then_nothing, after_emitted, gone_put}
+use Rattle.vale_lower_parts.specs.Emitted.{expr_emitted, block_emitted, form_emitted, stmt_emitted}
+use Rattle.vale_lower_parts.proofs.NodeLaws.{type_by_parts, leaves_same, then_nothing, after_emitted, gone_put}
 
 gone_back : (g : Gone) (f : Going) → (back_to g f).gone ≡ g
 unfolding back_to
@@ -57,18 +57,18 @@ there_none_dropped s at z f e = there_dropped_by s at z f false e
 
 turns_by : (place h : ℕ) (q : After) (test body : ℕ → List Instr) → comes_in q ≡ true → turns_code place h q test body ≡ loop_code place h test body
 turns_by place h (comes g) test body e = refl
-turns_by place h (never g) test body e = absurd (search)
+turns_by place h (never g) test body e = absurd (true≢false (sym e))
 
 loop_after_by : (g : Gone) (q : After) → comes_in q ≡ true → loop_after g q ≡ comes g
 loop_after_by g (comes now) e = refl
-loop_after_by g (never now) e = absurd (search)
+loop_after_by g (never now) e = absurd (true≢false (sym e))
 
 no_turns_by : (place h : ℕ) (q : After) (test body : ℕ → List Instr) → comes_in q ≡ false → turns_code place h q test body ≡ then_code place (h + 1) (test place) q (λ place g. body place)
-no_turns_by place h (comes g) test body e = absurd (search)
+no_turns_by place h (comes g) test body e = absurd (true≢false e)
 no_turns_by place h (never g) test body e = refl
 
 no_loop_by : (g : Gone) (q : After) → comes_in q ≡ false → loop_after g q ≡ q
-no_loop_by g (comes now) e = absurd (search)
+no_loop_by g (comes now) e = absurd (true≢false e)
 no_loop_by g (never now) e = refl
 
 -- what has the same code and leaves the same

@@ -9,7 +9,7 @@ ghost use Rattle.vale_lower_flow.specs.Closing.{closed, dropped};
 ghost use Rattle.vale_lower_flow.specs.Entries.{framed};
 ghost use Rattle.vale_lower_flow.specs.Flow.{Going, going, filled};
 ghost use Rattle.vale_lower_flow.specs.Kept.{view_gives};
-ghost use Rattle.vale_lower_walk.specs.Located.{Rest, Leaves, located, at_rest};
+ghost use Rattle.vale_lower_parts.specs.Located.{Rest, Leaves, located, at_rest};
 
 use crate::named::declared;
 use vale_base::{Memory, Name, Spot};
