@@ -177,6 +177,12 @@ module _ (k : Site) where
 
   -- ---- one stand and another
 
+  pub holding_here : (h : ℕ) (x : Ty) (s : Stand) → at (holding h x s) h ≡ held x s.depth
+  holding_here h x s = ap (λ b. if b then held x s.depth else at s h) (eq-eqb h h refl)
+
+  pub holding_there : (h : ℕ) (x : Ty) (s : Stand) (r : ℕ) → h ≢ r → at (holding h x s) r ≡ at s r
+  holding_there h x s r ne = ap (λ b. if b then held x s.depth else at s r) (ne_eqb h r ne)
+
   says_by : {s u : Stand} → s.depth ≡ u.depth → ((r : ℕ) → at u r ≡ at s r) → Says s u
   says_by {s} {u} d e = record { depth = d; each = λ r. subst (λ z. agrees (at u r) z ≡ true) (e r) (agrees_same (at u r)) }
 
