@@ -12,7 +12,7 @@ use Rattle.vale_cert.specs.declared.facts.Label.{Label}
 use Rattle.vale_cert.specs.declared.facts.RegFact.{RegFact}
 use Rattle.vale_cert.specs.declared.facts.RegFact.TheVariants.{Empty, Held}
 use Rattle.vale_lowering_objects.specs.Program.{code_type}
-use Rattle.vale_lowering_objects.specs.Scopes.{Scope, Gone, is_gone, without, same_gone, same_truth}
+use Rattle.vale_lowering_objects.specs.Scopes.{Scope, Gone, gives_of, is_gone, without, same_gone, same_truth}
 use Rattle.vale_object_facts.specs.Slots.{Role, at_hand, is_listed, list_slot, Slot, Slots, scope_of, Stand, with_gone, holding, given, with_role, is_lost, slot_fact, fact_in, fact_at, facts_from, label_for}
 use Rattle.vale_object_facts.proofs.Agreeing.{agrees_same, agrees_through, Facts, put, put_here, put_there, Hold, hold_less, hold_put, hold_at, hold_free}
 
@@ -108,29 +108,29 @@ module _ (k : Site) where
 
   -- ---- what is gone
 
+  other_gone : (h r q : ℕ) (g : Gone) → r ≢ h → is_gone r (without h g) ≡ is_gone r g → is_gone r (without h (q ∷ g)) ≡ is_gone r (q ∷ g)
+  other_gone h r q g ne rest =
+      ⊎_elim
+      (λ e.
+      ap (λ b. is_gone r (if b then without h g else q ∷ without h g)) (eq-eqb q h e) ∙ rest
+      ∙ sym (ap (λ b. if b then true else is_gone r g) (ne_eqb q r (λ z. ne (sym z ∙ e)))))
+      (λ n. ap (λ b. is_gone r (if b then without h g else q ∷ without h g)) (ne_eqb q h n) ∙ ap (λ b. if q == r then true else b) rest)
+      (cases_eq q h)
+
   gone_without : (h r : ℕ) (g : Gone) → r ≢ h → is_gone r (without h g) ≡ is_gone r g
   gone_without h r [] ne = refl
-  gone_without h r (q ∷ g) ne = ⊎_elim (λ e. here e) (λ n. there n) (cases_eq q h)
-    where
-      here : q ≡ h → is_gone r (without h (q ∷ g)) ≡ is_gone r (q ∷ g)
-      here e =
-          ap (λ b. is_gone r (if b then without h g else q ∷ without h g)) (eq-eqb q h e) ∙ gone_without h r g ne
-          ∙ sym (ap (λ b. if b then true else is_gone r g) (ne_eqb q r (λ z. ne (sym z ∙ e))))
+  gone_without h r (q ∷ g) ne = other_gone h r q g ne (gone_without h r g ne)
 
-      there : q ≢ h → is_gone r (without h (q ∷ g)) ≡ is_gone r (q ∷ g)
-      there n =
-          ap (λ b. is_gone r (if b then without h g else q ∷ without h g)) (ne_eqb q h n)
-          ∙ ap (λ b. if q == r then true else b) (gone_without h r g ne)
+  none_gone : (h q : ℕ) (g : Gone) → is_gone h (without h g) ≡ false → is_gone h (without h (q ∷ g)) ≡ false
+  none_gone h q g rest =
+      ⊎_elim
+      (λ e. ap (λ b. is_gone h (if b then without h g else q ∷ without h g)) (eq-eqb q h e) ∙ rest)
+      (λ n. ap (λ b. is_gone h (if b then without h g else q ∷ without h g)) (ne_eqb q h n) ∙ ap (λ b. if b then true else is_gone h (without h g)) (ne_eqb q h n) ∙ rest)
+      (cases_eq q h)
 
   pub not_gone : (h : ℕ) (g : Gone) → is_gone h (without h g) ≡ false
   not_gone h [] = refl
-  not_gone h (q ∷ g) = ⊎_elim (λ e. here e) (λ n. there n) (cases_eq q h)
-    where
-      here : q ≡ h → is_gone h (without h (q ∷ g)) ≡ false
-      here e = ap (λ b. is_gone h (if b then without h g else q ∷ without h g)) (eq-eqb q h e) ∙ not_gone h g
-
-      there : q ≢ h → is_gone h (without h (q ∷ g)) ≡ false
-      there n = ap (λ b. is_gone h (if b then without h g else q ∷ without h g)) (ne_eqb q h n) ∙ ap (λ b. if b then true else is_gone h (without h g)) (ne_eqb q h n) ∙ not_gone h g
+  not_gone h (q ∷ g) = none_gone h q g (not_gone h g)
 
   -- slots say the same where the same of their registers are gone
   abbrev pub Alike : Slots → Gone → Gone → Type 0
@@ -161,19 +161,14 @@ module _ (k : Site) where
   truth_is true false e = absurd (cc)
   truth_is false true e = absurd (cc)
 
+  one_alike : (role : Role) (x : Slot) (xs : Slots) (g c : Gone) → x.role ≡ role → same_gone (list_slot role x.register (gives_of x.ty) (scope_of xs)) g c ≡ true → (same_gone (scope_of xs) g c ≡ true → Alike xs g c) → Alike (x ∷ xs) g c
+  one_alike (Role.local n) x xs g c is e rest = let z = and_parts (same_truth (is_gone x.register g) (is_gone x.register c)) (same_gone (scope_of xs) g c) e in (ap (λ b. is_listed x.role && is_owned x.ty && b) (truth_is _ _ z.0), rest z.1)
+  one_alike Role.waits x xs g c is e rest = let z = and_parts (same_truth (is_gone x.register g) (is_gone x.register c)) (same_gone (scope_of xs) g c) e in (ap (λ b. is_listed x.role && is_owned x.ty && b) (truth_is _ _ z.0), rest z.1)
+  one_alike at_hand x xs g c is e rest = (ap (λ o. is_listed o && is_owned x.ty && is_gone x.register g) is ∙ sym (ap (λ o. is_listed o && is_owned x.ty && is_gone x.register c) is), rest e)
+
   pub alike_gone : (xs : Slots) (g c : Gone) → same_gone (scope_of xs) g c ≡ true → Alike xs g c
   alike_gone [] g c e = tt
-  alike_gone (x ∷ xs) g c e = by x.role refl
-    where
-      same_at : same_truth (is_gone x.register g) (is_gone x.register c) ≡ true → is_lost x g ≡ is_lost x c
-      same_at e = ap (λ b. is_listed x.role && is_owned x.ty && b) (truth_is _ _ e)
-
-      by : (role : Role) → x.role ≡ role → Alike (x ∷ xs) g c
-      by (Role.local n) is = let z : (same_truth (is_gone x.register g) (is_gone x.register c) && same_gone (scope_of xs) g c) ≡ true = cc in (same_at (and_parts _ _ z).0, alike_gone xs g c (and_parts _ _ z).1)
-      by Role.waits is = let z : (same_truth (is_gone x.register g) (is_gone x.register c) && same_gone (scope_of xs) g c) ≡ true = cc in (same_at (and_parts _ _ z).0, alike_gone xs g c (and_parts _ _ z).1)
-      by at_hand is =
-          let z : same_gone (scope_of xs) g c ≡ true = cc in
-          (ap (λ o. is_listed o && is_owned x.ty && is_gone x.register g) is ∙ sym (ap (λ o. is_listed o && is_owned x.ty && is_gone x.register c) is), alike_gone xs g c z)
+  alike_gone (x ∷ xs) g c e = one_alike x.role x xs g c refl e (alike_gone xs g c)
 
   -- ---- one stand and another
 

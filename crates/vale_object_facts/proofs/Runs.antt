@@ -29,6 +29,15 @@ label_any : (o : Option Label) (known : Known) → is_label o ≡ true → state
 label_any None known e = absurd (cc)
 label_any (Some label) known e = refl
 
+-- what is known where a part ends, if a run comes there
+pub data End : Type 0 where
+  falls : Stand → End
+  stops : End
+
+abbrev pub ending : After → (Gone → Stand) → End
+ending (comes g) u = falls (u g)
+ending (never g) u = stops
+
 module _ (k : Site) where
   abbrev pub W : ℕ → List Instr → Option Known → Option Fault
   W p is o = walk k.code k.func k.labels k.base p is true o
@@ -55,15 +64,6 @@ module _ (k : Site) where
   pub record Cut (p : ℕ) (is : List Instr) : Type 0 where
     pub walks : W p is None ≡ None
 
-  -- what is known where a part ends, if a run comes there
-  pub data End : Type 0 where
-    falls : Stand → End
-    stops : End
-
-  abbrev pub ending : After → (Gone → Stand) → End
-  ending (comes g) u = falls (u g)
-  ending (never g) u = stops
-
   abbrev pub Next : ℕ → End → List Instr → Type 0
   Next p (falls s) is = Ready p s is
   Next p stops is = Cut p is
@@ -74,8 +74,8 @@ module _ (k : Site) where
   pub ready_at : {p q : ℕ} {s : Stand} {is : List Instr} → p ≡ q → Ready p s is → Ready q s is
   ready_at {s = s} {is} e r = subst (λ x. Ready x s is) e r
 
-  pub next_at : {p q : ℕ} {e : End} {is : List Instr} → p ≡ q → Next p e is → Next q e is
-  next_at {e = e} {is} same r = subst (λ x. Next x e is) same r
+  pub next_at : {p q : ℕ} (e : End) (is : List Instr) → p ≡ q → Next p e is → Next q e is
+  next_at e is same r = subst (λ x. Next x e is) same r
 
   -- an instruction stands at a place: what a label there states, and that there is one where the instruction leads
   pub record Placed (p : ℕ) (instr : Instr) (s : Stand) : Type 0 where
@@ -203,7 +203,7 @@ module _ (k : Site) where
   pub target_placed : {p q : ℕ} {instr there : Instr} {s u : Stand} → Placed p instr s → target_of instr ≡ Some q → Placed q there u → Target q u
   target_placed {q = q} {u = u} pl e at_q = record { labelled = pl.target q e at_q.inside; enters = λ known c. enters_at q u (label_at k.labels q) at_q.label known c }
 
-  covers_kept : {known : Known} {s : Stand} → Covers k known s → Covers k (record { depth = known.depth; regs = known.regs }) s
+  pub covers_kept : {known : Known} {s : Stand} → Covers k known s → Covers k (record { depth = known.depth; regs = known.regs }) s
   covers_kept c = record { depth = c.depth; regs = c.regs }
 
   pub jumps : {p : ℕ} {s u : Stand} {rest : List Instr} (q : ℕ) → Placed p (i.Jump q) s → Target q u → Says k s u → Cut (p + 1) rest → Ready p s (i.Jump q ∷ rest)
@@ -304,7 +304,7 @@ module _ (k : Site) where
     ready = λ f rest r.
         subst (λ l. Ready p s l) (sym (append_assoc a b rest))
         (x.ready (front a b ma mb x.along f) (b ++ rest)
-        (z.ready (back a b ma mb x.along f) rest (next_at (let z : p + length (a ++ b) ≡ p + length a + length b = omega (arith, length-append a b) in z) r)));
+        (z.ready (back a b ma mb x.along f) rest (next_at e rest (let z : p + length (a ++ b) ≡ p + length a + length b = omega (arith, length-append a b) in z) r)));
   }
 
   -- an instruction that goes on

@@ -10,7 +10,7 @@ use Rattle.vale_code.proofs.OperandLaws.{below_room}
 use Rattle.vale_code.specs.declared.instr.Instr.{Instr}
 use Rattle.vale_code.specs.declared.instr.Instr.TheVariants as i
 use Rattle.vale_code.specs.declared.ty.Ty.TheVariants as t
-use Rattle.vale_cert.specs.Known.{Known, fact_of, is_free}
+use Rattle.vale_cert.specs.Known.{Known, is_free, agrees}
 use Rattle.vale_cert.specs.Numbers.{numbers, in_tables, is_void_call}
 use Rattle.vale_cert.specs.Walk.{target_of}
 use Rattle.vale_cert.specs.declared.facts.RegFact.TheVariants.{Empty, Held}
@@ -86,7 +86,7 @@ module _ (k : Site) where
     types = refl;
     present = hold_free k.func.registers r c.regs lt (ap is_free none);
     depths = refl;
-    covers = record { depth = c.depth; regs = hold_put k.func.registers r (Held t.Truth known.depth false) (Held t.Truth s.depth false) (subst (λ d. _ ≡ true) c.depth (agrees_same (Held t.Truth known.depth false))) c.regs };
+    covers = record { depth = c.depth; regs = hold_put k.func.registers r (Held t.Truth known.depth false) (Held t.Truth s.depth false) (subst (λ d. agrees (Held t.Truth s.depth false) (Held t.Truth d false) ≡ true) (sym c.depth) (agrees_same (Held t.Truth s.depth false))) c.regs };
   }
 
   module _ (p r : ℕ) (x : Instr) (xs : List Instr) (m : Stand) (ms : Stands) (start end : Stand) (e : End) (z : Runs k (p + 2) (x ∷ xs) (m ∷ ms) start e) (to : Reaches e end) (none : at k start r ≡ Empty) where
