@@ -1,6 +1,7 @@
 mod Agreeing
 mod Covering
 mod Examples
+mod Labels
 mod Rows
 mod Runs
 mod Turns

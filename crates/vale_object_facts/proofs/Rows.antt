@@ -124,7 +124,7 @@ module _ (k : Site) where
       does : room_for instr ≤ room → (known : Known) → Covers k known s → Does k instr known (holding h z u)
       does r known c =
           let same : known.depth ≡ u.depth = c.depth ∙ d in
-          let g = overwrites_fine room {known.regs} {at k s} {kept known} h (f r known c) c.regs (lt r) free in
+          let g = overwrites_fine room h (f r known c) c.regs (lt r) free in
           does_by instr (slice_set known.regs h (Held (code_type k.parts z) known.depth false)) (put h (held k z u.depth) (at k s))
           (record { types = ap (λ e. e.kept.types) (is known) ∙ g.types; present = ap (λ e. e.kept.present) (is known) ∙ g.present; depths = ap (λ e. e.kept.depths) (is known) ∙ g.depths })
           (ap (λ e. e.after) (is known))
