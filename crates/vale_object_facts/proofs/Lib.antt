@@ -2,6 +2,7 @@ mod Agreeing
 mod Covering
 mod Examples
 mod Labels
+mod Owners
 mod Rows
 mod Runs
 mod Turns

@@ -49,9 +49,9 @@ usable ty depth d live e = subst (λ z. is_usable z (Held ty d live) ≡ true) (
 
 module _ (n : ℕ) where
   pub reads_fine : {regs : List RegFact} {F : Facts} {kept : Kept} (a : ℕ) (ty : CodeTy) (d : ℕ) → Fine kept → Hold n regs F → a < n → F a ≡ Held ty d false → Fine (reads regs a ty kept)
-  reads_fine {regs} a ty d f h lt e = by (hold_at n a ty d h lt e)
+  reads_fine {regs} {kept = kept} a ty d f h lt e = by (hold_at n a ty d h lt e)
     where
-      by : (live : Bool) × (fact_of regs a ≡ Held ty d live) → Fine (reads regs a ty _)
+      by : (live : Bool) × (fact_of regs a ≡ Held ty d live) → Fine (reads regs a ty kept)
       by is = record {
         types = and_from _ _ f.types (ap (has ty) is.1 ∙ type_same ty);
         present = and_from _ _ f.present (ap is_there is.1);
@@ -59,9 +59,9 @@ module _ (n : ℕ) where
       }
 
   pub uses_fine : {regs : List RegFact} {F : Facts} {kept : Kept} (depth a : ℕ) (ty : CodeTy) (d : ℕ) → Fine kept → Hold n regs F → a < n → F a ≡ Held ty d false → depth ≡ d → Fine (uses depth regs a ty kept)
-  uses_fine {regs} depth a ty d f h lt e same = by (hold_at n a ty d h lt e)
+  uses_fine {regs} {kept = kept} depth a ty d f h lt e same = by (hold_at n a ty d h lt e)
     where
-      by : (live : Bool) × (fact_of regs a ≡ Held ty d live) → Fine (uses depth regs a ty _)
+      by : (live : Bool) × (fact_of regs a ≡ Held ty d live) → Fine (uses depth regs a ty kept)
       by is = record {
         types = and_from _ _ f.types (ap (has ty) is.1 ∙ type_same ty);
         present = and_from _ _ f.present (ap is_there is.1);
@@ -87,8 +87,8 @@ module _ (k : Site) where
   abbrev pub Beside : ℕ → Stand → Stand → Type 0
   Beside h s u = (r : ℕ) → h ≢ r → agrees (at k u r) (at k s r) ≡ true
 
-  pub over : {s u : Stand} (h : ℕ) (z : Ty) → Beside h s u → (r : ℕ) → agrees (at k (holding h z u) r) (put h (held k z u.depth) (at k s) r) ≡ true
-  over {s} {u} h z a r =
+  pub over : (h : ℕ) (z : Ty) (s u : Stand) → Beside h s u → (r : ℕ) → agrees (at k (holding h z u) r) (put h (held k z u.depth) (at k s) r) ≡ true
+  over h z s u a r =
       ⊎_elim
       (λ e. subst (λ x. agrees x (put h (held k z u.depth) (at k s) r) ≡ true) (sym (ap (at k (holding h z u)) (sym e) ∙ holding_here k h z u))
       (subst (λ x. agrees (held k z u.depth) x ≡ true) (sym (put_here h (held k z u.depth) (at k s) r e)) (agrees_same (held k z u.depth))))
@@ -103,8 +103,8 @@ module _ (k : Site) where
   beside_one h x u r ne = subst (λ z. agrees (at k u r) z ≡ true) (sym (holding_there k h x u r ne)) (agrees_same (at k u r))
 
   -- a value above the register is forgotten, where it is no owner
-  pub beside_above : (h q : ℕ) (x : Ty) {s u : Stand} → is_free (held k x s.depth) ≡ true → at k u q ≡ Empty → Beside h s u → Beside h (holding q x s) u
-  beside_above h q x {s} {u} free none a r ne =
+  pub beside_above : (h q : ℕ) (x : Ty) (s u : Stand) → is_free (held k x s.depth) ≡ true → at k u q ≡ Empty → Beside h s u → Beside h (holding q x s) u
+  beside_above h q x s u free none a r ne =
       ⊎_elim
       (λ e. subst (λ z. agrees (at k u r) z ≡ true) (sym (ap (at k (holding q x s)) (sym e) ∙ holding_here k q x s))
       (subst (λ z. agrees z (held k x s.depth) ≡ true) (sym (ap (at k u) (sym e) ∙ none)) free))
@@ -129,7 +129,7 @@ module _ (k : Site) where
           (record { types = ap (λ e. e.kept.types) (is known) ∙ g.types; present = ap (λ e. e.kept.present) (is known) ∙ g.present; depths = ap (λ e. e.kept.depths) (is known) ∙ g.depths })
           (ap (λ e. e.after) (is known))
           (hold_put room h (Held (code_type k.parts z) known.depth false) (held k z u.depth) (subst (λ e. agrees (held k z u.depth) (Held (code_type k.parts z) e false) ≡ true) (sym same) (agrees_same (held k z u.depth))) c.regs)
-          same (over h z a)
+          same (over h z s u a)
 
   pub int_runs : {p : ℕ} {s : Stand} (h : ℕ) (z : ℤ) → is_free (at k s h) ≡ true → Runs k p (i.Int h z ∷ []) (s ∷ []) s (falls (holding h y.int s))
   int_runs {s = s} h z free = writes (i.Int h z) h y.int (λ known. fine) refl refl refl (λ r. omega (arith, r)) (λ known. refl) (λ r known c. all_kept) free refl (beside_same h s)
@@ -210,7 +210,7 @@ module _ (k : Site) where
           (copies_kept known h a ty s.depth is.0 is.1 copied (hold_free room h c.regs (omega (arith, r)) free) c.depth)
           (ap (λ f. slice_set known.regs h (copy_of known.depth f)) is.1)
           (hold_put room h (Held ty known.depth is.0) (held k z u.depth) (subst (λ e. agrees (held k z u.depth) (Held ty e is.0) ≡ true) (sym (c.depth ∙ d)) (held_agrees ty u.depth is.0)) c.regs)
-          (c.depth ∙ d) (over h z be)
+          (c.depth ∙ d) (over h z s u be)
 
       does : room_for (i.Copy h a) ≤ room → (known : Known) → Covers k known s → Does k (i.Copy h a) known (holding h z u)
       does r known c = by r known c (hold_at room a ty s.depth c.regs (omega (arith, r)) ha)
