@@ -3,6 +3,7 @@ mod Covering
 mod Examples
 mod Labels
 mod Owners
+mod Places
 mod Rows
 mod Runs
 mod Turns

@@ -115,7 +115,7 @@ module _ (k : Site) where
 
   pub writes : {p : ℕ} {s u : Stand} (instr : Instr) (h : ℕ) (z : Ty) (kept : Known → Kept) → goes_on instr ≡ true → target_of instr ≡ None → in_tables k.code instr ≡ true
       → (room_for instr ≤ room → h < room)
-      → ((known : Known) → row_at k instr known ≡ gets known.depth known.regs h (code_type k.parts z) (kept known))
+      → (room_for instr ≤ room → (known : Known) → Covers k known s → row_at k instr known ≡ gets known.depth known.regs h (code_type k.parts z) (kept known))
       → (room_for instr ≤ room → (known : Known) → Covers k known s → Fine (kept known))
       → is_free (at k s h) ≡ true → s.depth ≡ u.depth → Beside h s u
       → Runs k p (instr ∷ []) (s ∷ []) s (falls (holding h z u))
@@ -126,20 +126,20 @@ module _ (k : Site) where
           let same : known.depth ≡ u.depth = c.depth ∙ d in
           let g = overwrites_fine room h (f r known c) c.regs (lt r) free in
           does_by instr (slice_set known.regs h (Held (code_type k.parts z) known.depth false)) (put h (held k z u.depth) (at k s))
-          (record { types = ap (λ e. e.kept.types) (is known) ∙ g.types; present = ap (λ e. e.kept.present) (is known) ∙ g.present; depths = ap (λ e. e.kept.depths) (is known) ∙ g.depths })
-          (ap (λ e. e.after) (is known))
+          (record { types = ap (λ e. e.kept.types) (is r known c) ∙ g.types; present = ap (λ e. e.kept.present) (is r known c) ∙ g.present; depths = ap (λ e. e.kept.depths) (is r known c) ∙ g.depths })
+          (ap (λ e. e.after) (is r known c))
           (hold_put room h (Held (code_type k.parts z) known.depth false) (held k z u.depth) (subst (λ e. agrees (held k z u.depth) (Held (code_type k.parts z) e false) ≡ true) (sym same) (agrees_same (held k z u.depth))) c.regs)
           same (over h z s u a)
 
   pub int_runs : {p : ℕ} {s : Stand} (h : ℕ) (z : ℤ) → is_free (at k s h) ≡ true → Runs k p (i.Int h z ∷ []) (s ∷ []) s (falls (holding h y.int s))
-  int_runs {s = s} h z free = writes (i.Int h z) h y.int (λ known. fine) refl refl refl (λ r. omega (arith, r)) (λ known. refl) (λ r known c. all_kept) free refl (beside_same h s)
+  int_runs {s = s} h z free = writes (i.Int h z) h y.int (λ known. fine) refl refl refl (λ r. omega (arith, r)) (λ r known c. refl) (λ r known c. all_kept) free refl (beside_same h s)
 
   pub truth_runs : {p : ℕ} {s : Stand} (h n : ℕ) → nat_lt n 2 ≡ true → is_free (at k s h) ≡ true → Runs k p (i.Truth h n ∷ []) (s ∷ []) s (falls (holding h y.bool s))
-  truth_runs {s = s} h n lt free = writes (i.Truth h n) h y.bool (λ known. fine) refl refl lt (λ r. omega (arith, r)) (λ known. refl) (λ r known c. all_kept) free refl (beside_same h s)
+  truth_runs {s = s} h n lt free = writes (i.Truth h n) h y.bool (λ known. fine) refl refl lt (λ r. omega (arith, r)) (λ r known c. refl) (λ r known c. all_kept) free refl (beside_same h s)
 
   pub text_runs : {p : ℕ} {s : Stand} (h n : ℕ) → n < length k.code.texts → is_short (slice_get k.code.texts n) ≡ true → is_free (at k s h) ≡ true → Runs k p (i.Text h n ∷ []) (s ∷ []) s (falls (holding h y.str s))
   text_runs {s = s} h n lt short free =
-      writes (i.Text h n) h y.str (λ known. if_types (is_short (slice_get k.code.texts n))) refl refl (lt-ltb n (length k.code.texts) lt) (λ r. omega (arith, r)) (λ known. refl)
+      writes (i.Text h n) h y.str (λ known. if_types (is_short (slice_get k.code.texts n))) refl refl (lt-ltb n (length k.code.texts) lt) (λ r. omega (arith, r)) (λ r known c. refl)
       (λ r known c. record { types = short; present = refl; depths = refl }) free refl (beside_same h s)
 
   -- ---- from registers
@@ -150,7 +150,7 @@ module _ (k : Site) where
       → at k s a ≡ Held ta da false → is_free (at k s h) ≡ true → s.depth ≡ u.depth → Beside h s u
       → Runs k p (instr ∷ []) (s ∷ []) s (falls (holding h z u))
   from_one instr h z a ta da on none inside lt is ha free d b =
-      writes instr h z (λ known. reads known.regs a ta fine) on none inside (λ r. (lt r).0) is (λ r known c. reads_fine room a ta da all_kept c.regs (lt r).1 ha) free d b
+      writes instr h z (λ known. reads known.regs a ta fine) on none inside (λ r. (lt r).0) (λ r known c. is known) (λ r known c. reads_fine room a ta da all_kept c.regs (lt r).1 ha) free d b
 
   pub from_two : {p : ℕ} {s u : Stand} (instr : Instr) (h : ℕ) (z : Ty) (a b : ℕ) (ta tb : CodeTy) (da db : ℕ) → goes_on instr ≡ true → target_of instr ≡ None → in_tables k.code instr ≡ true
       → (room_for instr ≤ room → (h < room) × (a < room) × (b < room))
@@ -158,8 +158,8 @@ module _ (k : Site) where
       → at k s a ≡ Held ta da false → at k s b ≡ Held tb db false → is_free (at k s h) ≡ true → s.depth ≡ u.depth → Beside h s u
       → Runs k p (instr ∷ []) (s ∷ []) s (falls (holding h z u))
   from_two instr h z a b ta tb da db on none inside lt is ha hb free d be =
-      writes instr h z (λ known. reads known.regs b tb (reads known.regs a ta fine)) on none inside (λ r. (lt r).0) is
-      (λ r known c. reads_fine room b tb db (reads_fine room a ta da all_kept c.regs (lt r).1.0 ha) c.regs (lt r).1.1 hb) free d be
+      writes instr h z (λ known. reads known.regs b tb (reads known.regs a ta fine)) on none inside (λ r. (lt r).0) (λ r known c. is known)
+      (λ r known c. reads_fine room b tb db (reads_fine room a ta da all_kept c.regs (lt r).1 ha) c.regs (lt r).2 hb) free d be
 
   pub from_three : {p : ℕ} {s u : Stand} (instr : Instr) (h : ℕ) (z : Ty) (a b c : ℕ) (ta tb tc : CodeTy) (da db dc : ℕ) → goes_on instr ≡ true → target_of instr ≡ None → in_tables k.code instr ≡ true
       → (room_for instr ≤ room → (h < room) × (a < room) × (b < room) × (c < room))
@@ -167,8 +167,8 @@ module _ (k : Site) where
       → at k s a ≡ Held ta da false → at k s b ≡ Held tb db false → at k s c ≡ Held tc dc false → is_free (at k s h) ≡ true → s.depth ≡ u.depth → Beside h s u
       → Runs k p (instr ∷ []) (s ∷ []) s (falls (holding h z u))
   from_three instr h z a b c ta tb tc da db dc on none inside lt is ha hb hc free d be =
-      writes instr h z (λ known. reads known.regs c tc (reads known.regs b tb (reads known.regs a ta fine))) on none inside (λ r. (lt r).0) is
-      (λ r known cov. reads_fine room c tc dc (reads_fine room b tb db (reads_fine room a ta da all_kept cov.regs (lt r).1.0 ha) cov.regs (lt r).1.1.0 hb) cov.regs (lt r).1.1.1 hc) free d be
+      writes instr h z (λ known. reads known.regs c tc (reads known.regs b tb (reads known.regs a ta fine))) on none inside (λ r. (lt r).0) (λ r known c. is known)
+      (λ r known cov. reads_fine room c tc dc (reads_fine room b tb db (reads_fine room a ta da all_kept cov.regs (lt r).1 ha) cov.regs (lt r).2 hb) cov.regs (lt r).3 hc) free d be
 
   -- two values of one type are compared
   pub cmp_runs : {p : ℕ} {s u : Stand} (h choice a b : ℕ) (ty : CodeTy) (da db : ℕ) → nat_lt choice 6 ≡ true → is_ordered choice ty ≡ true → at k s a ≡ Held ty da false → at k s b ≡ Held ty db false → is_free (at k s h) ≡ true → s.depth ≡ u.depth → Beside h s u
@@ -176,7 +176,7 @@ module _ (k : Site) where
   cmp_runs {s = s} h choice a b ty da db few o ha hb free d be =
       writes (i.Cmp h choice a b) h y.bool
       (λ known. record { types = is_comparable choice (fact_of known.regs a) && is_comparable choice (fact_of known.regs b) && are_alike (fact_of known.regs a) (fact_of known.regs b); present = is_there (fact_of known.regs a) && is_there (fact_of known.regs b); depths = true })
-      refl refl few (λ r. omega (arith, r)) (λ known. refl)
+      refl refl few (λ r. omega (arith, r)) (λ r known c. refl)
       (λ r known c. alike (fact_of known.regs a) (fact_of known.regs b) (hold_at room a ty da c.regs (omega (arith, r)) ha) (hold_at room b ty db c.regs (omega (arith, r)) hb)) free d be
     where
       alike : (f g : RegFact) → (live : Bool) × (f ≡ Held ty da live) → (live : Bool) × (g ≡ Held ty db live)
