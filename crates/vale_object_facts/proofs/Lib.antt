@@ -1,7 +1,10 @@
 mod Agreeing
 mod Covering
+mod Entries
 mod Examples
+mod Functions
 mod Labels
+mod Leaving
 mod Owners
 mod Places
 mod Rows
