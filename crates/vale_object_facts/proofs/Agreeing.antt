@@ -94,8 +94,8 @@ module _ (count : ℕ) where
     pub size : length regs ≡ count
     pub each : (r : ℕ) → r < count → agrees (F r) (fact_of regs r) ≡ true
 
-  pub hold_less : {regs : List RegFact} {F G : Facts} → Hold regs F → ((r : ℕ) → agrees (G r) (F r) ≡ true) → Hold regs G
-  hold_less {regs} {F} {G} h a = record { size = h.size; each = λ r lt. agrees_through (G r) (F r) (fact_of regs r) (a r) (h.each r lt) }
+  pub hold_less : {regs : List RegFact} {F : Facts} (G : Facts) → Hold regs F → ((r : ℕ) → agrees (G r) (F r) ≡ true) → Hold regs G
+  hold_less {regs} {F} G h a = record { size = h.size; each = λ r lt. agrees_through (G r) (F r) (fact_of regs r) (a r) (h.each r lt) }
 
   pub hold_put : {regs : List RegFact} {F : Facts} (r : ℕ) (x y : RegFact) → agrees y x ≡ true → Hold regs F → Hold (slice_set regs r x) (put r y F)
   hold_put {regs} {F} r x y a h = record { size = length-set regs r x ∙ h.size; each = each }

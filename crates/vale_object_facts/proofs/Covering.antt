@@ -48,7 +48,7 @@ module _ (k : Site) where
   says_then {s} {u} {v} a b = record { depth = a.depth ∙ b.depth; each = λ r. agrees_through (at v r) (at u r) (at s r) (b.each r) (a.each r) }
 
   pub covers_less : {known : Known} {s u : Stand} → Covers known s → Says s u → Covers known u
-  covers_less c a = record { depth = c.depth ∙ a.depth; regs = hold_less k.func.registers c.regs a.each }
+  covers_less {u = u} c a = record { depth = c.depth ∙ a.depth; regs = hold_less k.func.registers (at u) c.regs a.each }
 
   -- ---- labels
 

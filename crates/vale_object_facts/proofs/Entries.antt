@@ -1,10 +1,10 @@
 -- What is known at a function's entry: its parameters.
-use Rattle.std.proofs.Common.{◌≡◌, ◌≢◌, ℕ, zero, suc, ◌+◌, ◌-◌, ◌<◌, ◌≤◌, List, [], ◌∷◌, ◌++◌, length, map, replicate, Bool, true, false, ◌==◌, if◌then◌else◌, refl, sym, ap, ◌∙◌, subst, arith, length-append}
+use Rattle.std.proofs.Common.{◌≡◌, ◌≢◌, ℕ, zero, suc, ◌+◌, ◌-◌, ◌<◌, ◌≤◌, List, [], ◌∷◌, ◌++◌, length, map, replicate, Bool, true, false, ◌&&◌, ◌==◌, if◌then◌else◌, refl, sym, ap, ◌∙◌, subst, arith, length-append}
 use Rattle.std.proofs.lemmas.Bool.{eq-eqb, ne_eqb}
 use Rattle.std.proofs.lemmas.List.{length-map, length-replicate}
 use Rattle.vale_syntax.specs.Tree.{Param, param}
 use Rattle.vale_rules_spec.specs.Declarations.{head_params, param_type}
-use Rattle.vale_rules_spec.specs.Types.{Ty, type_of}
+use Rattle.vale_rules_spec.specs.Types.{Ty, type_of, is_owned}
 use Rattle.vale_rules_spec.specs.Typed.{Function}
 use Rattle.vale_model.specs.Kinds.{head_of}
 use Rattle.vale_model.specs.Parts.{Parts}
@@ -15,7 +15,7 @@ use Rattle.vale_cert.specs.declared.facts.RegFact.{RegFact}
 use Rattle.vale_cert.specs.declared.facts.RegFact.TheVariants.{Empty, Held}
 use Rattle.vale_lowering_objects.specs.Program.{code_type}
 use Rattle.vale_object_facts.specs.Facts.{param_slots, entry_stand}
-use Rattle.vale_object_facts.specs.Slots.{local, Slot, Slots, Stand, fact_in}
+use Rattle.vale_object_facts.specs.Slots.{local, Slot, Slots, Stand, slot_fact, fact_in}
 use Rattle.vale_object_facts.proofs.Agreeing.{agrees_same}
 use Rattle.vale_object_facts.proofs.Covering.{Site, at, Covers, Falls, nothing_above, falls_up}
 
@@ -31,6 +31,10 @@ length_params : (r : ℕ) (tys : List CodeTy) → length (params_from r [] tys) 
 length_params r [] = refl
 length_params r (ty ∷ tys) = ap suc (length_params (r + 1) tys)
 
+none_lost : (b : Bool) → (true && b && false) ≡ false
+none_lost true = refl
+none_lost false = refl
+
 module _ (k : Site) where
   abbrev slot_for : ℕ → ℕ → Ty → Slot
   slot_for n r x = record { role = local n; register = r; ty = x; depth = 0 }
@@ -40,13 +44,14 @@ module _ (k : Site) where
   earlier [] r s q lt = refl
   earlier (param n x ∷ ps) r s q lt =
       earlier ps (r + 1) (slot_for n.name.0 r (type_of x) ∷ s) q (omega (arith, lt))
-      ∙ ap (λ b. if b then Held (code_type k.parts (type_of x)) 0 false else fact_in k.parts s [] q) (ne_eqb r q (omega (arith, lt)))
+      ∙ ap (λ b. if b then slot_fact k.parts (slot_for n.name.0 r (type_of x)) [] else fact_in k.parts s [] q) (ne_eqb r q (omega (arith, lt)))
 
   entered : (ps : List Param) (r : ℕ) (s : Slots) (n q : ℕ) → Falls k r s → fact_in k.parts (param_slots r ps s) [] (r + q) ≡ fact_of (params_from r [] (param_codes k.parts ps) ++ replicate n Empty) q
   entered [] r s n q f = nothing_above k r s [] (r + q) f (omega arith) ∙ sym (none_of n q)
   entered (param m x ∷ ps) r s n zero f =
       earlier ps (r + 1) (slot_for m.name.0 r (type_of x) ∷ s) (r + 0) (omega arith)
-      ∙ ap (λ b. if b then Held (code_type k.parts (type_of x)) 0 false else fact_in k.parts s [] (r + 0)) (eq-eqb r (r + 0) (omega arith))
+      ∙ ap (λ b. if b then slot_fact k.parts (slot_for m.name.0 r (type_of x)) [] else fact_in k.parts s [] (r + 0)) (eq-eqb r (r + 0) (omega arith))
+      ∙ ap (λ b. if b then Empty else Held (code_type k.parts (type_of x)) 0 false) (none_lost (is_owned (type_of x)))
   entered (param m x ∷ ps) r s n (suc q) f =
       ap (fact_in k.parts (param_slots (r + 1) ps (slot_for m.name.0 r (type_of x) ∷ s)) []) (let z : r + suc q ≡ r + 1 + q = omega arith in z)
       ∙ entered ps (r + 1) (slot_for m.name.0 r (type_of x) ∷ s) n q (omega arith, f)

@@ -66,7 +66,7 @@ module _ (k : Site) where
       free_after : (known : Known) → Covers k known s → list_all is_free (slice_set known.regs h Empty) ≡ true
       free_after known c =
           let emptied = hold_put (room k) h Empty Empty refl c.regs in
-          all_free (room k) (slice_set known.regs h Empty) emptied.size (λ r lt. (hold_less (room k) emptied (λ q. nothing q)).each r lt)
+          all_free (room k) (slice_set known.regs h Empty) emptied.size (λ r lt. (hold_less (room k) (λ q. Empty) emptied (λ q. nothing q)).each r lt)
 
       leaves : (rest : List Instr) → Cut k (p + 1) rest → (known : Known) → Covers k known s → (live : Bool) × (fact_of known.regs h ≡ Held ty 0 live) → Goes k p (i.Ret h) known rest
       leaves rest cut known c e = record {
@@ -86,7 +86,7 @@ module _ (k : Site) where
     numbered = λ f. one_in_order k i.RetVoid refl f.each.0.room;
     ready = λ f rest cut. step k f.each.0 (λ known c. record {
       types = ap is_void result;
-      present = all_free (room k) known.regs c.regs.size (λ r lt. (hold_less (room k) c.regs (λ q. ap is_free (none q))).each r lt);
+      present = all_free (room k) known.regs c.regs.size (λ r lt. (hold_less (room k) (λ q. Empty) c.regs (λ q. ap is_free (none q))).each r lt);
       depths = eq-eqb known.depth 0 (c.depth ∙ depth);
       to_target = refl;
       to_next = refl;

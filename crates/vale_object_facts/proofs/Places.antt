@@ -103,7 +103,7 @@ module _ (k : Site) where
   -- an operand that is found alive is known as before, or better
   pub found_hold : (n : ℕ) (regs : List RegFact) (F : Facts) (depth a : ℕ) (ty : CodeTy) (d : ℕ) (live : Bool) → Hold n regs F → F a ≡ Held ty d false → fact_of regs a ≡ Held ty d live → Hold n (finds_alive depth regs a) F
   found_hold n regs F depth a ty d live h e is =
-      hold_less n
+      hold_less n F
       (hold_put n a (found_alive depth (fact_of regs a)) (Held ty d false) (subst (λ z. agrees (Held ty d false) (found_alive depth z) ≡ true) (sym is) (held_agrees ty d (live || is_frozen ty || nat_lt d depth))) h)
       (λ q. subst (λ z. agrees (F q) z ≡ true) (put_same F a (Held ty d false) e q) (agrees_same (F q)))
 
@@ -153,7 +153,7 @@ module _ (k : Site) where
 
   forget : (n : ℕ) (regs : List RegFact) (F : Facts) (v : ℕ) (ty : CodeTy) (d : ℕ) → Hold n regs F → F v ≡ Held ty d false → is_free (Held ty d false) ≡ true → Hold n regs (put v Empty F)
   forget n regs F v ty d h e free =
-      hold_less n h
+      hold_less n (put v Empty F) h
       (λ q.
       ⊎_elim
       (λ same. subst (λ z. agrees z (F q) ≡ true) (sym (put_here v Empty F q same)) (subst (λ z. is_free z ≡ true) (sym (ap F (sym same) ∙ e)) free))

@@ -80,7 +80,7 @@ module _ (k : Site) where
     types = f.types;
     present = f.present;
     depths = f.depths;
-    covers = record { depth = d; regs = hold_less room (subst (λ z. Hold room z F) (sym e) h) a };
+    covers = record { depth = d; regs = hold_less room (at k u) (subst (λ z. Hold room z F) (sym e) h) a };
   }
 
   -- one stand says what another does but for this register

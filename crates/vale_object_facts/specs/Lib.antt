@@ -1,3 +1,4 @@
 pub mod Facts
 pub mod Slots
 pub mod Stands
+pub mod Suits

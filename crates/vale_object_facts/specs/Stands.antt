@@ -116,7 +116,7 @@ locals_stands _ _ h s rest after value = rest h s
 
 -- between h and an operand
 abbrev pub link_stands : BinaryOp → Ty → Ty → Ty → (ℕ → Stand → Stands) → (ℕ → Gone → After) → ℕ → Stand → Stands
-link_stands op.Or x y z operand after h s = sides_stands (holding h x s) [] (comes s.gone) (λ g. holding h x s) (operand h s)
+link_stands op.Or x y z operand after h s = sides_stands (holding h x s) [] (comes s.gone) (λ g. holding h x (with_gone g s)) (operand h s)
 link_stands op.And x y z operand after h s = holding h x s ∷ operand h s
 link_stands o x y z operand after h s =
     then_stands (h + 2) (operand (h + 1) (holding h x s)) (after (h + 1) s.gone)
