@@ -5,9 +5,13 @@ mod Examples
 mod Functions
 mod Labels
 mod Leaving
+mod Locals
+mod Operators
 mod Owners
+mod Parts
 mod Places
 mod Rows
 mod Runs
+mod Sets
 mod Turns
 mod Ways

@@ -173,7 +173,7 @@ module _ (k : Site) where
         by : (owned : Bool) → owned ≡ false → Runs k p (if owned then (if is_gone reg s.gone then i.Truth h 2 ∷ [] else lend v h reg ∷ []) else i.Copy h reg ∷ []) (s ∷ []) s (falls (holding h x s))
         by true e = absurd (cc)
         by false e =
-            copy_runs k h reg x (holds (ap (λ b. is_listed nm.slot.role && b && is_gone reg s.gone) (ap y.is_owned nm.typed ∙ o) ∙ none (is_listed nm.slot.role))) (ap not (owned_too k.parts x ∙ o)) (free_at h st (omega arith)) refl (beside_same k h s)
+            copy_runs k h reg x (holds (ap (λ b. is_listed nm.slot.role && b && is_gone reg s.gone) (ap y.is_owned nm.typed ∙ o) ∙ ap (λ b. b && is_gone reg s.gone) (none (is_listed nm.slot.role)))) (ap not (owned_too k.parts x ∙ o)) (free_at h st (omega arith)) refl (beside_same k h s)
           where
             none : (b : Bool) → (b && false) ≡ false
             none true = refl
