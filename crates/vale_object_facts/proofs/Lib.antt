@@ -12,6 +12,7 @@ mod Parts
 mod Places
 mod Rows
 mod Runs
+mod Scopes
 mod Sets
 mod Turns
 mod Ways

@@ -13,18 +13,18 @@ use Rattle.vale_code.specs.declared.instr.Instr.TheVariants as i
 use Rattle.vale_cert.specs.Known.{is_free, agrees}
 use Rattle.vale_cert.specs.declared.facts.RegFact.TheVariants.{Empty, Held}
 use Rattle.vale_lowering.specs.Instructions.{only_if, operator}
-use Rattle.vale_lowering_objects.specs.Lowered.{then_code, if_comes, link_code, link_after, drop_entry, drop_value, hand}
-use Rattle.vale_lowering_objects.specs.Scopes.{Gives, void, copy, owner, gives_of, is_value, is_owner, agree, Entry, entry, Gone, is_gone, After, comes, never, then_after, closes, same_gone}
-use Rattle.vale_object_facts.specs.Slots.{local, Stand, scope_of, scope_at, with_gone, holding, given, with_local, is_lost, slot_fact, fact_in}
-use Rattle.vale_object_facts.specs.Stands.{Stands as Marks, then_stands, sides_stands, link_stands, drop_local, drop_stands, hand_stands}
+use Rattle.vale_lowering_objects.specs.Lowered.{then_code, if_comes, jump_over, sides, turns_code, loop_after, link_code, link_after}
+use Rattle.vale_lowering_objects.specs.Scopes.{Gives, void, copy, owner, gives_of, is_value, is_owner, agree, Entry, entry, Gone, is_gone, After, comes, never, then_after, met, may_meet, closes, same_gone}
+use Rattle.vale_object_facts.specs.Slots.{Stand, scope_at, with_gone, holding, given}
+use Rattle.vale_object_facts.specs.Stands.{Stands as Marks, then_stands, sides_stands, turns_stands, link_stands}
 use Rattle.vale_object_facts.proofs.Agreeing.{agrees_same}
-use Rattle.vale_object_facts.proofs.Covering.{Site, at, held, Says, says_same, says_then, says_by, says_gone, says_holding, says_given, says_role, says_less, holding_here, holding_there, nothing_above}
+use Rattle.vale_object_facts.proofs.Covering.{Site, at, held, Says, says_same, says_then, says_gone, says_holding, says_given, says_role, says_less, holding_here, holding_there, nothing_above}
 use Rattle.vale_object_facts.proofs.Locals.{Stands, none_at, free_at, stands_up, stands_gone, stands_holding}
 use Rattle.vale_object_facts.proofs.Operators.{Plain, operands_plain, is_plain, operator_runs, bool_is}
 use Rattle.vale_object_facts.proofs.Owners.{free_type}
 use Rattle.vale_object_facts.proofs.Runs.{End, falls, stops, ending, Runs, runs_less, runs_from, ends_less, nothing, both}
-use Rattle.vale_object_facts.proofs.Turns.{Meets, sides_runs, and_runs}
-use Rattle.vale_object_facts.proofs.Ways.{Clean, clean_only, then_runs}
+use Rattle.vale_object_facts.proofs.Turns.{Meets, sides_runs, and_runs, loop_runs}
+use Rattle.vale_object_facts.proofs.Ways.{Clean, clean_both, then_runs, ending_none}
 
 -- ---- sorts of values
 
@@ -65,6 +65,17 @@ pub agree_self : (q : Gives) → agree q q ≡ true
 agree_self void = refl
 agree_self copy = refl
 agree_self owner = refl
+
+pub copy_value : (x : Ty) → agree copy (gives_of x) ≡ true → is_value (gives_of x) ≡ true
+copy_value y.void e = absurd (cc)
+copy_value y.int e = refl
+copy_value y.bool e = refl
+copy_value y.str e = refl
+copy_value (y.kind n) e = refl
+copy_value (y.array x) e = refl
+copy_value (y.ref x) e = refl
+copy_value (y.imm x) e = refl
+copy_value (y.iso x) e = refl
 
 -- a type that gives a copied value
 pub copy_of : (x : Ty) → gives_of x ≡ copy → (y.is_void x ≡ false) × (y.is_owned x ≡ false)
@@ -124,12 +135,30 @@ module _ (k : Site) where
   -- ---- an operator and its operand
 
   module _ (env : Env) (h : ℕ) (s : Stand) (st : Stands k env h s) (a b z : Ty) (spot : Spot) (operand : ℕ → ℕ → Gone → List Instr) (marks : ℕ → Stand → Marks) (after : ℕ → Gone → After) where
-    -- the operand's own code, from a register and a stand on
-    abbrev pub Operand : Type 0
-    Operand = (p j : ℕ) (t : Stand) → t.gone ≡ s.gone → Stands k env j t → Clean (operand p j s.gone) → Runs k p (operand p j s.gone) (marks j t) t (ending (after j s.gone) (λ g. holding j b (with_gone g t)))
+    -- the operand's own code: above the value, and in its place
+    abbrev pub Above : Type 0
+    Above = (p : ℕ) → Clean (operand p (h + 1) s.gone) → Runs k p (operand p (h + 1) s.gone) (marks (h + 1) (holding h a s)) (holding h a s) (ending (after (h + 1) s.gone) (λ g. holding (h + 1) b (holding h a (with_gone g s))))
+
+    abbrev pub Here : Type 0
+    Here = (p : ℕ) → Clean (operand p h s.gone) → Runs k p (operand p h s.gone) (marks h s) s (ending (after h s.gone) (λ g. holding h b (with_gone g s)))
+
+    operator_same : (o : BinaryOp) → z ≡ link_gives o a → operator o a spot h ≡ operator o z spot h
+    operator_same op.Or e = refl
+    operator_same op.And e = refl
+    operator_same op.Equal e = refl
+    operator_same op.NotEqual e = refl
+    operator_same op.Less e = refl
+    operator_same op.LessEqual e = refl
+    operator_same op.Greater e = refl
+    operator_same op.GreaterEqual e = refl
+    operator_same op.Add e = ap (λ t. operator op.Add t spot h) (sym e)
+    operator_same op.Sub e = refl
+    operator_same op.Mul e = refl
+    operator_same op.Div e = refl
+    operator_same op.Rem e = refl
 
     abbrev op_code : ℕ → BinaryOp → List Instr
-    op_code p o = then_code p (h + 2) (operand p (h + 1) s.gone) (after (h + 1) s.gone) (λ place g. operator o a spot h ∷ [])
+    op_code p o = then_code p (h + 2) (operand p (h + 1) s.gone) (after (h + 1) s.gone) (λ place g. operator o z spot h ∷ [])
 
     abbrev op_marks : Marks
     op_marks = then_stands (h + 2) (marks (h + 1) (holding h a s)) (after (h + 1) s.gone) (λ g. holding (h + 1) b (holding h a (with_gone g s))) (λ g. holding (h + 1) b (holding h a (with_gone g s)) ∷ []) (λ g. comes g) (λ g. holding h z (with_gone g s))
@@ -138,23 +167,25 @@ module _ (k : Site) where
     then_comes (comes g) u = refl
     then_comes (never g) u = refl
 
-    plain_link : {p : ℕ} (o : BinaryOp) → is_plain o ≡ true → takes_operands o a b ≡ true → z ≡ link_gives o a → Operand → Clean (op_code p o) → Runs k p (op_code p o) op_marks (holding h a s) (ending (after (h + 1) s.gone) (λ g. holding h z (with_gone g s)))
+    plain_link : {p : ℕ} (o : BinaryOp) → is_plain o ≡ true → takes_operands o a b ≡ true → z ≡ link_gives o a → Above → Clean (op_code p o) → Runs k p (op_code p o) op_marks (holding h a s) (ending (after (h + 1) s.gone) (λ g. holding h z (with_gone g s)))
     plain_link {p} o pl takes is run clean =
         let plain = operands_plain k.parts o a b takes in
         subst (λ e. Runs k p (op_code p o) op_marks (holding h a s) e) (then_comes (after (h + 1) s.gone) (λ g. holding h z (with_gone g s)))
-        (then_runs k (after (h + 1) s.gone) p (h + 2) (operand p (h + 1) s.gone) (marks (h + 1) (holding h a s)) (λ place g. operator o a spot h ∷ []) (λ g. holding (h + 1) b (holding h a (with_gone g s))) (λ g. holding (h + 1) b (holding h a (with_gone g s)) ∷ []) (λ g. comes g) (λ g. holding h z (with_gone g s)) (holding h a s)
+        (then_runs k (after (h + 1) s.gone) p (h + 2) (operand p (h + 1) s.gone) (marks (h + 1) (holding h a s)) (λ place g. operator o z spot h ∷ []) (λ g. holding (h + 1) b (holding h a (with_gone g s))) (λ g. holding (h + 1) b (holding h a (with_gone g s)) ∷ []) (λ g. comes g) (λ g. holding h z (with_gone g s)) (holding h a s)
         clean
-        (λ c. run p (h + 1) (holding h a s) refl (stands_holding k a plain.first st) c)
-        (λ g q c. subst (λ t. Runs k q (operator o a spot h ∷ []) (holding (h + 1) b (holding h a (with_gone g s)) ∷ []) (holding (h + 1) b (holding h a (with_gone g s))) (falls (holding h t (with_gone g s)))) (sym is)
-        (operator_runs k env h (with_gone g s) (stands_gone k g st) o spot a b pl takes))
+        (λ c. run p c)
+        (λ g q c.
+        subst (λ x. Runs k q (x ∷ []) (holding (h + 1) b (holding h a (with_gone g s)) ∷ []) (holding (h + 1) b (holding h a (with_gone g s))) (falls (holding h z (with_gone g s)))) (operator_same o is)
+        (subst (λ t. Runs k q (operator o a spot h ∷ []) (holding (h + 1) b (holding h a (with_gone g s)) ∷ []) (holding (h + 1) b (holding h a (with_gone g s))) (falls (holding h t (with_gone g s)))) (sym is)
+        (operator_runs k env h (with_gone g s) (stands_gone k g st) o spot a b pl takes)))
         (λ g. holding_there k (h + 1) b (holding h a (with_gone g s)) (h + 2) (omega arith) ∙ holding_there k h a (with_gone g s) (h + 2) (omega arith) ∙ none_at k (h + 2) (stands_gone k g st) (omega arith)))
 
     -- where the operand may not run, it moves nothing
     says_closed : (x : Ty) (g : Gone) → closes (scope_at s) s.gone (comes g) ≡ true → Says k (holding h x (with_gone g s)) (holding h x (with_gone s.gone s))
     says_closed x g e = says_holding k h x (says_gone k s g s.gone e)
 
-    or_link : {p : ℕ} → a ≡ y.bool → b ≡ y.bool → z ≡ y.bool → Operand → Clean (link_code op.Or a spot operand after p h (scope_at s) s.gone)
-        → Runs k p (link_code op.Or a spot operand after p h (scope_at s) s.gone) (link_stands op.Or a b z marks after h s) (holding h a s) (falls (holding h z (with_gone s.gone s)))
+    or_link : {p : ℕ} → a ≡ y.bool → b ≡ y.bool → z ≡ y.bool → Here → Clean (link_code op.Or z spot operand after p h (scope_at s) s.gone)
+        → Runs k p (link_code op.Or z spot operand after p h (scope_at s) s.gone) (link_stands op.Or a b z marks after h s) (holding h a s) (falls (holding h z (with_gone s.gone s)))
     or_link {p} ea eb ez run clean =
         chosen (closes (scope_at s) s.gone (after h s.gone)) h clean (λ closed c. whole closed (tail_clean c))
       where
@@ -181,7 +212,7 @@ module _ (k : Site) where
             → Runs k p (i.Unless h other ∷ ([] ++ (i.Jump (other + length (operand other h s.gone)) ∷ operand other h s.gone))) (sides_stands (holding h y.bool s) [] (comes s.gone) end (marks h s)) (holding h y.bool s) (falls (end s.gone))
         both_sides closed c =
             sides_runs k (comes s.gone) (after h s.gone) s.gone p h s.depth [] (operand other h s.gone) [] (marks h s) (holding h y.bool s) (holding h y.bool s) s end (holding_here k h y.bool s)
-            (runs_less k (nothing k (p + 1) (holding h y.bool s)) (says_holding k h y.bool (says_still s))) (truths (run other h s refl st c)) (says_same k (holding h y.bool s)) forgets (meets (after h s.gone) closed)
+            (runs_less k (nothing k (p + 1) (holding h y.bool s)) (says_holding k h y.bool (says_still s))) (truths (run other c)) (says_same k (holding h y.bool s)) forgets (meets (after h s.gone) closed)
 
         whole : closes (scope_at s) s.gone (after h s.gone) ≡ true → Clean (operand other h s.gone)
             → Runs k p (i.Unless h other ∷ ([] ++ (i.Jump (other + length (operand other h s.gone)) ∷ operand other h s.gone))) (link_stands op.Or a b z marks after h s) (holding h a s) (falls (holding h z (with_gone s.gone s)))
@@ -190,8 +221,8 @@ module _ (k : Site) where
             (subst (λ t. Runs k p (i.Unless h other ∷ ([] ++ (i.Jump (other + length (operand other h s.gone)) ∷ operand other h s.gone))) (sides_stands (holding h y.bool s) [] (comes s.gone) end (marks h s)) (holding h y.bool s) (falls (holding h t (with_gone s.gone s)))) (sym ez)
             (both_sides closed c))
 
-    and_link : {p : ℕ} → a ≡ y.bool → b ≡ y.bool → z ≡ y.bool → Operand → Clean (link_code op.And a spot operand after p h (scope_at s) s.gone)
-        → Runs k p (link_code op.And a spot operand after p h (scope_at s) s.gone) (link_stands op.And a b z marks after h s) (holding h a s) (falls (holding h z (with_gone s.gone s)))
+    and_link : {p : ℕ} → a ≡ y.bool → b ≡ y.bool → z ≡ y.bool → Here → Clean (link_code op.And z spot operand after p h (scope_at s) s.gone)
+        → Runs k p (link_code op.And z spot operand after p h (scope_at s) s.gone) (link_stands op.And a b z marks after h s) (holding h a s) (falls (holding h z (with_gone s.gone s)))
     and_link {p} ea eb ez run clean =
         chosen (closes (scope_at s) s.gone (after h s.gone)) h clean (λ closed c. whole closed c)
       where
@@ -210,21 +241,66 @@ module _ (k : Site) where
             subst (λ t. Runs k p (i.Unless h (p + 1 + length (operand (p + 1) h s.gone)) ∷ operand (p + 1) h s.gone) (holding h t s ∷ marks h s) (holding h t s) (falls (holding h z (with_gone s.gone s)))) (sym ea)
             (subst (λ t. Runs k p (i.Unless h (p + 1 + length (operand (p + 1) h s.gone)) ∷ operand (p + 1) h s.gone) (holding h y.bool s ∷ marks h s) (holding h y.bool s) (falls (holding h t (with_gone s.gone s)))) (sym ez)
             (and_runs k (after h s.gone) p h s.depth (operand (p + 1) h s.gone) (marks h s) (holding h y.bool s) s (holding h y.bool (with_gone s.gone s)) (λ g. holding h b (with_gone g s)) (holding_here k h y.bool s)
-            (run (p + 1) h s refl st c) forgets (says_holding k h y.bool (says_still s)) (says closed)))
+            (run (p + 1) c) forgets (says_holding k h y.bool (says_still s)) (says closed)))
 
     -- between a value in h and the operand
-    pub link_runs : {p : ℕ} (o : BinaryOp) → takes_operands o a b ≡ true → z ≡ link_gives o a → Operand → Clean (link_code o a spot operand after p h (scope_at s) s.gone)
-        → Runs k p (link_code o a spot operand after p h (scope_at s) s.gone) (link_stands o a b z marks after h s) (holding h a s) (ending (link_after o after h s.gone) (λ g. holding h z (with_gone g s)))
-    link_runs op.Or takes is run clean = let t = and_parts (is_bool a) (is_bool b) takes in or_link (bool_is a t.0) (bool_is b t.1) is run clean
-    link_runs op.And takes is run clean = let t = and_parts (is_bool a) (is_bool b) takes in and_link (bool_is a t.0) (bool_is b t.1) is run clean
-    link_runs op.Equal takes is run clean = plain_link op.Equal refl takes is run clean
-    link_runs op.NotEqual takes is run clean = plain_link op.NotEqual refl takes is run clean
-    link_runs op.Less takes is run clean = plain_link op.Less refl takes is run clean
-    link_runs op.LessEqual takes is run clean = plain_link op.LessEqual refl takes is run clean
-    link_runs op.Greater takes is run clean = plain_link op.Greater refl takes is run clean
-    link_runs op.GreaterEqual takes is run clean = plain_link op.GreaterEqual refl takes is run clean
-    link_runs op.Add takes is run clean = plain_link op.Add refl takes is run clean
-    link_runs op.Sub takes is run clean = plain_link op.Sub refl takes is run clean
-    link_runs op.Mul takes is run clean = plain_link op.Mul refl takes is run clean
-    link_runs op.Div takes is run clean = plain_link op.Div refl takes is run clean
-    link_runs op.Rem takes is run clean = plain_link op.Rem refl takes is run clean
+    pub link_runs : {p : ℕ} (o : BinaryOp) → takes_operands o a b ≡ true → z ≡ link_gives o a → Above → Here → Clean (link_code o z spot operand after p h (scope_at s) s.gone)
+        → Runs k p (link_code o z spot operand after p h (scope_at s) s.gone) (link_stands o a b z marks after h s) (holding h a s) (ending (link_after o after h s.gone) (λ g. holding h z (with_gone g s)))
+    link_runs op.Or takes is above here clean = let t = and_parts (is_bool a) (is_bool b) takes in or_link (bool_is a t.0) (bool_is b t.1) is here clean
+    link_runs op.And takes is above here clean = let t = and_parts (is_bool a) (is_bool b) takes in and_link (bool_is a t.0) (bool_is b t.1) is here clean
+    link_runs op.Equal takes is above here clean = plain_link op.Equal refl takes is above clean
+    link_runs op.NotEqual takes is above here clean = plain_link op.NotEqual refl takes is above clean
+    link_runs op.Less takes is above here clean = plain_link op.Less refl takes is above clean
+    link_runs op.LessEqual takes is above here clean = plain_link op.LessEqual refl takes is above clean
+    link_runs op.Greater takes is above here clean = plain_link op.Greater refl takes is above clean
+    link_runs op.GreaterEqual takes is above here clean = plain_link op.GreaterEqual refl takes is above clean
+    link_runs op.Add takes is above here clean = plain_link op.Add refl takes is above clean
+    link_runs op.Sub takes is above here clean = plain_link op.Sub refl takes is above clean
+    link_runs op.Mul takes is above here clean = plain_link op.Mul refl takes is above clean
+    link_runs op.Div takes is above here clean = plain_link op.Div refl takes is above clean
+    link_runs op.Rem takes is above here clean = plain_link op.Rem refl takes is above clean
+
+  -- ---- a test and its sides
+
+  module _ (env : Env) (h : ℕ) (s : Stand) (st : Stands k env h s) (x t : Ty) where
+    abbrev side_end : Gone → Stand
+    side_end g = given h x (with_gone g s)
+
+    sides_meet : (first second : After) → may_meet (scope_at s) first second ≡ true → Meets k first second side_end
+    sides_meet (comes g) (comes c) e = says_given k h x (says_gone k s c g e)
+    sides_meet (comes g) (never c) e = tt
+    sides_meet (never g) second e = tt
+
+    pub sides_go : (p : ℕ) (first second : After) (before : Gone) (one two : ℕ → List Instr) (om tw : Marks) → t ≡ y.bool → may_meet (scope_at s) first second ≡ true → Clean (sides p h first one two)
+        → ((q : ℕ) → Clean (one q) → Runs k q (one q) om s (ending first side_end)) → ((q : ℕ) → Clean (two q) → Runs k q (two q) tw s (ending second side_end))
+        → Runs k p (sides p h first one two) (sides_stands (holding h t s) om first side_end tw) (holding h t s) (ending (met before first second) side_end)
+    sides_go p first second before one two om tw is meets clean run_one run_two =
+        let a = one (p + 1) in
+        let other = p + 1 + length a + length (jump_over first 0) in
+        let parts = clean_both a (jump_over first (other + length (two other)) ++ two other) clean in
+        let rest = clean_both (jump_over first (other + length (two other))) (two other) parts.1 in
+        let forgets : Says k (holding h t s) s = says_less k h t (none_at k h st (omega arith)) (ap (λ z. is_free (held k z s.depth)) is) in
+        sides_runs k first second before p h s.depth a (two other) om tw (holding h t s) s s side_end (holding_here k h t s ∙ ap (λ z. held k z s.depth) is) (run_one (p + 1) parts.0) (run_two other rest.1) forgets forgets (sides_meet first second meets)
+
+  -- ---- the turns of a loop
+
+  module _ (env : Env) (h : ℕ) (s : Stand) (st : Stands k env h s) (t : Ty) where
+    says_back : (g : Gone) → closes (scope_at s) s.gone (comes g) ≡ true → Says k (with_gone g s) s
+    says_back g e = says_then k (says_gone k s g s.gone e) (record { depth = refl; each = λ r. agrees_same (at k s r) })
+
+    pub turns_go : (o after : After) (p : ℕ) (test body : ℕ → List Instr) (tm bm : Marks) → t ≡ y.bool → closes (scope_at s) s.gone o ≡ true → closes (scope_at s) s.gone after ≡ true → Clean (turns_code p h o test body)
+        → ((q : ℕ) → Clean (test q) → Runs k q (test q) tm s (ending o (λ g. holding h t (with_gone g s)))) → ((q : ℕ) → Clean (body q) → Runs k q (body q) bm s (ending after (λ g. with_gone g s)))
+        → Runs k p (turns_code p h o test body) (turns_stands h o s tm t bm after) s (ending (loop_after s.gone o) (λ g. with_gone g s))
+    turns_go (comes g) after p test body tm bm is back body_back clean run_test run_body =
+        let one = body (p + 2) in
+        let start = p + 2 + length one in
+        let parts = clean_both one (test start ++ (i.Unless h (start + length (test start) + 2) ∷ i.Jump (p + 1) ∷ [])) clean in
+        let rest = clean_both (test start) (i.Unless h (start + length (test start) + 2) ∷ i.Jump (p + 1) ∷ []) parts.1 in
+        runs_less k
+        (loop_runs k after p h s.depth one (test start) bm tm s (holding h t (with_gone g s)) (λ g. with_gone g s) (run_body (p + 2) parts.0) (run_test start rest.0) (holding_here k h t (with_gone g s) ∙ ap (λ z. held k z s.depth) is)
+        (λ c e. says_back c (subst (λ o. closes (scope_at s) s.gone o ≡ true) e body_back))
+        (says_then k (says_less k h t (none_at k h (stands_gone k g st) (omega arith)) (ap (λ z. is_free (held k z s.depth)) is)) (says_back g back)))
+        (says_still s)
+    turns_go (never g) after p test body tm bm is back body_back clean run_test run_body =
+        subst (λ e. Runs k p (then_code p (h + 1) (test p) (never g) (λ place g. body place)) (then_stands (h + 1) tm (never g) (λ g. s) (λ g. bm) (λ g. after) (λ g. with_gone g s)) s e) (ending_none after (λ g. with_gone g s))
+        (then_runs k (never g) p (h + 1) (test p) tm (λ place g. body place) (λ g. s) (λ g. bm) (λ g. after) (λ g. with_gone g s) s clean (λ c. run_test p c) (λ g q c. run_body q c) (λ g. none_at k (h + 1) st (omega arith)))

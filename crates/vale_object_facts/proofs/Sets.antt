@@ -20,7 +20,7 @@ use Rattle.vale_object_facts.specs.Stands as stands
 use Rattle.vale_object_facts.proofs.Agreeing.{agrees_same, put, put_here, put_there}
 use Rattle.vale_object_facts.proofs.Covering.{Site, at, held, Says, holding_here, holding_there}
 use Rattle.vale_object_facts.proofs.Leaving.{owner_is}
-use Rattle.vale_object_facts.proofs.Locals.{Named, Stands, none_at, free_at, reg, below, holds, lost, others_stay}
+use Rattle.vale_object_facts.proofs.Locals.{Named, Stands, none_at, free_at, below, holds, lost, others_stay}
 use Rattle.vale_object_facts.proofs.Owners.{owned_too, free_type, says_put, moves_run, moves_out, drops_run}
 use Rattle.vale_object_facts.proofs.Rows.{Beside, beside_same, beside_one, beside_above, copy_runs}
 use Rattle.vale_object_facts.proofs.Runs.{Runs, runs_less, both, End, falls}
@@ -83,7 +83,7 @@ module _ (k : Site) (env : Env) (h : ℕ) (s : Stand) (st : Stands k env h s) (n
     there : is_lost nm.slot s.gone ≡ false
     there = ap (λ b. is_listed nm.slot.role && b && is_gone r s.gone) (ap y.is_owned nm.typed ∙ o) ∙ ap (λ b. b && is_gone r s.gone) (none_and (is_listed nm.slot.role))
 
-    both_held : Stand
+    abbrev both_held : Stand
     both_held = holding (h + 1) x value
 
     at_h : at k both_held h ≡ held k x s.depth
@@ -115,10 +115,10 @@ module _ (k : Site) (env : Env) (h : ℕ) (s : Stand) (st : Stands k env h s) (n
     whole : is_lost nm.slot s.gone ≡ false
     whole = ap (λ b. is_listed nm.slot.role && y.is_owned nm.slot.ty && b) stays ∙ none_and (is_listed nm.slot.role && y.is_owned nm.slot.ty)
 
-    old : Stand
+    abbrev old : Stand
     old = holding (h + 1) x (holding h x taken)
 
-    new : Stand
+    abbrev new : Stand
     new = holding (h + 1) x s
 
     old_h : at k old h ≡ held k x s.depth

@@ -148,7 +148,7 @@ module _ (k : Site) where
 
   -- ---- one part after another
 
-  ending_none : (a : After) (u : Gone → Stand) → ending (no_run a) u ≡ stops
+  pub ending_none : (a : After) (u : Gone → Stand) → ending (no_run a) u ≡ stops
   ending_none (comes g) u = refl
   ending_none (never g) u = refl
 
@@ -174,3 +174,10 @@ module _ (k : Site) where
       → Runs k p (if_comes p a o rest) (comes_stands ma o rms) s (ending o end)
   comes_runs (comes g) p a ma rest start rms end s clean x z = let c = clean_both a (rest (p + length a) g) clean in both k (x c.0) (z g (p + length a) c.1)
   comes_runs (never g) p a ma rest start rms end s clean x z = x clean
+
+  -- the same, where that leaves the function
+  pub comes_stops : (o : After) (p : ℕ) (a : List Instr) (ma : Stands) (rest : ℕ → Gone → List Instr) (start : Gone → Stand) (rms : Gone → Stands) (s : Stand)
+      → Clean (if_comes p a o rest) → (Clean a → Runs k p a ma s (ending o start)) → ((g : Gone) (q : ℕ) → Clean (rest q g) → Runs k q (rest q g) (rms g) (start g) stops)
+      → Runs k p (if_comes p a o rest) (comes_stands ma o rms) s stops
+  comes_stops (comes g) p a ma rest start rms s clean x z = let c = clean_both a (rest (p + length a) g) clean in both k (x c.0) (z g (p + length a) c.1)
+  comes_stops (never g) p a ma rest start rms s clean x z = x clean
