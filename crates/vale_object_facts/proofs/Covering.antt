@@ -16,13 +16,14 @@ use Rattle.vale_lowering_objects.specs.Scopes.{Scope, Gone, gives_of, is_gone, w
 use Rattle.vale_object_facts.specs.Slots.{Role, at_hand, is_listed, list_slot, Slot, Slots, scope_of, Stand, with_gone, holding, given, with_role, is_lost, slot_fact, fact_in, fact_at, facts_from, label_for}
 use Rattle.vale_object_facts.proofs.Agreeing.{agrees_same, agrees_through, Facts, put, put_here, put_there, Hold, hold_less, hold_put, hold_at, hold_free}
 
--- a function of a code with its labels, and the number of its first instruction
+-- a function of a code with its labels, the number of its first instruction, and what it gives
 pub record Site : Type 0 where
   pub parts : Parts
   pub code : Code
   pub func : Func
   pub labels : List Label
   pub base : ℕ
+  pub result : Ty
 
 module _ (k : Site) where
   abbrev pub at : Stand → Facts
@@ -117,7 +118,7 @@ module _ (k : Site) where
       (λ n. ap (λ b. is_gone r (if b then without h g else q ∷ without h g)) (ne_eqb q h n) ∙ ap (λ b. if q == r then true else b) rest)
       (cases_eq q h)
 
-  gone_without : (h r : ℕ) (g : Gone) → r ≢ h → is_gone r (without h g) ≡ is_gone r g
+  pub gone_without : (h r : ℕ) (g : Gone) → r ≢ h → is_gone r (without h g) ≡ is_gone r g
   gone_without h r [] ne = refl
   gone_without h r (q ∷ g) ne = other_gone h r q g ne (gone_without h r g ne)
 

@@ -1,5 +1,6 @@
 -- A function breaks no rule, where the walk goes through its code from its entry on.
 use Rattle.std.proofs.Common.{◌≡◌, ℕ, ◌+◌, ◌≤◌, List, [], ◌∷◌, ◌++◌, length, Option, Some, None, Bool, true, false, if◌then◌else◌, refl, sym, ap, ◌∙◌, subst, arith, append-nil}
+use Rattle.vale_rules_spec.specs.Types.{Ty}
 use Rattle.vale_model.specs.Parts.{Parts}
 use Rattle.vale_code.specs.Parts.{Parts as Code}
 use Rattle.vale_code.specs.declared.func.Func.{Func}
@@ -15,9 +16,9 @@ use Rattle.vale_object_facts.proofs.Covering.{Site, Covers}
 use Rattle.vale_object_facts.proofs.Labels.{rises, fits_each}
 use Rattle.vale_object_facts.proofs.Runs.{Arrives, Ready, Runs, Fits, stops, cut_end, numbered}
 
-module _ (p : Parts) (code : Code) (f : Func) (base : ℕ) (facts : FuncFacts) (all : Stands) (s : Stand) where
+module _ (p : Parts) (code : Code) (f : Func) (base : ℕ) (result : Ty) (facts : FuncFacts) (all : Stands) (s : Stand) where
   abbrev pub site : Site
-  site = record { parts = p; code = code; func = f; labels = facts.labels; base = base }
+  site = record { parts = p; code = code; func = f; labels = facts.labels; base = base; result = result }
 
   module _ (labels : facts.labels ≡ labels_from p f.body f.registers 0 all) (room : registers_in f.body ≤ f.registers) (runs : Runs site 0 f.body all s stops) where
     fits : Fits site 0 f.body all

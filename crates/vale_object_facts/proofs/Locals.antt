@@ -3,7 +3,8 @@ use Rattle.std.proofs.Common.{◌≡◌, ◌≢◌, ℕ, ◌+◌, ◌<◌, ◌�
 use Rattle.std.proofs.lemmas.Bool.{and_parts, and_from, cases_eq, eq-eqb, ne_eqb}
 use Rattle.vale_rules_spec.specs.Types.{Ty, Local, local_of}
 use Rattle.vale_rules_spec.specs.Types as y
-use Rattle.vale_rules_spec.specs.Typing.{Env}
+use Rattle.vale_syntax.specs.declared.tree.NameAt.{NameAt}
+use Rattle.vale_rules_spec.specs.Typing.{Env, with_local as env_with_local}
 use Rattle.vale_model.specs.Runs as model
 use Rattle.vale_code.specs.declared.instr.Instr.{Instr}
 use Rattle.vale_code.specs.declared.instr.Instr.TheVariants as i
@@ -13,7 +14,7 @@ use Rattle.vale_cert.specs.declared.facts.RegFact.TheVariants.{Empty, Held}
 use Rattle.vale_lowering_objects.specs.Lowered.{move_out, lend, lend_local, moved_out}
 use Rattle.vale_lowering_objects.specs.Program.{code_type}
 use Rattle.vale_lowering_objects.specs.Scopes.{Gives, copy, owner, gives_of, is_owner, Entry, entry, find, Gone, is_gone, without}
-use Rattle.vale_object_facts.specs.Slots.{Role, local, waits, at_hand, is_listed, list_slot, Slot, Slots, scope_of, scope_at, Stand, with_gone, holding, given, with_role, is_lost, slot_fact, fact_in}
+use Rattle.vale_object_facts.specs.Slots.{Role, local, waits, at_hand, is_listed, list_slot, Slot, Slots, scope_of, scope_at, Stand, with_gone, holding, given, with_role, with_local, is_lost, slot_fact, fact_in}
 use Rattle.vale_object_facts.proofs.Agreeing.{agrees_same}
 use Rattle.vale_object_facts.proofs.Covering.{Site, at, held, Covers, Says, Falls, falls_up, nothing_above, holding_here, holding_there, alike_facts, alike_without}
 use Rattle.vale_object_facts.proofs.Leaving.{Sits, owner_is}
@@ -102,6 +103,8 @@ module _ (k : Site) where
     pub falls : Falls k h s.slots
     pub sits : Sits s.depth s.slots
     pub depth : s.depth ≡ 0
+    pub level : env.depth ≡ s.depth
+    pub gives : env.gives ≡ k.result
 
   pub none_at : {env : Env} {h : ℕ} {s : Stand} (r : ℕ) → Stands env h s → h ≤ r → at k s r ≡ Empty
   none_at {h = h} {s} r st le = nothing_above k h s.slots s.gone r st.falls le
@@ -110,17 +113,27 @@ module _ (k : Site) where
   free_at r st le = ap is_free (none_at r st le)
 
   pub stands_up : {env : Env} {h : ℕ} {s : Stand} (j : ℕ) → h ≤ j → Stands env h s → Stands env j s
-  stands_up {h = h} {s} j le st = record { scope = st.scope; falls = falls_up k h j s.slots le st.falls; sits = st.sits; depth = st.depth }
+  stands_up {h = h} {s} j le st = record { scope = st.scope; falls = falls_up k h j s.slots le st.falls; sits = st.sits; depth = st.depth; level = st.level; gives = st.gives }
 
   pub stands_gone : {env : Env} {h : ℕ} {s : Stand} (g : Gone) → Stands env h s → Stands env h (with_gone g s)
-  stands_gone g st = record { scope = st.scope; falls = st.falls; sits = st.sits; depth = st.depth }
+  stands_gone g st = record { scope = st.scope; falls = st.falls; sits = st.sits; depth = st.depth; level = st.level; gives = st.gives }
 
   -- with a value at hand, which is no owner
   pub stands_holding : {env : Env} {h : ℕ} {s : Stand} (x : Ty) → y.is_owned x ≡ false → Stands env h s → Stands env (h + 1) (holding h x s)
-  stands_holding {h = h} {s} x e st = record { scope = st.scope; falls = (omega arith, st.falls); sits = (refl, ap not e, st.sits); depth = st.depth }
+  stands_holding {h = h} {s} x e st = record { scope = st.scope; falls = (omega arith, st.falls); sits = (refl, ap not e, st.sits); depth = st.depth; level = st.level; gives = st.gives }
 
   pub stands_waiting : {env : Env} {h : ℕ} {s : Stand} (x : Ty) → Stands env h s → Stands env (h + 1) (with_role waits h x s)
-  stands_waiting {h = h} {s} x st = record { scope = st.scope; falls = (omega arith, st.falls); sits = (refl, refl, st.sits); depth = st.depth }
+  stands_waiting {h = h} {s} x st = record { scope = st.scope; falls = (omega arith, st.falls); sits = (refl, refl, st.sits); depth = st.depth; level = st.level; gives = st.gives }
+
+  pub stands_local : {env : Env} {h : ℕ} {s : Stand} (n : NameAt) (x : Ty) (g : Gone) → Stands env h s → Stands (env_with_local n x env) (h + 1) (with_local n.name.0 h x (with_gone g s))
+  stands_local {env} {h} {s} n x g st = record {
+    scope = ap (λ d. record { name = n.name.0; ty = x; depth = d } ∷ env.scope) st.level ∙ ap (λ ls. record { name = n.name.0; ty = x; depth = s.depth } ∷ ls) st.scope;
+    falls = (omega arith, st.falls);
+    sits = (refl, refl, st.sits);
+    depth = st.depth;
+    level = st.level;
+    gives = st.gives;
+  }
 
   -- ---- a local is used
 
@@ -178,3 +191,34 @@ module _ (k : Site) where
             none : (b : Bool) → (b && false) ≡ false
             none true = refl
             none false = refl
+
+    -- a reference to what an owner leads to
+    pub lend_runs : {p : ℕ} (v : y.View) → Clean (lend_local (find n (scope_at s)) s.gone v h) → y.is_owner x ≡ true → y.is_frozen v ≡ false → Runs k p (lend_local (find n (scope_at s)) s.gone v h) (s ∷ []) s (falls (holding h (y.ref x) s))
+    lend_runs {p} v clean o shared =
+        subst (λ f. Clean (lend_local f s.gone v h) → Runs k p (lend_local f s.gone v h) (s ∷ []) s (falls (holding h (y.ref x) s))) (sym nm.found)
+        (λ c. by (is_owner (gives_of nm.slot.ty)) (is_gone reg s.gone) (owner_is nm.slot.ty ∙ ap y.is_owned nm.typed ∙ owner_owned x o) refl c) clean
+      where
+        owner_owned : (z : Ty) → y.is_owner z ≡ true → y.is_owned z ≡ true
+        owner_owned (y.kind m) e = refl
+        owner_owned (y.array z) e = refl
+        owner_owned y.void e = absurd (cc)
+        owner_owned y.int e = absurd (cc)
+        owner_owned y.bool e = absurd (cc)
+        owner_owned y.str e = absurd (cc)
+        owner_owned (y.ref z) e = absurd (cc)
+        owner_owned (y.imm z) e = absurd (cc)
+        owner_owned (y.iso z) e = absurd (cc)
+
+        none : (b : Bool) → (b && false) ≡ false
+        none true = refl
+        none false = refl
+
+        borrowed : is_gone reg s.gone ≡ false → Runs k p (i.Borrow h reg ∷ []) (s ∷ []) s (falls (holding h (y.ref x) s))
+        borrowed e =
+            lends_run k h reg x (holds (ap (λ b. is_listed nm.slot.role && y.is_owned nm.slot.ty && b) e ∙ none (is_listed nm.slot.role && y.is_owned nm.slot.ty))) o (free_at h st (omega arith)) refl (beside_same k h s)
+
+        by : (owned gone : Bool) → owned ≡ true → is_gone reg s.gone ≡ gone → Clean (if owned then (if gone then i.Truth h 2 ∷ [] else lend v h reg ∷ []) else i.Copy h reg ∷ [])
+            → Runs k p (if owned then (if gone then i.Truth h 2 ∷ [] else lend v h reg ∷ []) else i.Copy h reg ∷ []) (s ∷ []) s (falls (holding h (y.ref x) s))
+        by false gone o g c = absurd (cc)
+        by true true o g c = absurd (cc)
+        by true false o g c = subst (λ b. Runs k p ((if b then i.Frozen h reg else i.Borrow h reg) ∷ []) (s ∷ []) s (falls (holding h (y.ref x) s))) (sym shared) (borrowed g)

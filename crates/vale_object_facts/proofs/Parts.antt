@@ -302,5 +302,5 @@ module _ (k : Site) where
         (says_then k (says_less k h t (none_at k h (stands_gone k g st) (omega arith)) (ap (λ z. is_free (held k z s.depth)) is)) (says_back g back)))
         (says_still s)
     turns_go (never g) after p test body tm bm is back body_back clean run_test run_body =
-        subst (λ e. Runs k p (then_code p (h + 1) (test p) (never g) (λ place g. body place)) (then_stands (h + 1) tm (never g) (λ g. s) (λ g. bm) (λ g. after) (λ g. with_gone g s)) s e) (ending_none after (λ g. with_gone g s))
+        subst (λ e. Runs k p (then_code p (h + 1) (test p) (never g) (λ place g. body place)) (then_stands (h + 1) tm (never g) (λ g. s) (λ g. bm) (λ g. after) (λ g. with_gone g s)) s e) (ending_none k after (λ g. with_gone g s))
         (then_runs k (never g) p (h + 1) (test p) tm (λ place g. body place) (λ g. s) (λ g. bm) (λ g. after) (λ g. with_gone g s) s clean (λ c. run_test p c) (λ g q c. run_body q c) (λ g. none_at k (h + 1) st (omega arith)))

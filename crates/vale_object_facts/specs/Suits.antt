@@ -1,15 +1,30 @@
 -- What the certificate needs of a typed program: the types of its parts fit. What the law doesn't speak of yet suits nothing.
-use Rattle.std.specs.Prelude.{◌≡◌, ℕ, true, false, List, [], ◌∷◌, Some, slice_get}
+use Rattle.std.specs.Prelude.{◌≡◌, ℕ, true, false, List, [], ◌∷◌, Bool, Some, slice_get, nat_lt}
+use Rattle.std.specs.List.{list_all}
 use Rattle.vale_syntax.specs.declared.built_in.BuiltIn.{BuiltIn}
 use Rattle.vale_syntax.specs.declared.built_in.BuiltIn.TheVariants as b
 use Rattle.vale_syntax.specs.declared.tree.NameAt.{NameAt}
 use Rattle.vale_syntax.specs.declared.tree.UnaryOp.{UnaryOp}
 use Rattle.vale_syntax.specs.declared.tree.UnaryOp.TheVariants as unary_op
 use Rattle.vale_rules_spec.specs.TypeRules.{takes_operands, link_gives}
-use Rattle.vale_rules_spec.specs.Types.{Ty, void, int, bool, str, ref, is_void, is_owner, is_copy, Local, local_of}
+use Rattle.vale_rules_spec.specs.Types.{Ty, void, int, bool, str, ref, is_owner, is_copy, is_frozen, Local, local_of}
 use Rattle.vale_rules_spec.specs.Typed.{Callee, built_in, Expr, expr, Node, set, chain, unary, steps, number, quote, truth, name, call, paren, array, iso, form, Exprs, no_exprs, more_exprs, link, Links, no_links, more_links, Form, branch, pure, parallel_range, parallel_each, else_if, Elses, no_else, otherwise, more_elses, Block, block, Stmt, declare, destructure, return_nothing, return_value, while, foreach, form_stmt, express, Stmts, no_stmts, last, more_stmts, type, types}
 use Rattle.vale_rules_spec.specs.Typing.{Env, with_local, after}
+use Rattle.vale_code.specs.declared.instr.Instr.{Instr}
+use Rattle.vale_code.specs.declared.instr.Instr.TheVariants as i
 use Rattle.vale_lowering.specs.Scopes.{number_of_text}
+
+-- ---- code without instructions that no step follows
+
+abbrev pub is_sure : Instr → Bool
+is_sure (i.Truth to n) = nat_lt n 2
+is_sure _ = true
+
+-- as the code is of a program that keeps the rules of types and ownership
+abbrev pub Sure : List Instr → Type 0
+Sure cs = list_all is_sure cs ≡ true
+
+-- ---- types that fit
 
 -- a name is that of a local of this type, of the depth at hand
 pub record IsLocal (env : Env) (n : NameAt) (ty : Ty) : Type 0 where
@@ -35,7 +50,7 @@ place_suits env (expr y node) t = ⊥
 
 -- a place that is lent
 abbrev pub lent_suits : Env → Expr → Ty → Type 0
-lent_suits env (expr y (name n is_outer false)) x = (z : Ty) × IsLocal env n z × (is_owner z ≡ true) × (x ≡ ref z)
+lent_suits env (expr y (name n is_outer false)) x = (z : Ty) × IsLocal env n z × (is_owner z ≡ true) × (is_frozen y.view ≡ false) × (x ≡ ref z)
 lent_suits env (expr y node) x = ⊥
 
 -- where the code has these texts
