@@ -79,7 +79,7 @@ module _ (k : Site) (c : Context k) (f : Function) (gives : head_gives (head_of 
   start = entry_stand f
 
   below : Falls k count start.slots
-  below = params_fall k (head_params (head_of f)) 0 [] tt
+  below = falls_up k (0 + count) count start.slots (omega arith) (params_fall k (head_params (head_of f)) 0 [] tt)
 
   starts : Stands k (env_entry (head_of f)) (count + 1) start
   starts = record {

@@ -1,4 +1,5 @@
 mod Agreeing
+pub mod Bodies
 mod Covering
 mod Entries
 mod Examples
@@ -14,5 +15,7 @@ mod Rows
 mod Runs
 mod Scopes
 mod Sets
+mod Tree
 mod Turns
+mod Waits
 mod Ways

@@ -37,7 +37,7 @@ use Rattle.vale_object_facts.specs.Suits.{IsLocal, expr_suits, node_suits, links
 use Rattle.vale_object_facts.proofs.Agreeing.{agrees_same}
 use Rattle.vale_object_facts.proofs.Covering.{Site, at, held, Says, says_same, says_then, says_holding, says_given, says_role, nothing_above, holding_here, holding_there}
 use Rattle.vale_object_facts.proofs.Leaving.{leaves_with, leaves}
-use Rattle.vale_object_facts.proofs.Locals.{Named, named, Stands, none_at, free_at, stands_up, stands_gone, stands_holding, stands_local, move_runs, load_runs, reg, below, holds}
+use Rattle.vale_object_facts.proofs.Locals.{Named, named, Stands, none_at, free_at, stands_up, stands_gone, stands_holding, stands_local, move_runs, load_runs, lend_runs}
 use Rattle.vale_object_facts.proofs.Operators.{operands_plain, not_runs, minus_runs}
 use Rattle.vale_object_facts.proofs.Parts.{value_some, copy_value, copy_of, owner_of, owned_some, agree_is, agree_self, chosen, as_given, as_value, says_still, next_free, link_runs, sides_go, turns_go}
 use Rattle.vale_object_facts.proofs.Rows.{int_runs, truth_runs, text_runs}
@@ -54,7 +54,7 @@ pub record Context (k : Site) : Type 0 where
   pub sort : around.gives ≡ gives_of k.result
   pub typed : k.func.result ≡ code_type k.parts k.result
 
-void_of : (x : Ty) → gives_of x ≡ void → x ≡ y.void
+pub void_of : (x : Ty) → gives_of x ≡ void → x ≡ y.void
 void_of y.void e = refl
 void_of y.int e = absurd (cc)
 void_of y.bool e = absurd (cc)
@@ -223,7 +223,22 @@ module _ (k : Site) (c : Context k) where
         subst (λ t. Runs k q (unary_code unary_op.Not at h) (unary_stands unary_op.Not t h (with_gone g s)) (holding h t (with_gone g s)) (falls (holding h x (with_gone g s)))) (sym suits.0)
         (subst (λ t. Runs k q (unary_code unary_op.Not at h) (unary_stands unary_op.Not y.bool h (with_gone g s)) (holding h y.bool (with_gone g s)) (falls (holding h t (with_gone g s)))) (sym suits.1)
         (not_runs k env h (with_gone g s) (stands_gone k g st)))))
-    node_runs env (unary at unary_op.Borrow e1) x q p h s e st suits clean = absurd suits
+    node_runs env (unary at unary_op.Borrow (expr z (name n is_outer false))) x q p h s e st suits clean =
+        chosen k (agree q copy) h clean
+        (λ t cl. leaf h x (y.ref suits.0) refl suits.4 (lend_runs k st (local_named st suits.1) z.view cl suits.2 suits.3))
+    node_runs env (unary at unary_op.Borrow (expr z (name n is_outer true))) x q p h s e st suits clean = absurd suits
+    node_runs env (unary at unary_op.Borrow (expr z (set at2 u v))) x q p h s e st suits clean = absurd suits
+    node_runs env (unary at unary_op.Borrow (expr z (chain u ls))) x q p h s e st suits clean = absurd suits
+    node_runs env (unary at unary_op.Borrow (expr z (unary at2 o u))) x q p h s e st suits clean = absurd suits
+    node_runs env (unary at unary_op.Borrow (expr z (steps u ss))) x q p h s e st suits clean = absurd suits
+    node_runs env (unary at unary_op.Borrow (expr z (number at2 n))) x q p h s e st suits clean = absurd suits
+    node_runs env (unary at unary_op.Borrow (expr z (quote at2 text))) x q p h s e st suits clean = absurd suits
+    node_runs env (unary at unary_op.Borrow (expr z (truth at2 v))) x q p h s e st suits clean = absurd suits
+    node_runs env (unary at unary_op.Borrow (expr z (call n f es))) x q p h s e st suits clean = absurd suits
+    node_runs env (unary at unary_op.Borrow (expr z (paren at2 u))) x q p h s e st suits clean = absurd suits
+    node_runs env (unary at unary_op.Borrow (expr z (array at2 w es))) x q p h s e st suits clean = absurd suits
+    node_runs env (unary at unary_op.Borrow (expr z (iso at2 bl))) x q p h s e st suits clean = absurd suits
+    node_runs env (unary at unary_op.Borrow (expr z (form f))) x q p h s e st suits clean = absurd suits
     node_runs env (unary at unary_op.Merge e1) x q p h s e st suits clean = absurd suits
     node_runs env (set at (expr z (name n is_outer moved)) e1) x q p h s e st suits clean =
         chosen k (is_value (gives_of (type e1)) && agree q (gives_of (type e1))) h clean

@@ -18,6 +18,7 @@ use Rattle.vale_lowering.specs.Instructions.{stuck, only_if}
 use Rattle.vale_lowering_objects.specs.Lowered.{dead_code, then_code, if_comes, jump_over}
 use Rattle.vale_lowering_objects.specs.Scopes.{Gone, After, comes, never, no_run, then_after, met}
 use Rattle.vale_object_facts.specs.Slots.{Stand, holding}
+use Rattle.vale_object_facts.specs.Suits.{is_sure, Sure}
 use Rattle.vale_object_facts.specs.Stands.{Stands, gone_of, dead_stands, then_stands, comes_stands, jump_stands}
 use Rattle.vale_object_facts.proofs.Agreeing.{hold_put, hold_less, hold_free, put, agrees_same, held_agrees}
 use Rattle.vale_object_facts.proofs.Covering.{Site, at, Covers, Says, says_same, says_less, holding_here}
@@ -25,15 +26,11 @@ use Rattle.vale_object_facts.proofs.Runs.{Ready, Cut, End, falls, stops, ending,
 
 -- ---- code without instructions that no step follows
 
-abbrev pub is_clean : Instr → Bool
-is_clean (i.Truth to n) = nat_lt n 2
-is_clean _ = true
-
 abbrev pub Clean : List Instr → Type 0
-Clean cs = list_all is_clean cs ≡ true
+Clean cs = Sure cs
 
 pub clean_both : (a b : List Instr) → Clean (a ++ b) → Clean a × Clean b
-clean_both a b c = and_parts (list_all is_clean a) (list_all is_clean b) (sym (list_all-append is_clean a b) ∙ c)
+clean_both a b c = and_parts (list_all is_sure a) (list_all is_sure b) (sym (list_all-append is_sure a b) ∙ c)
 
 pub clean_only : (b : Bool) (h : ℕ) (cs : List Instr) → Clean (only_if b h cs) → (b ≡ true) × Clean cs
 clean_only true h cs c = (refl, c)
