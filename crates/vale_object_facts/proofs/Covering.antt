@@ -16,6 +16,32 @@ use Rattle.vale_lowering_objects.specs.Scopes.{Scope, Gone, gives_of, is_gone, w
 use Rattle.vale_object_facts.specs.Slots.{Role, at_hand, is_listed, list_slot, Slot, Slots, scope_of, Stand, with_gone, holding, given, with_role, is_lost, slot_fact, fact_in, fact_at, facts_from, label_for}
 use Rattle.vale_object_facts.proofs.Agreeing.{agrees_same, agrees_through, Facts, put, put_here, put_there, Hold, hold_less, hold_put, hold_at, hold_free}
 
+-- ---- what is gone
+
+other_gone : (h r q : ℕ) (g : Gone) → r ≢ h → is_gone r (without h g) ≡ is_gone r g → is_gone r (without h (q ∷ g)) ≡ is_gone r (q ∷ g)
+other_gone h r q g ne rest =
+    ⊎_elim
+    (λ e.
+    ap (λ b. is_gone r (if b then without h g else q ∷ without h g)) (eq-eqb q h e) ∙ rest
+    ∙ sym (ap (λ b. if b then true else is_gone r g) (ne_eqb q r (λ z. ne (sym z ∙ e)))))
+    (λ n. ap (λ b. is_gone r (if b then without h g else q ∷ without h g)) (ne_eqb q h n) ∙ ap (λ b. if q == r then true else b) rest)
+    (cases_eq q h)
+
+pub gone_without : (h r : ℕ) (g : Gone) → r ≢ h → is_gone r (without h g) ≡ is_gone r g
+gone_without h r [] ne = refl
+gone_without h r (q ∷ g) ne = other_gone h r q g ne (gone_without h r g ne)
+
+none_gone : (h q : ℕ) (g : Gone) → is_gone h (without h g) ≡ false → is_gone h (without h (q ∷ g)) ≡ false
+none_gone h q g rest =
+    ⊎_elim
+    (λ e. ap (λ b. is_gone h (if b then without h g else q ∷ without h g)) (eq-eqb q h e) ∙ rest)
+    (λ n. ap (λ b. is_gone h (if b then without h g else q ∷ without h g)) (ne_eqb q h n) ∙ ap (λ b. if b then true else is_gone h (without h g)) (ne_eqb q h n) ∙ rest)
+    (cases_eq q h)
+
+pub not_gone : (h : ℕ) (g : Gone) → is_gone h (without h g) ≡ false
+not_gone h [] = refl
+not_gone h (q ∷ g) = none_gone h q g (not_gone h g)
+
 -- a function of a code with its labels, the number of its first instruction, and what it gives
 pub record Site : Type 0 where
   pub parts : Parts
@@ -108,30 +134,6 @@ module _ (k : Site) where
       ∙ nothing_above x.register xs g r f.1 (omega (arith, lt, le))
 
   -- ---- what is gone
-
-  other_gone : (h r q : ℕ) (g : Gone) → r ≢ h → is_gone r (without h g) ≡ is_gone r g → is_gone r (without h (q ∷ g)) ≡ is_gone r (q ∷ g)
-  other_gone h r q g ne rest =
-      ⊎_elim
-      (λ e.
-      ap (λ b. is_gone r (if b then without h g else q ∷ without h g)) (eq-eqb q h e) ∙ rest
-      ∙ sym (ap (λ b. if b then true else is_gone r g) (ne_eqb q r (λ z. ne (sym z ∙ e)))))
-      (λ n. ap (λ b. is_gone r (if b then without h g else q ∷ without h g)) (ne_eqb q h n) ∙ ap (λ b. if q == r then true else b) rest)
-      (cases_eq q h)
-
-  pub gone_without : (h r : ℕ) (g : Gone) → r ≢ h → is_gone r (without h g) ≡ is_gone r g
-  gone_without h r [] ne = refl
-  gone_without h r (q ∷ g) ne = other_gone h r q g ne (gone_without h r g ne)
-
-  none_gone : (h q : ℕ) (g : Gone) → is_gone h (without h g) ≡ false → is_gone h (without h (q ∷ g)) ≡ false
-  none_gone h q g rest =
-      ⊎_elim
-      (λ e. ap (λ b. is_gone h (if b then without h g else q ∷ without h g)) (eq-eqb q h e) ∙ rest)
-      (λ n. ap (λ b. is_gone h (if b then without h g else q ∷ without h g)) (ne_eqb q h n) ∙ ap (λ b. if b then true else is_gone h (without h g)) (ne_eqb q h n) ∙ rest)
-      (cases_eq q h)
-
-  pub not_gone : (h : ℕ) (g : Gone) → is_gone h (without h g) ≡ false
-  not_gone h [] = refl
-  not_gone h (q ∷ g) = none_gone h q g (not_gone h g)
 
   -- slots say the same where the same of their registers are gone
   abbrev pub Alike : Slots → Gone → Gone → Type 0

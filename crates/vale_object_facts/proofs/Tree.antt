@@ -35,7 +35,7 @@ use Rattle.vale_object_facts.specs.Slots.{local, Stand, scope_at, with_gone, hol
 use Rattle.vale_object_facts.specs.Stands.{Stands as Marks, then_stands, comes_stands, sides_stands, hand_stands, drop_stands, store_stands, drop_local, leave_stands, form_stands, elses_stands, block_stands, stmts_stands, stmt_stands, unary_stands, expr_stands, node_stands, links_stands, link_stands, place_stands, exchange_stands}
 use Rattle.vale_object_facts.specs.Suits.{IsLocal, expr_suits, node_suits, links_suit, place_suits, lent_suits, form_suits, elses_suit, block_suits, stmts_suit, stmt_suits}
 use Rattle.vale_object_facts.proofs.Agreeing.{agrees_same}
-use Rattle.vale_object_facts.proofs.Covering.{Site, at, held, Says, says_same, says_then, says_holding, says_given, says_role, nothing_above, holding_here, holding_there}
+use Rattle.vale_object_facts.proofs.Covering.{Site, at as says_at, held, Says, says_same, says_then, says_holding, says_given, says_role, nothing_above, holding_here, holding_there}
 use Rattle.vale_object_facts.proofs.Leaving.{leaves_with, leaves}
 use Rattle.vale_object_facts.proofs.Locals.{Named, named, Stands, none_at, free_at, stands_up, stands_gone, stands_holding, stands_local, move_runs, load_runs, lend_runs}
 use Rattle.vale_object_facts.proofs.Operators.{operands_plain, not_runs, minus_runs}
@@ -137,7 +137,7 @@ module _ (k : Site) (c : Context k) where
       (then_runs k (expr_after e h (scope_at s) s.gone) p (h + 1) (expr_code a e p h (scope_at s) s.gone) (expr_stands e h s) (λ place g. code g) (λ g. holding h (type e) (with_gone g s)) ms (λ g. comes g) (λ g. holding h x (with_gone g s)) s clean value (λ g q c. rest g q)
       (λ g. next_free k (type e) st g)))
 
-  local_free : {env : Env} {h : ℕ} {s : Stand} (n : ℕ) (x : Ty) → Stands k env h s → (g : Gone) → at k (with_local n h x (with_gone g s)) (h + 1) ≡ Empty
+  local_free : {env : Env} {h : ℕ} {s : Stand} (n : ℕ) (x : Ty) → Stands k env h s → (g : Gone) → says_at k (with_local n h x (with_gone g s)) (h + 1) ≡ Empty
   local_free {h = h} {s} n x st g =
       ap (λ b. if b then slot_fact k.parts (record { role = local n; register = h; ty = x; depth = s.depth }) (without h g) else fact_in k.parts s.slots (without h g) (h + 1)) (ne_eqb h (h + 1) (omega arith))
       ∙ nothing_above k h s.slots (without h g) (h + 1) st.falls (omega arith)
@@ -359,11 +359,11 @@ module _ (k : Site) (c : Context k) where
         (λ g. with_local n.name.0 h z (with_gone g s))
         (λ g. comes_stands (stmts_stands x ss to (h + 1) (with_local n.name.0 h z (with_gone g s))) (stmts_after ss (h + 1) (entry n.name.0 h (gives_of z) ∷ scope_at s) (without h g)) (λ g. drop_local z h (given to x (with_gone g (with_local n.name.0 h z s)))))
         (λ g. stmts_after ss (h + 1) (entry n.name.0 h (gives_of z) ∷ scope_at s) (without h g)) (λ g. given to x (with_gone g s)) s c
-        (λ c. ends_less k (expr_after e1 h (scope_at s) s.gone) (λ g. subst (λ w. Says k (holding h (type e1) (with_gone g s)) (with_local n.name.0 h w (with_gone g s))) (sym suits.0) (says_role k (local n.name.0) h (type e1) st.falls)) (value_runs env e1 p h s some.0 st suits.1 c))
+        (λ c. ends_less k (expr_after e1 h (scope_at s) s.gone) (λ g. subst (λ w. Says k (holding h (type e1) (with_gone g s)) (with_local n.name.0 h w (with_gone g s))) (sym suits.0.0) (says_role k (local n.name.0) h (type e1) st.falls)) (value_runs env e1 p h s some.0 st suits.0.1 c))
         (λ g r c.
         comes_runs k (stmts_after ss (h + 1) (entry n.name.0 h (gives_of z) ∷ scope_at s) (without h g)) r (stmts_code a q end ss r to (h + 1) (entry n.name.0 h (gives_of z) ∷ scope_at s) (without h g)) (stmts_stands x ss to (h + 1) (with_local n.name.0 h z (with_gone g s)))
         (λ place g. drop_entry (entry n.name.0 h (gives_of z)) g end) (λ g. given to x (with_gone g (with_local n.name.0 h z s))) (λ g. drop_local z h (given to x (with_gone g (with_local n.name.0 h z s)))) (λ g. given to x (with_gone g s)) (with_local n.name.0 h z (with_gone g s)) c
-        (λ c. stmts_run (env_with_local n z env) ss x q end r to (h + 1) (with_local n.name.0 h z (with_gone g s)) e (omega (arith, lt)) (fresh_slot k to (with_gone g s) n.name.0 h z (omega (arith, lt)) fresh) (stands_local k n z g st) suits.2 c)
+        (λ c. stmts_run (env_with_local n z env) ss x q end r to (h + 1) (with_local n.name.0 h z (with_gone g s)) e (omega (arith, lt)) (fresh_slot k to (with_gone g s) n.name.0 h z (omega (arith, lt)) fresh) (stands_local k n z g st) suits.1 c)
         (λ g r c. scope_ends k env h s st n.name.0 z g to lt x end))
         (λ g. local_free n.name.0 z st g))
     stmts_run env (more_stmts (destructure at ns zs e1) ss) x q end p to h s e lt fresh st suits clean = absurd suits.0

@@ -69,6 +69,21 @@ module _ (r : ℕ) where
   locals_keep (n ∷ ns) [] h s g f lt u k = k h s g lt u
   locals_keep (n ∷ ns) (q ∷ qs) h s g f lt u k = locals_keep ns qs (h + 1) (entry n h q ∷ s) (without h g) f (omega (arith, lt)) (unnamed_push (entry n h q) s (away h lt) u) k ∙ dropped h g lt
 
+  link_keeps : (o : BinaryOp) (h : ℕ) (g : Gone) (f : ℕ → Gone → After) → Keeps g (f (h + 1) g) → Keeps g (link_after o f h g)
+  link_keeps op.Or h g f e = refl
+  link_keeps op.And h g f e = refl
+  link_keeps op.Equal h g f e = e
+  link_keeps op.NotEqual h g f e = e
+  link_keeps op.Less h g f e = e
+  link_keeps op.LessEqual h g f e = e
+  link_keeps op.Greater h g f e = e
+  link_keeps op.GreaterEqual h g f e = e
+  link_keeps op.Add h g f e = e
+  link_keeps op.Sub h g f e = e
+  link_keeps op.Mul h g f e = e
+  link_keeps op.Div h g f e = e
+  link_keeps op.Rem h g f e = e
+
   mutual
     pub expr_keeps : (e : Expr) (h : ℕ) (s : Scope) (g : Gone) → r < h → Unnamed s → Keeps g (expr_after e h s g)
     expr_keeps (expr x node) h s g lt u = node_keeps node h s g lt u
@@ -156,22 +171,7 @@ module _ (r : ℕ) where
     links_keep : (ls : Links) (h : ℕ) (s : Scope) (g : Gone) → r < h → Unnamed s → Keeps g (links_after ls h s g)
     links_keep no_links h s g lt u = refl
     links_keep (more_links (link x at o e) ls) h s g lt u =
-        then_keeps g (link_after o (λ h g. expr_after e h s g) h g) (λ g. links_after ls h s g) (link_keeps o e h s g lt u) (λ c e'. links_keep ls h s c lt u ∙ e')
-
-    link_keeps : (o : BinaryOp) (e : Expr) (h : ℕ) (s : Scope) (g : Gone) → r < h → Unnamed s → Keeps g (link_after o (λ h g. expr_after e h s g) h g)
-    link_keeps op.Or e h s g lt u = refl
-    link_keeps op.And e h s g lt u = refl
-    link_keeps op.Equal e h s g lt u = expr_keeps e (h + 1) s g (omega (arith, lt)) u
-    link_keeps op.NotEqual e h s g lt u = expr_keeps e (h + 1) s g (omega (arith, lt)) u
-    link_keeps op.Less e h s g lt u = expr_keeps e (h + 1) s g (omega (arith, lt)) u
-    link_keeps op.LessEqual e h s g lt u = expr_keeps e (h + 1) s g (omega (arith, lt)) u
-    link_keeps op.Greater e h s g lt u = expr_keeps e (h + 1) s g (omega (arith, lt)) u
-    link_keeps op.GreaterEqual e h s g lt u = expr_keeps e (h + 1) s g (omega (arith, lt)) u
-    link_keeps op.Add e h s g lt u = expr_keeps e (h + 1) s g (omega (arith, lt)) u
-    link_keeps op.Sub e h s g lt u = expr_keeps e (h + 1) s g (omega (arith, lt)) u
-    link_keeps op.Mul e h s g lt u = expr_keeps e (h + 1) s g (omega (arith, lt)) u
-    link_keeps op.Div e h s g lt u = expr_keeps e (h + 1) s g (omega (arith, lt)) u
-    link_keeps op.Rem e h s g lt u = expr_keeps e (h + 1) s g (omega (arith, lt)) u
+        then_keeps g (link_after o (λ h g. expr_after e h s g) h g) (λ g. links_after ls h s g) (link_keeps o h g (λ h g. expr_after e h s g) (expr_keeps e (h + 1) s g (omega (arith, lt)) u)) (λ c e'. links_keep ls h s c lt u ∙ e')
 
     form_keeps : (f : Form) (h : ℕ) (s : Scope) (g : Gone) → r < h → Unnamed s → Keeps g (form_after f h s g)
     form_keeps (branch at c b es) h s g lt u =

@@ -71,7 +71,7 @@ module _ (texts : List (List ℕ)) where
     node_suits env x (unary at unary_op.Borrow e) = lent_suits env e x
     node_suits env x (unary at unary_op.Merge e) = ⊥
     node_suits env x (set at p e) = place_suits env p (type e) × (x ≡ type e) × expr_suits env e
-    node_suits env x (call n f es) = callee_suits f (types es) x × exprs_suit env es
+    node_suits env x (call n f es) = ⊥
     node_suits env x (form f) = form_suits env x f
     node_suits env x (steps e ss) = ⊥
     node_suits env x (array at y es) = ⊥
@@ -111,6 +111,6 @@ module _ (texts : List (List ℕ)) where
     stmt_suits env (return_nothing at) = env.gives ≡ void
     stmt_suits env (return_value at e) = (type e ≡ env.gives) × expr_suits env e
     stmt_suits env (while at c b) = (type c ≡ bool) × expr_suits env c × block_suits env void b
-    stmt_suits env (foreach at n a e b) = (type a ≡ int) × (type e ≡ int) × expr_suits env a × expr_suits env e × block_suits (with_local n int env) void b
+    stmt_suits env (foreach at n a e b) = ⊥
     stmt_suits env (form_stmt f) = form_suits env void f
     stmt_suits env (express e) = expr_suits env e
