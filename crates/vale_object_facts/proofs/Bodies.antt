@@ -130,7 +130,7 @@ module _ (p : Parts) (code : Code) (fs : List Function) (f : Function) (base : â
   abbrev place : Site
   place = site p code func base (result_type f) (facts_for p f func) (body_stands f) (entry_stand f)
 
-  around : Context place
+  abbrev around : Context place
   around = record { around = record { parts = p; texts = code.texts; functions = fs; gives = result_gives f }; parts = refl; texts = refl; sort = refl; typed = refl }
 
   few : length func.params â‰¤ func.registers
