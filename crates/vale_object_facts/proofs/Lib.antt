@@ -1,5 +1,7 @@
 mod Agreeing
+mod Arguments
 pub mod Bodies
+mod Callees
 mod Covering
 mod Entries
 mod Examples

@@ -28,22 +28,24 @@ use Rattle.vale_cert.specs.declared.facts.RegFact.TheVariants.{Empty, Held}
 use Rattle.vale_lowering.specs.Instructions.{only_if, unary_code}
 use Rattle.vale_lowering.specs.Scopes.{number_of_text}
 use Rattle.vale_lowering.specs.Texts.{is_lawful_text}
-use Rattle.vale_lowering_objects.specs.Lowered.{then_code, if_comes, sides, turns_code, hand, drop_value, store, drop_entry, drop_scope, form_code, elses_code, block_code, stmts_code, stmt_code, form_after, elses_after, block_after, stmts_after, stmt_after, move_out, lend_local, moved_out, truth_number, expr_code, node_code, links_code, link_code, link_after, place_code, exchange, expr_after, node_after, links_after, place_after}
-use Rattle.vale_lowering_objects.specs.Scopes.{Gives, void, copy, owner, gives_of, is_value, agree, entry, find, Gone, without, After, comes, never, then_after, met, may_meet, closes, Around}
+use Rattle.vale_lowering_objects.specs.Lowered.{then_code, if_comes, args_code, args_after, callee_code, gives_list, first_type, sides, turns_code, hand, drop_value, store, drop_entry, drop_scope, form_code, elses_code, block_code, stmts_code, stmt_code, form_after, elses_after, block_after, stmts_after, stmt_after, move_out, lend_local, moved_out, truth_number, expr_code, node_code, links_code, link_code, link_after, place_code, exchange, expr_after, node_after, links_after, place_after}
+use Rattle.vale_lowering_objects.specs.Scopes.{Gives, void, copy, owner, gives_of, is_value, agree, entry, waiting, find, Gone, without, After, comes, never, then_after, met, may_meet, closes, Around}
 use Rattle.vale_lowering_objects.specs.Program.{code_type}
-use Rattle.vale_object_facts.specs.Slots.{local, Stand, scope_at, with_gone, holding, given, with_local, slot_fact, fact_in}
-use Rattle.vale_object_facts.specs.Stands.{Stands as Marks, then_stands, comes_stands, sides_stands, hand_stands, drop_stands, store_stands, drop_local, leave_stands, form_stands, elses_stands, block_stands, stmts_stands, stmt_stands, unary_stands, expr_stands, node_stands, links_stands, link_stands, place_stands, exchange_stands}
-use Rattle.vale_object_facts.specs.Suits.{IsLocal, expr_suits, node_suits, links_suit, place_suits, lent_suits, form_suits, elses_suit, block_suits, stmts_suit, stmt_suits}
+use Rattle.vale_object_facts.specs.Slots.{local, waits, Stand, scope_at, with_gone, holding, given, with_local, with_waiting, slot_fact, fact_in}
+use Rattle.vale_object_facts.specs.Stands.{Stands as Marks, with_args, args_stands, then_stands, comes_stands, sides_stands, hand_stands, drop_stands, store_stands, drop_local, leave_stands, form_stands, elses_stands, block_stands, stmts_stands, stmt_stands, unary_stands, expr_stands, node_stands, links_stands, link_stands, place_stands, exchange_stands}
+use Rattle.vale_object_facts.specs.Suits.{IsLocal, exprs_suit, expr_suits, node_suits, links_suit, place_suits, lent_suits, form_suits, elses_suit, block_suits, stmts_suit, stmt_suits}
 use Rattle.vale_object_facts.proofs.Agreeing.{agrees_same}
+use Rattle.vale_object_facts.proofs.Arguments.{args_gone, args_fall, args_wait}
+use Rattle.vale_object_facts.proofs.Callees.{callee_runs}
 use Rattle.vale_object_facts.proofs.Covering.{Site, at as says_at, held, Says, says_same, says_then, says_holding, says_given, says_role, nothing_above, holding_here, holding_there}
 use Rattle.vale_object_facts.proofs.Leaving.{leaves_with, leaves}
-use Rattle.vale_object_facts.proofs.Locals.{Named, named, Stands, none_at, free_at, stands_up, stands_gone, stands_holding, stands_local, move_runs, load_runs, lend_runs}
+use Rattle.vale_object_facts.proofs.Locals.{Named, named, Stands, none_at, free_at, stands_up, stands_gone, stands_holding, stands_waiting, stands_local, move_runs, load_runs, lend_runs}
 use Rattle.vale_object_facts.proofs.Operators.{operands_plain, not_runs, minus_runs}
 use Rattle.vale_object_facts.proofs.Parts.{value_some, copy_value, copy_of, owner_of, owned_some, agree_is, agree_self, chosen, as_given, as_value, says_still, next_free, link_runs, sides_go, turns_go}
 use Rattle.vale_object_facts.proofs.Rows.{int_runs, truth_runs, text_runs}
 use Rattle.vale_object_facts.proofs.Runs.{End, falls, stops, ending, Runs, runs_less, runs_from, ends_less, nothing, both}
 use Rattle.vale_object_facts.proofs.Sets.{exchange_runs, store_runs}
-use Rattle.vale_object_facts.proofs.Ways.{Clean, clean_both, then_runs, comes_runs, comes_stops, ending_none}
+use Rattle.vale_object_facts.proofs.Ways.{Clean, clean_both, then_runs, then_runs_known, comes_runs, comes_stops, ending_none}
 use Rattle.vale_object_facts.proofs.Scopes.{Fresh, fresh_slot, hand_runs, unused_runs, scope_ends}
 
 -- what a function's body is lowered with
@@ -141,6 +143,15 @@ module _ (k : Site) (c : Context k) where
   local_free {h = h} {s} n x st g =
       ap (λ b. if b then slot_fact k.parts (record { role = local n; register = h; ty = x; depth = s.depth }) (without h g) else fact_in k.parts s.slots (without h g) (h + 1)) (ne_eqb h (h + 1) (omega arith))
       ∙ nothing_above k h s.slots (without h g) (h + 1) st.falls (omega arith)
+
+  wait_free : {env : Env} {h : ℕ} {s : Stand} (x : Ty) → Stands k env h s → (g : Gone) → says_at k (with_waiting h x (with_gone g s)) (h + 1) ≡ Empty
+  wait_free {h = h} {s} x st g =
+      ap (λ b. if b then slot_fact k.parts (record { role = waits; register = h; ty = x; depth = s.depth }) (without h g) else fact_in k.parts s.slots (without h g) (h + 1)) (ne_eqb h (h + 1) (omega arith))
+      ∙ nothing_above k h s.slots (without h g) (h + 1) st.falls (omega arith)
+
+  many : (es : Exprs) (h : ℕ) → h + length (types es) ≤ h + length (gives_list es)
+  many no_exprs h = omega arith
+  many (more_exprs e es) h = let m = many es h in omega (arith, m)
 
   -- a value that isn't used
   unused_stmt : (e : Expr) (p h : ℕ) (s : Stand) {env : Env} → Stands k env h s → Clean (if_comes p (expr_code a e p h (scope_at s) s.gone) (expr_after e h (scope_at s) s.gone) (λ place g. drop_value (gives_of (type e)) h (expr_spot e)))
@@ -263,11 +274,32 @@ module _ (k : Site) (c : Context k) where
     node_runs env (set at (expr z (array at2 w es)) e1) x q p h s e st suits clean = absurd suits.0
     node_runs env (set at (expr z (iso at2 bl)) e1) x q p h s e st suits clean = absurd suits.0
     node_runs env (set at (expr z (form f)) e1) x q p h s e st suits clean = absurd suits.0
-    node_runs env (call n f es) x q p h s e st suits clean = absurd suits
+    node_runs env (call n f es) x q p h s e st suits clean =
+        subst (λ d. Runs k p (node_code a x q (call n f es) p h (scope_at s) s.gone) (node_stands x (call n f es) h s) s d) (then_comes (args_after es h (scope_at s) s.gone) (λ g. given h x (with_gone g s)))
+        (then_runs_known k (args_after es h (scope_at s) s.gone) p (h + length (gives_list es)) (args_code a es p h (scope_at s) s.gone) (args_stands es h s) (λ place g. callee_code a q n f (first_type es) (gives_list es) h)
+        (λ g. with_gone g (with_args es h s)) (λ g. with_gone g (with_args es h s) ∷ []) (λ g. comes g) (λ g. given h x (with_gone g s)) s clean
+        (λ cl. args_run env es p h s st suits.1 cl)
+        (λ g r is cl. callee_runs k env h s st g a n f es x q e suits.0 (args_wait k es h s g st.falls is) cl)
+        (λ g. nothing_above k (h + length (types es)) (with_args es h s).slots g (h + length (gives_list es)) (args_fall k es h s st.falls) (many es h)))
     node_runs env (form f) x q p h s e st suits clean = form_runs env f x q p h s e st suits clean
     node_runs env (steps e1 ss) x q p h s e st suits clean = absurd suits
     node_runs env (array at z es) x q p h s e st suits clean = absurd suits
     node_runs env (iso at bl) x q p h s e st suits clean = absurd suits
+
+    pub args_run : (env : Env) (es : Exprs) (p h : ℕ) (s : Stand) → Stands k env h s → exprs_suit texts env es → Clean (args_code a es p h (scope_at s) s.gone)
+        → Runs k p (args_code a es p h (scope_at s) s.gone) (args_stands es h s) s (ending (args_after es h (scope_at s) s.gone) (λ g. with_gone g (with_args es h s)))
+    args_run env no_exprs p h s st suits clean = runs_less k (nothing k p s) (says_still k s)
+    args_run env (more_exprs e1 es) p h s st suits clean =
+        chosen k (is_value (gives_of (type e1))) h clean
+        (λ some cl.
+        then_runs k (expr_after e1 h (scope_at s) s.gone) p (h + 1) (expr_code a e1 p h (scope_at s) s.gone) (expr_stands e1 h s) (λ place g. args_code a es place (h + 1) (waiting h (gives_of (type e1)) ∷ scope_at s) (without h g))
+        (λ g. with_waiting h (type e1) (with_gone g s)) (λ g. args_stands es (h + 1) (with_waiting h (type e1) (with_gone g s))) (λ g. args_after es (h + 1) (waiting h (gives_of (type e1)) ∷ scope_at s) (without h g)) (λ g. with_gone g (with_args (more_exprs e1 es) h s)) s cl
+        (λ cl. ends_less k (expr_after e1 h (scope_at s) s.gone) (λ g. says_role k waits h (type e1) st.falls) (value_runs env e1 p h s some st suits.0 cl))
+        (λ g r cl.
+        ends_less k (args_after es (h + 1) (waiting h (gives_of (type e1)) ∷ scope_at s) (without h g))
+        (λ c. subst (λ u. Says k u (with_gone c (with_args (more_exprs e1 es) h s))) (args_gone es (h + 1) (with_waiting h (type e1) s) (with_waiting h (type e1) (with_gone g s)) c refl refl) (says_same k (with_gone c (with_args (more_exprs e1 es) h s))))
+        (args_run env es r (h + 1) (with_waiting h (type e1) (with_gone g s)) (stands_waiting k (type e1) (stands_gone k g st)) suits.1 cl))
+        (λ g. wait_free (type e1) st g))
 
     pub links_run : (env : Env) (t x : Ty) (ls : Links) (p h : ℕ) (s : Stand) → Stands k env h s → links_suit texts env t x ls → Clean (links_code a ls p h (scope_at s) s.gone) → LinksRun t x ls p h s
     links_run env t x no_links p h s st suits clean = runs_less k (nothing k p (holding h t s)) (subst (λ z. Says k (holding h t s) (holding h z (with_gone s.gone s))) (sym suits) (says_holding k h t (says_still k s)))

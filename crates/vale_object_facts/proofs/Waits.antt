@@ -13,6 +13,10 @@ use Rattle.vale_lowering_objects.specs.Scopes.{Gives, gives_of, Entry, Scope, en
 use Rattle.vale_object_facts.specs.Stands.{gone_of}
 use Rattle.vale_object_facts.proofs.Covering.{gone_without}
 
+pub none_run : (o : After) → gone_of (no_run o) ≡ gone_of o
+none_run (comes g) = refl
+none_run (never g) = refl
+
 module _ (r : ℕ) where
   -- no name stands for the register
   pub record Unnamed (s : Scope) : Type 0 where
@@ -28,10 +32,6 @@ module _ (r : ℕ) where
   -- it is as much gone after a part as before
   abbrev pub Keeps : Gone → After → Type 0
   Keeps g o = is_gone r (gone_of o) ≡ is_gone r g
-
-  none_run : (o : After) → gone_of (no_run o) ≡ gone_of o
-  none_run (comes g) = refl
-  none_run (never g) = refl
 
   then_keeps : (g : Gone) (o : After) (f : Gone → After) → Keeps g o → ((c : Gone) → is_gone r c ≡ is_gone r g → Keeps g (f c)) → Keeps g (then_after o f)
   then_keeps g (comes c) f e k = k c e

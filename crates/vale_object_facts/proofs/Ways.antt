@@ -153,17 +153,23 @@ module _ (k : Site) where
   reaches_end (comes g) u = says_same k (u g)
   reaches_end (never g) u = tt
 
-  pub then_runs : (o : After) (p r : ℕ) (a : List Instr) (ma : Stands) (rest : ℕ → Gone → List Instr) (start : Gone → Stand) (rms : Gone → Stands) (next : Gone → After) (end : Gone → Stand) (s : Stand)
-      → Clean (then_code p r a o rest) → (Clean a → Runs k p a ma s (ending o start)) → ((g : Gone) (q : ℕ) → Clean (rest q g) → Runs k q (rest q g) (rms g) (start g) (ending (next g) end)) → ((g : Gone) → at k (start g) r ≡ Empty)
+  -- with what is known to be gone after the first
+  pub then_runs_known : (o : After) (p r : ℕ) (a : List Instr) (ma : Stands) (rest : ℕ → Gone → List Instr) (start : Gone → Stand) (rms : Gone → Stands) (next : Gone → After) (end : Gone → Stand) (s : Stand)
+      → Clean (then_code p r a o rest) → (Clean a → Runs k p a ma s (ending o start)) → ((g : Gone) (q : ℕ) → gone_of o ≡ g → Clean (rest q g) → Runs k q (rest q g) (rms g) (start g) (ending (next g) end)) → ((g : Gone) → at k (start g) r ≡ Empty)
       → Runs k p (then_code p r a o rest) (then_stands r ma o start rms next end) s (ending (then_after o next) end)
-  then_runs (comes g) p r a ma rest start rms next end s clean x z none =
-      let c = clean_both a (rest (p + length a) g) clean in both k (x c.0) (z g (p + length a) c.1)
-  then_runs (never g) p r a ma rest start rms next end s clean x z none =
+  then_runs_known (comes g) p r a ma rest start rms next end s clean x z none =
+      let c = clean_both a (rest (p + length a) g) clean in both k (x c.0) (z g (p + length a) refl c.1)
+  then_runs_known (never g) p r a ma rest start rms next end s clean x z none =
       let q = p + length a in
       let c = clean_both a (dead_code q r (rest (q + 2) g)) clean in
       subst (λ e. Runs k p (a ++ dead_code q r (rest (q + 2) g)) (ma ++ dead_stands r (start g) (rms g) (end (gone_of (next g)))) s e) (sym (ending_none (next g) end))
       (stops_then (x c.0)
-      (dead_runs q r (rest (q + 2) g) (rms g) (start g) (end (gone_of (next g))) (ending (next g) end) (z g (q + 2) (clean_dead q r (rest (q + 2) g) c.1)) (reaches_end (next g) end) (none g)))
+      (dead_runs q r (rest (q + 2) g) (rms g) (start g) (end (gone_of (next g))) (ending (next g) end) (z g (q + 2) refl (clean_dead q r (rest (q + 2) g) c.1)) (reaches_end (next g) end) (none g)))
+
+  pub then_runs : (o : After) (p r : ℕ) (a : List Instr) (ma : Stands) (rest : ℕ → Gone → List Instr) (start : Gone → Stand) (rms : Gone → Stands) (next : Gone → After) (end : Gone → Stand) (s : Stand)
+      → Clean (then_code p r a o rest) → (Clean a → Runs k p a ma s (ending o start)) → ((g : Gone) (q : ℕ) → Clean (rest q g) → Runs k q (rest q g) (rms g) (start g) (ending (next g) end)) → ((g : Gone) → at k (start g) r ≡ Empty)
+      → Runs k p (then_code p r a o rest) (then_stands r ma o start rms next end) s (ending (then_after o next) end)
+  then_runs o p r a ma rest start rms next end s clean x z none = then_runs_known o p r a ma rest start rms next end s clean x (λ g q e c. z g q c) none
 
   -- what is done only where a run comes
   pub comes_runs : (o : After) (p : ℕ) (a : List Instr) (ma : Stands) (rest : ℕ → Gone → List Instr) (start : Gone → Stand) (rms : Gone → Stands) (end : Gone → Stand) (s : Stand)

@@ -7,7 +7,7 @@ use Rattle.vale_syntax.specs.declared.tree.NameAt.{NameAt}
 use Rattle.vale_syntax.specs.declared.tree.UnaryOp.{UnaryOp}
 use Rattle.vale_syntax.specs.declared.tree.UnaryOp.TheVariants as unary_op
 use Rattle.vale_rules_spec.specs.TypeRules.{takes_operands, link_gives}
-use Rattle.vale_rules_spec.specs.Types.{Ty, void, int, bool, str, ref, is_owner, is_copy, is_frozen, Local, local_of}
+use Rattle.vale_rules_spec.specs.Types.{Ty, void, int, bool, str, ref, is_owner, is_owned, is_copy, is_frozen, Local, local_of}
 use Rattle.vale_rules_spec.specs.Typed.{Callee, built_in, Expr, expr, Node, set, chain, unary, steps, number, quote, truth, name, call, paren, array, iso, form, Exprs, no_exprs, more_exprs, link, Links, no_links, more_links, Form, branch, pure, parallel_range, parallel_each, else_if, Elses, no_else, otherwise, more_elses, Block, block, Stmt, declare, destructure, return_nothing, return_value, while, foreach, form_stmt, express, Stmts, no_stmts, last, more_stmts, type, types}
 use Rattle.vale_rules_spec.specs.Typing.{Env, with_local, after}
 use Rattle.vale_code.specs.declared.instr.Instr.{Instr}
@@ -33,14 +33,15 @@ pub record IsLocal (env : Env) (n : NameAt) (ty : Ty) : Type 0 where
   pub typed : is.ty ≡ ty
   pub depth : is.depth ≡ env.depth
 
--- a value of one of these types is printed
-abbrev pub prints : BuiltIn → List Ty → Ty → Type 0
-prints b.Print (t ∷ []) x = (is_copy t ≡ true) × (x ≡ void)
-prints b.Println (t ∷ []) x = (is_copy t ≡ true) × (x ≡ void)
-prints f ts x = ⊥
+-- a built-in function of a value
+abbrev pub built_in_suits : BuiltIn → List Ty → Ty → Type 0
+built_in_suits b.Print (t ∷ []) x = (is_copy t ≡ true) × (x ≡ void)
+built_in_suits b.Println (t ∷ []) x = (is_copy t ≡ true) × (x ≡ void)
+built_in_suits b.Drop (t ∷ []) x = (is_owned t ≡ true) × (x ≡ void)
+built_in_suits f ts x = ⊥
 
 abbrev pub callee_suits : Callee → List Ty → Ty → Type 0
-callee_suits (built_in f) ts x = prints f ts x
+callee_suits (built_in f) ts x = built_in_suits f ts x
 callee_suits c ts x = ⊥
 
 -- the place of a `set`, for a value of this type
@@ -71,7 +72,7 @@ module _ (texts : List (List ℕ)) where
     node_suits env x (unary at unary_op.Borrow e) = lent_suits env e x
     node_suits env x (unary at unary_op.Merge e) = ⊥
     node_suits env x (set at p e) = place_suits env p (type e) × (x ≡ type e) × expr_suits env e
-    node_suits env x (call n f es) = ⊥
+    node_suits env x (call n f es) = callee_suits f (types es) x × exprs_suit env es
     node_suits env x (form f) = form_suits env x f
     node_suits env x (steps e ss) = ⊥
     node_suits env x (array at y es) = ⊥
