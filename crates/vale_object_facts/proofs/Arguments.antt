@@ -1,21 +1,18 @@
 -- The values of a call, which wait in the registers from one on.
-use Rattle.std.proofs.Common.{◌≡◌, ◌≢◌, ℕ, ◌+◌, ◌<◌, ◌≤◌, List, [], ◌∷◌, length, Option, Some, None, Bool, true, false, ◌&&◌, ◌==◌, if◌then◌else◌, refl, sym, ap, ◌∙◌, subst, arith, ⊎_elim}
-use Rattle.std.proofs.lemmas.Bool.{cases_eq, eq-eqb, ne_eqb}
+use Rattle.std.proofs.Common.{◌≡◌, ℕ, ◌+◌, ◌<◌, List, [], ◌∷◌, length, Some, Bool, true, false, ◌&&◌, if◌then◌else◌, refl, sym, ap, ◌∙◌, subst, arith}
+use Rattle.std.proofs.lemmas.Bool.{eq-eqb, ne_eqb}
 use Rattle.vale_rules_spec.specs.Types.{Ty}
 use Rattle.vale_rules_spec.specs.Types as y
-use Rattle.vale_rules_spec.specs.Typed.{Expr, Exprs, no_exprs, more_exprs, type, types}
-use Rattle.vale_rules_spec.specs.Typing.{Env}
+use Rattle.vale_rules_spec.specs.Typed.{Exprs, no_exprs, more_exprs, type, types}
 use Rattle.vale_model.specs.Runs as model
-use Rattle.vale_cert.specs.Known.{is_free, agrees}
-use Rattle.vale_cert.specs.declared.facts.RegFact.TheVariants.{Empty, Held}
+use Rattle.vale_cert.specs.declared.facts.RegFact.TheVariants.{Empty}
 use Rattle.vale_lowering_objects.specs.Lowered.{expr_after, args_after}
-use Rattle.vale_lowering_objects.specs.Program.{code_type}
-use Rattle.vale_lowering_objects.specs.Scopes.{Gives, gives_of, Entry, Scope, entry, waiting, find, Gone, is_gone, without, After, comes, never, then_after}
-use Rattle.vale_object_facts.specs.Slots.{Role, local, waits, at_hand, is_listed, list_slot, Slot, Slots, scope_of, scope_at, Stand, with_gone, with_waiting, slot_fact, fact_in}
+use Rattle.vale_lowering_objects.specs.Scopes.{gives_of, Entry, entry, waiting, find, Gone, is_gone, without, After, comes, never, then_after}
+use Rattle.vale_object_facts.specs.Slots.{Role, local, waits, at_hand, list_slot, Slots, scope_of, scope_at, Stand, with_gone, with_waiting, slot_fact, fact_in}
 use Rattle.vale_object_facts.specs.Stands.{gone_of, with_args}
 use Rattle.vale_object_facts.proofs.Agreeing.{Facts}
 use Rattle.vale_object_facts.proofs.Covering.{Site, at, held, Falls, falls_up, not_gone}
-use Rattle.vale_object_facts.proofs.Waits.{Unnamed, unnamed_push, none_run, args_keep}
+use Rattle.vale_object_facts.proofs.Waits.{none_run, args_keep}
 
 -- ---- names stand for registers below
 

@@ -1,13 +1,12 @@
 -- The body of a function whose types fit breaks no rule.
-use Rattle.std.proofs.Common.{◌≡◌, ℕ, suc, ◌+◌, ◌<◌, ◌≤◌, List, [], ◌∷◌, ◌++◌, length, map, Option, Some, None, Bool, true, false, max, refl, sym, ap, ◌∙◌, subst, arith}
+use Rattle.std.proofs.Common.{◌≡◌, ℕ, suc, ◌+◌, ◌≤◌, List, [], ◌∷◌, ◌++◌, length, None, refl, sym, ap, ◌∙◌, subst, arith}
 use Rattle.std.proofs.lemmas.List.{length-map}
-use Rattle.vale_base.specs.declared.spot.Spot.{Spot}
-use Rattle.vale_syntax.specs.Tree.{Param, param, Head, head}
+use Rattle.vale_syntax.specs.Tree.{Param, param, head}
 use Rattle.vale_rules_spec.specs.Declarations.{head_params, param_type}
 use Rattle.vale_rules_spec.specs.TypeRules.{head_gives}
 use Rattle.vale_rules_spec.specs.Types.{Ty, type_of}
 use Rattle.vale_rules_spec.specs.Types as y
-use Rattle.vale_rules_spec.specs.Typed.{Function, function_body, Block, block, Stmts}
+use Rattle.vale_rules_spec.specs.Typed.{Function, function_body, Block, block}
 use Rattle.vale_rules_spec.specs.Typing.{Env, with_params, with_local as env_with_local, entry as env_entry}
 use Rattle.vale_model.specs.Kinds.{head_of, body_of}
 use Rattle.vale_model.specs.Parts.{Parts, param_names}
@@ -17,22 +16,22 @@ use Rattle.vale_code.specs.declared.instr.Instr.{Instr}
 use Rattle.vale_code.specs.declared.instr.Instr.TheVariants as i
 use Rattle.vale_cert.specs.Walk.{function_fault}
 use Rattle.vale_lowering.specs.Instructions.{only_if}
-use Rattle.vale_lowering.specs.Scopes.{result_type, head_result}
-use Rattle.vale_lowering_objects.specs.Code.{registers_in, lowered_function}
+use Rattle.vale_lowering.specs.Scopes.{result_type}
+use Rattle.vale_lowering_objects.specs.Code.{lowered_function}
 use Rattle.vale_lowering_objects.specs.Lowered.{if_comes, block_after, block_code, drop_scope, param_gives_of, param_gives, result_gives}
 use Rattle.vale_lowering_objects.specs.Program.{code_type, names_in, body_code, lowered_body}
-use Rattle.vale_lowering_objects.specs.Scopes.{Gives, void, gives_of, agree, Scope, Gone, Around, parameters}
+use Rattle.vale_lowering_objects.specs.Scopes.{void, agree, Scope, parameters}
 use Rattle.vale_object_facts.specs.Facts.{param_slots, entry_stand, body_stands, facts_for, function_facts}
-use Rattle.vale_object_facts.specs.Slots.{local, Slot, Slots, scope_of, scope_at, Stand, with_gone, given}
-use Rattle.vale_object_facts.specs.Stands.{Stands as Marks, comes_stands, leave_stands, block_stands}
+use Rattle.vale_object_facts.specs.Slots.{local, Slot, Slots, scope_of, scope_at, Stand, with_gone}
+use Rattle.vale_object_facts.specs.Stands.{comes_stands, leave_stands, block_stands}
 use Rattle.vale_object_facts.specs.Suits.{block_suits}
-use Rattle.vale_object_facts.proofs.Covering.{Site, Covers, Falls, falls_up, nothing_above}
-use Rattle.vale_object_facts.proofs.Entries.{param_codes, covers_entry}
+use Rattle.vale_object_facts.proofs.Covering.{Site, Falls, falls_up, nothing_above}
+use Rattle.vale_object_facts.proofs.Entries.{covers_entry}
 use Rattle.vale_object_facts.proofs.Functions.{site, covered_is_faultless}
 use Rattle.vale_object_facts.proofs.Leaving.{Sits, leaves}
 use Rattle.vale_object_facts.proofs.Locals.{locals_of, Stands}
 use Rattle.vale_object_facts.proofs.Parts.{agree_is, chosen}
-use Rattle.vale_object_facts.proofs.Runs.{Runs, stops, ending}
+use Rattle.vale_object_facts.proofs.Runs.{Runs, stops}
 use Rattle.vale_object_facts.proofs.Tree.{Context, void_of, block_runs}
 use Rattle.vale_object_facts.proofs.Ways.{Clean, comes_stops}
 

@@ -1,25 +1,23 @@
 -- How the walk goes through what is called, once its values wait.
-use Rattle.std.proofs.Common.{◌≡◌, ◌≢◌, ℕ, ◌+◌, ◌<◌, ◌≤◌, List, [], ◌∷◌, length, Option, Some, None, Bool, true, false, not, ◌&&◌, ◌==◌, if◌then◌else◌, refl, sym, ap, ◌∙◌, subst, arith, ⊎_elim}
+use Rattle.std.proofs.Common.{◌≡◌, ◌≢◌, ℕ, List, [], ◌∷◌, Bool, true, false, not, ◌&&◌, if◌then◌else◌, refl, sym, ap, ◌∙◌, subst, arith, ⊎_elim}
 use Rattle.std.specs.Prelude.{nat_lt}
 use Rattle.std.proofs.lemmas.Bool.{cases_eq, eq-eqb, ne_eqb}
 use Rattle.vale_base.specs.declared.spot.Spot.{Spot}
-use Rattle.vale_syntax.specs.declared.built_in.BuiltIn.{BuiltIn}
 use Rattle.vale_syntax.specs.declared.built_in.BuiltIn.TheVariants as b
 use Rattle.vale_syntax.specs.declared.tree.NameAt.{NameAt}
 use Rattle.vale_rules_spec.specs.Types.{Ty}
 use Rattle.vale_rules_spec.specs.Types as y
-use Rattle.vale_rules_spec.specs.Typed.{Callee, built_in, constructor, function, Expr, Exprs, no_exprs, more_exprs, type, types}
+use Rattle.vale_rules_spec.specs.Typed.{Callee, built_in, constructor, function, Exprs, no_exprs, more_exprs, type, types}
 use Rattle.vale_rules_spec.specs.Typing.{Env}
 use Rattle.vale_model.specs.Parts.{Parts}
 use Rattle.vale_code.specs.declared.instr.Instr.{Instr}
 use Rattle.vale_code.specs.declared.instr.Instr.TheVariants as i
 use Rattle.vale_cert.specs.Types.{is_copy}
 use Rattle.vale_cert.specs.Known.{is_free, agrees}
-use Rattle.vale_cert.specs.declared.facts.RegFact.TheVariants.{Empty, Held}
-use Rattle.vale_lowering.specs.Instructions.{only_if}
+use Rattle.vale_cert.specs.declared.facts.RegFact.TheVariants.{Empty}
 use Rattle.vale_lowering_objects.specs.Lowered.{gives_list, first_type, callee_code, built_in_code, are_copied}
 use Rattle.vale_lowering_objects.specs.Program.{code_type}
-use Rattle.vale_lowering_objects.specs.Scopes.{Gives, void, copy, owner, gives_of, is_owner, Gone, is_gone, Around}
+use Rattle.vale_lowering_objects.specs.Scopes.{Gives, void, copy, owner, gives_of, is_owner, Gone, Around}
 use Rattle.vale_object_facts.specs.Slots.{waits, Stand, with_gone, given, with_waiting, is_lost, slot_fact, fact_in}
 use Rattle.vale_object_facts.specs.Stands.{with_args}
 use Rattle.vale_object_facts.specs.Suits.{callee_suits}
@@ -30,7 +28,7 @@ use Rattle.vale_object_facts.proofs.Locals.{Stands, none_at, stands_gone}
 use Rattle.vale_object_facts.proofs.Owners.{free_type, drops_run}
 use Rattle.vale_object_facts.proofs.Parts.{chosen}
 use Rattle.vale_object_facts.proofs.Rows.{print_runs}
-use Rattle.vale_object_facts.proofs.Runs.{Runs, runs_less, End, falls}
+use Rattle.vale_object_facts.proofs.Runs.{Runs, falls}
 use Rattle.vale_object_facts.proofs.Ways.{Clean}
 
 copied_type : (p : Parts) (t : Ty) → y.is_copy t ≡ true → is_copy (code_type p t) ≡ true

@@ -1,20 +1,18 @@
 -- What is known of registers against what the stand of a place says.
-use Rattle.std.proofs.Common.{◌≡◌, ◌≢◌, ℕ, zero, suc, ◌+◌, ◌<◌, ◌≤◌, List, [], ◌∷◌, length, Option, Some, None, Bool, true, false, not, ◌&&◌, ◌||◌, ◌==◌, if◌then◌else◌, refl, sym, ap, ◌∙◌, subst, arith, ⊎_elim}
-use Rattle.std.specs.Prelude.{slice_set}
+use Rattle.std.proofs.Common.{◌≡◌, ◌≢◌, ℕ, zero, suc, ◌+◌, ◌<◌, ◌≤◌, List, [], ◌∷◌, length, Some, Bool, true, false, ◌&&◌, ◌==◌, if◌then◌else◌, refl, sym, ap, ◌∙◌, subst, arith, ⊎_elim}
 use Rattle.std.proofs.lemmas.Bool.{and_parts, and_from, cases_eq, eq-eqb, ne_eqb}
 use Rattle.vale_rules_spec.specs.Types.{Ty, is_owned, is_void}
 use Rattle.vale_model.specs.Parts.{Parts}
 use Rattle.vale_code.specs.Parts.{Parts as Code}
 use Rattle.vale_code.specs.declared.func.Func.{Func}
-use Rattle.vale_code.specs.declared.ty.Ty.{Ty as CodeTy}
 use Rattle.vale_cert.specs.Known.{Known, fact_of, is_free, agrees, agree, may_enter}
 use Rattle.vale_cert.specs.declared.facts.Label.{Label}
 use Rattle.vale_cert.specs.declared.facts.RegFact.{RegFact}
 use Rattle.vale_cert.specs.declared.facts.RegFact.TheVariants.{Empty, Held}
 use Rattle.vale_lowering_objects.specs.Program.{code_type}
-use Rattle.vale_lowering_objects.specs.Scopes.{Scope, Gone, gives_of, is_gone, without, same_gone, same_truth}
+use Rattle.vale_lowering_objects.specs.Scopes.{Gone, gives_of, is_gone, without, same_gone, same_truth}
 use Rattle.vale_object_facts.specs.Slots.{Role, at_hand, is_listed, list_slot, Slot, Slots, scope_of, Stand, with_gone, holding, given, with_role, is_lost, slot_fact, fact_in, fact_at, facts_from, label_for}
-use Rattle.vale_object_facts.proofs.Agreeing.{agrees_same, agrees_through, Facts, put, put_here, put_there, Hold, hold_less, hold_put, hold_at, hold_free}
+use Rattle.vale_object_facts.proofs.Agreeing.{agrees_same, agrees_through, Facts, Hold, hold_less}
 
 -- ---- what is gone
 

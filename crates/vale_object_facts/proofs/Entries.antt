@@ -1,7 +1,7 @@
 -- What is known at a function's entry: its parameters.
-use Rattle.std.proofs.Common.{◌≡◌, ◌≢◌, ℕ, zero, suc, ◌+◌, ◌-◌, ◌<◌, ◌≤◌, List, [], ◌∷◌, ◌++◌, length, map, replicate, Bool, true, false, ◌&&◌, ◌==◌, if◌then◌else◌, refl, sym, ap, ◌∙◌, subst, arith, length-append}
+use Rattle.std.proofs.Common.{◌≡◌, ℕ, zero, suc, ◌+◌, ◌-◌, ◌<◌, ◌≤◌, List, [], ◌∷◌, ◌++◌, length, map, replicate, Bool, true, false, ◌&&◌, if◌then◌else◌, refl, sym, ap, ◌∙◌, subst, arith, length-append}
 use Rattle.std.proofs.lemmas.Bool.{eq-eqb, ne_eqb}
-use Rattle.std.proofs.lemmas.List.{length-map, length-replicate}
+use Rattle.std.proofs.lemmas.List.{length-replicate}
 use Rattle.vale_syntax.specs.Tree.{Param, param}
 use Rattle.vale_rules_spec.specs.Declarations.{head_params, param_type}
 use Rattle.vale_rules_spec.specs.Types.{Ty, type_of, is_owned}
@@ -9,15 +9,14 @@ use Rattle.vale_rules_spec.specs.Typed.{Function}
 use Rattle.vale_model.specs.Kinds.{head_of}
 use Rattle.vale_model.specs.Parts.{Parts}
 use Rattle.vale_code.specs.declared.ty.Ty.{Ty as CodeTy}
-use Rattle.vale_cert.specs.Known.{Known, fact_of, agrees, params_from, entry}
+use Rattle.vale_cert.specs.Known.{fact_of, agrees, params_from, entry}
 use Rattle.vale_cert.specs.declared.facts.FuncFacts.{FuncFacts}
-use Rattle.vale_cert.specs.declared.facts.RegFact.{RegFact}
 use Rattle.vale_cert.specs.declared.facts.RegFact.TheVariants.{Empty, Held}
 use Rattle.vale_lowering_objects.specs.Program.{code_type}
 use Rattle.vale_object_facts.specs.Facts.{param_slots, entry_stand}
-use Rattle.vale_object_facts.specs.Slots.{local, Slot, Slots, Stand, slot_fact, fact_in}
+use Rattle.vale_object_facts.specs.Slots.{local, Slot, Slots, slot_fact, fact_in}
 use Rattle.vale_object_facts.proofs.Agreeing.{agrees_same}
-use Rattle.vale_object_facts.proofs.Covering.{Site, at, Covers, Falls, nothing_above, falls_up}
+use Rattle.vale_object_facts.proofs.Covering.{Site, at, Covers, Falls, nothing_above}
 
 abbrev pub param_codes : Parts → List Param → List CodeTy
 param_codes p ps = map (λ q. code_type p (type_of (param_type q))) ps

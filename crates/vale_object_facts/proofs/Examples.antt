@@ -1,7 +1,6 @@
 -- Codes with owners that their facts certify, by computation; and that the facts are needed.
-use Rattle.std.proofs.Common.{◌≡◌, ℕ, ℤ, List, [], ◌∷◌, Option, Some, None, map, refl}
-use Rattle.std.specs.Prelude.{Bool, true, false, codes, pos}
-use Rattle.vale_base.specs.declared.name.Name.{Name}
+use Rattle.std.proofs.Common.{◌≡◌, ℕ, List, [], ◌∷◌, Option, Some, None, map, refl}
+use Rattle.std.specs.Prelude.{true, false, codes, pos}
 use Rattle.vale_base.specs.declared.spot.Spot.{Spot}
 use Rattle.vale_syntax.specs.declared.tree.BinaryOp.{BinaryOp}
 use Rattle.vale_syntax.specs.declared.tree.BinaryOp.TheVariants.{Less, Add, Or, And}
@@ -10,7 +9,7 @@ use Rattle.vale_syntax.specs.declared.tree.NameAt.{NameAt}
 use Rattle.vale_rules_spec.specs.Judged.{Judged, fine, faulty}
 use Rattle.vale_rules_spec.specs.Typed.{Typed}
 use Rattle.vale_rules_spec.specs.Typing.{typed}
-use Rattle.vale_syntax.specs.Tree.{TypeExpr, int_type, named_type, array_type, ref_type, Expr, set, chain, unary, steps, number, truth, name, call, array, form, Exprs, no_exprs, more_exprs, link, Links, no_links, more_links, Step, field, index, no_steps, more_steps, branch, pure, otherwise, no_else, Block, block, Stmt, declare, destructure, return_value, return_nothing, while, foreach, form_stmt, express, Stmts, no_stmts, last, more_stmts, Param, param, head, function, FieldDecl, field_decl, Item, struct_item, function_item, Tree, tree}
+use Rattle.vale_syntax.specs.Tree.{TypeExpr, int_type, named_type, ref_type, Expr, set, chain, unary, steps, number, truth, name, call, array, form, Exprs, no_exprs, more_exprs, link, no_links, more_links, Step, field, index, no_steps, more_steps, branch, pure, otherwise, no_else, Block, block, Stmt, declare, destructure, return_value, return_nothing, while, foreach, form_stmt, express, Stmts, no_stmts, last, more_stmts, Param, param, head, function, field_decl, Item, struct_item, function_item, tree}
 use Rattle.vale_cert.specs.Certificate.{first_fault}
 use Rattle.vale_cert.specs.declared.facts.FuncFacts.{FuncFacts}
 use Rattle.vale_cert.specs.declared.fault.Fault.{Fault}
@@ -26,34 +25,49 @@ n k = record { name = record { 0 = k }; at = at }
 -- the names
 abbrev P : ℕ
 P = 0
+
 abbrev a : ℕ
 a = 1
+
 abbrev b : ℕ
 b = 2
+
 abbrev f : ℕ
 f = 3
+
 abbrev p : ℕ
 p = 4
+
 abbrev main : ℕ
 main = 5
+
 abbrev x : ℕ
 x = 6
+
 abbrev y : ℕ
 y = 7
+
 abbrev r : ℕ
 r = 8
+
 abbrev println : ℕ
 println = 9
+
 abbrev drop : ℕ
 drop = 10
+
 abbrev len : ℕ
 len = 11
+
 abbrev push : ℕ
 push = 12
+
 abbrev pop : ℕ
 pop = 13
+
 abbrev i : ℕ
 i = 14
+
 abbrev Q : ℕ
 Q = 15
 

@@ -1,5 +1,5 @@
 -- A function breaks no rule, where the walk goes through its code from its entry on.
-use Rattle.std.proofs.Common.{◌≡◌, ℕ, ◌+◌, ◌≤◌, List, [], ◌∷◌, ◌++◌, length, Option, Some, None, Bool, true, false, if◌then◌else◌, refl, sym, ap, ◌∙◌, subst, arith, append-nil}
+use Rattle.std.proofs.Common.{◌≡◌, ℕ, ◌+◌, ◌≤◌, [], length, Some, None, true, if◌then◌else◌, refl, ap, ◌∙◌, subst, append-nil}
 use Rattle.vale_rules_spec.specs.Types.{Ty}
 use Rattle.vale_model.specs.Parts.{Parts}
 use Rattle.vale_code.specs.Parts.{Parts as Code}
@@ -7,7 +7,6 @@ use Rattle.vale_code.specs.declared.func.Func.{Func}
 use Rattle.vale_cert.specs.Known.{entry, label_at, may_enter, rise}
 use Rattle.vale_cert.specs.Walk.{walk, function_fault}
 use Rattle.vale_cert.specs.declared.facts.FuncFacts.{FuncFacts}
-use Rattle.vale_cert.specs.declared.fault.Fault.{Fault}
 use Rattle.vale_lowering_objects.specs.Code.{registers_in}
 use Rattle.vale_object_facts.specs.Facts.{labels_from}
 use Rattle.vale_object_facts.specs.Slots.{Stand}

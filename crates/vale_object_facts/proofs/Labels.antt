@@ -1,6 +1,6 @@
 -- The labels of a function stand exactly at the places that its instructions name, and the facts of a function whose code the walk
 -- goes through break no rule.
-use Rattle.std.proofs.Common.{◌≡◌, ◌≢◌, ℕ, zero, suc, ◌+◌, ◌<◌, ◌≤◌, List, [], ◌∷◌, ◌++◌, length, Option, Some, None, Bool, true, false, ◌||◌, ◌==◌, if◌then◌else◌, refl, sym, ap, ◌∙◌, subst, arith, ⊎_elim, length-append, append_assoc}
+use Rattle.std.proofs.Common.{◌≡◌, ℕ, suc, ◌+◌, ◌<◌, ◌≤◌, List, [], ◌∷◌, ◌++◌, length, Some, None, Bool, true, false, ◌||◌, if◌then◌else◌, refl, sym, ap, ◌∙◌, subst, arith, ⊎_elim, length-append, append_assoc}
 use Rattle.std.specs.List.{list_any}
 use Rattle.std.proofs.lemmas.Bool.{and_from, lt-ltb, cases_eq, eq-eqb, ne_eqb}
 use Rattle.vale_model.specs.Parts.{Parts}
@@ -13,7 +13,7 @@ use Rattle.vale_object_facts.specs.Facts.{is_at, is_named, labels_from}
 use Rattle.vale_object_facts.specs.Slots.{Stand, label_for}
 use Rattle.vale_object_facts.specs.Stands.{Stands}
 use Rattle.vale_object_facts.proofs.Covering.{Site}
-use Rattle.vale_object_facts.proofs.Runs.{Placed, FitsEach}
+use Rattle.vale_object_facts.proofs.Runs.{FitsEach}
 
 module _ (p : Parts) (code : List Instr) (registers : ℕ) where
   -- those from a place on
@@ -108,8 +108,7 @@ module _ (k : Site) (all : Stands) (labels : k.labels ≡ labels_from k.parts k.
   fits_each before (c ∷ cs) [] is len same room = absurd (omega (arith, len))
   fits_each before (c ∷ cs) (m ∷ ms) is len same room =
       let size : length k.func.body ≡ length before + suc (length cs) = ap length is ∙ length-append before (c ∷ cs) in
-      let next : length (before ++ (c ∷ [])) ≡ length before + 1 = length-append before (c ∷ []) in
-      (
+      let next : length (before ++ (c ∷ [])) ≡ length before + 1 = length-append before (c ∷ []) in (
         record {
           inside = omega (arith, size);
           room = omega (arith, room);
@@ -117,7 +116,7 @@ module _ (k : Site) (all : Stands) (labels : k.labels ≡ labels_from k.parts k.
           target = λ q e lt. has_label q (subst (λ b. is_named b q ≡ true) (sym is) (names_it before cs c q e)) lt;
         },
         subst (λ z. FitsEach k z cs ms) next
-        (fits_each (before ++ (c ∷ [])) cs ms (is ∙ sym (append_assoc before (c ∷ []) cs)) (omega (arith, len))
-        (subst (λ z. Same k.parts k.func.body k.func.registers k.labels z ms) (sym next) (same_later k.parts k.func.body k.func.registers k.labels (length before) m ms same))
-        (omega (arith, room))),
+            (fits_each (before ++ (c ∷ [])) cs ms (is ∙ sym (append_assoc before (c ∷ []) cs)) (omega (arith, len))
+            (subst (λ z. Same k.parts k.func.body k.func.registers k.labels z ms) (sym next) (same_later k.parts k.func.body k.func.registers k.labels (length before) m ms same))
+            (omega (arith, room))),
       )

@@ -1,12 +1,11 @@
 -- How the walk goes through the end of a function: what is in scope is dropped, and then the function is left.
-use Rattle.std.proofs.Common.{◌≡◌, ◌≢◌, ℕ, zero, suc, ◌+◌, ◌<◌, ◌≤◌, List, [], ◌∷◌, ◌++◌, length, Option, Some, None, Bool, true, false, not, ◌&&◌, ◌||◌, ◌==◌, if◌then◌else◌, refl, sym, ap, ◌∙◌, subst, arith, ⊎_elim}
+use Rattle.std.proofs.Common.{◌≡◌, ◌≢◌, ℕ, zero, suc, ◌+◌, ◌<◌, List, [], ◌∷◌, ◌++◌, length, Bool, true, false, not, ◌&&◌, ◌||◌, ◌==◌, if◌then◌else◌, refl, sym, ap, ◌∙◌, subst, arith, ⊎_elim}
 use Rattle.std.specs.Prelude.{slice_set}
 use Rattle.std.specs.List.{list_all}
-use Rattle.std.proofs.lemmas.Bool.{and_parts, and_from, cases_eq, eq-eqb, ne_eqb}
+use Rattle.std.proofs.lemmas.Bool.{and_from, cases_eq, eq-eqb, ne_eqb}
 use Rattle.vale_base.specs.declared.spot.Spot.{Spot}
 use Rattle.vale_rules_spec.specs.Types.{Ty}
 use Rattle.vale_rules_spec.specs.Types as y
-use Rattle.vale_code.specs.Operands.{room_for}
 use Rattle.vale_code.specs.declared.instr.Instr.{Instr}
 use Rattle.vale_code.specs.declared.instr.Instr.TheVariants as i
 use Rattle.vale_code.specs.declared.ty.Ty.{Ty as CodeTy}
@@ -16,14 +15,14 @@ use Rattle.vale_cert.specs.Known.{Known, fact_of, is_there, has, is_free, agrees
 use Rattle.vale_cert.specs.Rules.{is_usable}
 use Rattle.vale_cert.specs.declared.facts.RegFact.{RegFact}
 use Rattle.vale_cert.specs.declared.facts.RegFact.TheVariants.{Empty, Held}
-use Rattle.vale_lowering_objects.specs.Lowered.{drop_entry, drop_scope}
+use Rattle.vale_lowering_objects.specs.Lowered.{drop_scope}
 use Rattle.vale_lowering_objects.specs.Program.{code_type}
-use Rattle.vale_lowering_objects.specs.Scopes.{Gives, gives_of, is_owner, Entry, Gone, is_gone}
+use Rattle.vale_lowering_objects.specs.Scopes.{gives_of, is_owner, is_gone}
 use Rattle.vale_object_facts.specs.Slots.{Role, local, waits, at_hand, is_listed, Slot, Slots, list_slot, scope_of, Stand, holding, given, is_lost, slot_fact, fact_in}
-use Rattle.vale_object_facts.specs.Stands.{Stands, drops_slot, scope_stands, with_slots, leave_stands}
-use Rattle.vale_object_facts.proofs.Agreeing.{type_same, agrees_same, Facts, put, put_here, put_there, Hold, hold_put, hold_less, hold_at}
-use Rattle.vale_object_facts.proofs.Covering.{Site, at, held, Covers, Says, says_given, Falls, nothing_above, falls_up, holding_here, holding_there}
-use Rattle.vale_object_facts.proofs.Runs.{row_at, Goes, step, Placed, Cut, Runs, runs_from, both, End, falls, stops}
+use Rattle.vale_object_facts.specs.Stands.{Stands, scope_stands, with_slots, leave_stands}
+use Rattle.vale_object_facts.proofs.Agreeing.{type_same, agrees_same, put, put_here, put_there, hold_put, hold_less, hold_at}
+use Rattle.vale_object_facts.proofs.Covering.{Site, at, held, Covers, Says, Falls, nothing_above, falls_up, holding_here, holding_there}
+use Rattle.vale_object_facts.proofs.Runs.{Goes, step, Cut, Runs, runs_from, both, stops}
 use Rattle.vale_object_facts.proofs.Ways.{one_in_order}
 use Rattle.vale_object_facts.proofs.Rows.{usable, room}
 use Rattle.vale_object_facts.proofs.Owners.{free_type, drops_run}

@@ -17,6 +17,7 @@ mod Rows
 mod Runs
 mod Scopes
 mod Sets
+mod Taking
 mod Tree
 mod Turns
 mod Waits

@@ -1,26 +1,23 @@
 -- Where a program's locals stand, and how the walk goes through code that moves, copies, lends and sets them.
-use Rattle.std.proofs.Common.{◌≡◌, ◌≢◌, ℕ, ◌+◌, ◌<◌, ◌≤◌, List, [], ◌∷◌, ◌++◌, length, Option, Some, None, Bool, true, false, not, ◌&&◌, ◌||◌, ◌==◌, if◌then◌else◌, refl, sym, ap, ◌∙◌, subst, arith, ⊎_elim}
-use Rattle.std.proofs.lemmas.Bool.{and_parts, and_from, cases_eq, eq-eqb, ne_eqb}
+use Rattle.std.proofs.Common.{◌≡◌, ◌≢◌, ℕ, ◌+◌, ◌<◌, ◌≤◌, List, [], ◌∷◌, Some, Bool, true, false, not, ◌&&◌, ◌==◌, if◌then◌else◌, refl, sym, ap, ◌∙◌, subst, arith, ⊎_elim}
+use Rattle.std.proofs.lemmas.Bool.{cases_eq, eq-eqb, ne_eqb}
 use Rattle.vale_rules_spec.specs.Types.{Ty, Local, local_of}
 use Rattle.vale_rules_spec.specs.Types as y
 use Rattle.vale_syntax.specs.declared.tree.NameAt.{NameAt}
 use Rattle.vale_rules_spec.specs.Typing.{Env, with_local as env_with_local}
-use Rattle.vale_model.specs.Runs as model
-use Rattle.vale_code.specs.declared.instr.Instr.{Instr}
 use Rattle.vale_code.specs.declared.instr.Instr.TheVariants as i
 use Rattle.vale_cert.specs.Known.{is_free, agrees}
-use Rattle.vale_cert.specs.declared.facts.RegFact.{RegFact}
 use Rattle.vale_cert.specs.declared.facts.RegFact.TheVariants.{Empty, Held}
 use Rattle.vale_lowering_objects.specs.Lowered.{move_out, lend, lend_local, moved_out}
 use Rattle.vale_lowering_objects.specs.Program.{code_type}
-use Rattle.vale_lowering_objects.specs.Scopes.{Gives, copy, owner, gives_of, is_owner, Entry, entry, find, Gone, is_gone, without}
-use Rattle.vale_object_facts.specs.Slots.{Role, local, waits, at_hand, is_listed, list_slot, Slot, Slots, scope_of, scope_at, Stand, with_gone, holding, given, with_role, with_local, is_lost, slot_fact, fact_in}
+use Rattle.vale_lowering_objects.specs.Scopes.{gives_of, is_owner, entry, find, Gone, is_gone}
+use Rattle.vale_object_facts.specs.Slots.{Role, local, waits, at_hand, is_listed, list_slot, Slot, Slots, scope_of, scope_at, Stand, with_gone, holding, with_role, with_local, is_lost, slot_fact, fact_in}
 use Rattle.vale_object_facts.proofs.Agreeing.{agrees_same}
-use Rattle.vale_object_facts.proofs.Covering.{Site, at, held, Covers, Says, Falls, falls_up, nothing_above, holding_here, holding_there, alike_facts, alike_without}
+use Rattle.vale_object_facts.proofs.Covering.{Site, at, held, Falls, falls_up, nothing_above}
 use Rattle.vale_object_facts.proofs.Leaving.{Sits, owner_is}
-use Rattle.vale_object_facts.proofs.Owners.{owned_too, free_type, moves_out, lends_run}
-use Rattle.vale_object_facts.proofs.Rows.{Beside, beside_same, copy_runs}
-use Rattle.vale_object_facts.proofs.Runs.{Runs, End, falls}
+use Rattle.vale_object_facts.proofs.Owners.{owned_too, moves_out, lends_run}
+use Rattle.vale_object_facts.proofs.Rows.{beside_same, copy_runs}
+use Rattle.vale_object_facts.proofs.Runs.{Runs, falls}
 use Rattle.vale_object_facts.proofs.Ways.{Clean}
 
 -- the locals of a program that have these slots

@@ -1,5 +1,5 @@
 -- How the walk goes through operators between two values.
-use Rattle.std.proofs.Common.{◌≡◌, ◌≢◌, ℕ, ◌+◌, ◌<◌, ◌≤◌, pos, List, [], ◌∷◌, ◌++◌, length, Option, Some, None, Bool, true, false, not, ◌&&◌, refl, sym, ap, ◌∙◌, subst, arith}
+use Rattle.std.proofs.Common.{◌≡◌, ℕ, ◌+◌, ◌<◌, ◌≤◌, pos, [], ◌∷◌, None, Bool, true, false, ◌&&◌, refl, ap, ◌∙◌, arith}
 use Rattle.std.specs.Prelude.{nat_lt}
 use Rattle.std.proofs.lemmas.Bool.{and_parts}
 use Rattle.vale_base.specs.declared.spot.Spot.{Spot}
@@ -14,22 +14,21 @@ use Rattle.vale_model.specs.Parts.{Parts}
 use Rattle.vale_code.specs.Operands.{room_for}
 use Rattle.vale_code.specs.declared.instr.Instr.{Instr}
 use Rattle.vale_code.specs.declared.instr.Instr.TheVariants as i
-use Rattle.vale_code.specs.declared.ty.Ty.{Ty as CodeTy}
 use Rattle.vale_code.specs.declared.ty.Ty.TheVariants as t
 use Rattle.vale_cert.specs.Known.{Known, is_free}
 use Rattle.vale_cert.specs.Numbers.{in_tables}
-use Rattle.vale_cert.specs.Rules.{Effect, fine, reads, gets, is_ordered}
+use Rattle.vale_cert.specs.Rules.{fine, reads, gets, is_ordered}
 use Rattle.vale_cert.specs.Walk.{goes_on, target_of}
-use Rattle.vale_cert.specs.declared.facts.RegFact.TheVariants.{Empty, Held}
-use Rattle.vale_lowering.specs.Instructions.{operator, unary_code}
+use Rattle.vale_cert.specs.declared.facts.RegFact.TheVariants.{Held}
+use Rattle.vale_lowering.specs.Instructions.{operator}
 use Rattle.vale_lowering_objects.specs.Program.{code_type}
 use Rattle.vale_object_facts.specs.Slots.{Stand, holding}
 use Rattle.vale_object_facts.specs.Stands.{unary_stands}
 use Rattle.vale_object_facts.proofs.Covering.{Site, at, held, holding_here, holding_there}
-use Rattle.vale_object_facts.proofs.Locals.{Stands, none_at, free_at, stands_holding}
+use Rattle.vale_object_facts.proofs.Locals.{Stands, none_at}
 use Rattle.vale_object_facts.proofs.Owners.{free_type}
 use Rattle.vale_object_facts.proofs.Rows.{room, Beside, beside_one, beside_above, int_runs, from_one, from_two, cmp_runs}
-use Rattle.vale_object_facts.proofs.Runs.{row_at, Runs, both, End, falls}
+use Rattle.vale_object_facts.proofs.Runs.{row_at, Runs, both, falls}
 
 -- the values of an operator are no owners
 pub record Plain (p : Parts) (a b : Ty) : Type 0 where

@@ -1,33 +1,29 @@
 -- The instructions on owners: they are moved, dropped, lent, made of values, and taken apart.
-use Rattle.std.proofs.Common.{◌≡◌, ◌≢◌, ℕ, ◌+◌, ◌<◌, ◌≤◌, List, [], ◌∷◌, length, Option, Some, None, Bool, true, false, not, ◌&&◌, ◌||◌, ◌==◌, if◌then◌else◌, refl, sym, ap, ◌∙◌, subst, arith, ⊎_elim}
-use Rattle.std.specs.Prelude.{slice_get, slice_set, nat_lt, map}
-use Rattle.std.proofs.lemmas.Bool.{and_parts, and_from, cases_eq}
+use Rattle.std.proofs.Common.{◌≡◌, ◌≢◌, ℕ, ◌≤◌, [], ◌∷◌, Bool, true, false, not, ◌||◌, refl, sym, ap, ◌∙◌, subst, arith, ⊎_elim}
+use Rattle.std.specs.Prelude.{slice_set}
+use Rattle.std.proofs.lemmas.Bool.{and_from, cases_eq}
 use Rattle.vale_base.specs.declared.name.Kind.{Kind}
 use Rattle.vale_base.specs.declared.spot.Spot.{Spot}
 use Rattle.vale_rules_spec.specs.Types.{Ty}
 use Rattle.vale_rules_spec.specs.Types as y
 use Rattle.vale_model.specs.Parts.{Parts, kind_of}
-use Rattle.vale_code.specs.Kinds as code_kinds
 use Rattle.vale_code.specs.Operands.{room_for}
-use Rattle.vale_code.specs.declared.instr.Instr.{Instr}
 use Rattle.vale_code.specs.declared.instr.Instr.TheVariants as i
 use Rattle.vale_code.specs.declared.ty.Ty.{Ty as CodeTy}
 use Rattle.vale_code.specs.declared.ty.Ty.TheVariants as t
-use Rattle.vale_cert.specs.Types.{is_owned, is_isolate}
+use Rattle.vale_cert.specs.Types.{is_owned}
 use Rattle.vale_cert.specs.Known.{Known, fact_of, is_there, is_free, agrees}
-use Rattle.vale_cert.specs.Objects.{cells_of, fields_of, has_room, field_of, item_of, cell_by, owner_kind}
-use Rattle.vale_cert.specs.Rules.{Effect, is_moved, is_usable, moved_to, moves, drops, lent_to, borrows, leads, is_known, taken, takes_all, after_passing, makes_of, makes, if_types, too_many_or_few}
+use Rattle.vale_cert.specs.Objects.{owner_kind}
+use Rattle.vale_cert.specs.Rules.{is_moved, is_usable, moved_to, lent_to, is_known}
 use Rattle.vale_cert.specs.declared.facts.RegFact.{RegFact}
 use Rattle.vale_cert.specs.declared.facts.RegFact.TheVariants.{Empty, Held}
-use Rattle.vale_cert.specs.declared.rules.Kept.{Kept}
-use Rattle.vale_lowering.specs.Instructions.{registers_from}
 use Rattle.vale_lowering_objects.specs.Program.{code_type}
 use Rattle.vale_object_facts.specs.Slots.{Stand, holding}
-use Rattle.vale_object_facts.proofs.Agreeing.{type_same, held_agrees, agrees_same, agrees_through, Facts, put, put_here, put_there, Hold, hold_less, hold_put, hold_at, hold_free}
-use Rattle.vale_object_facts.proofs.Covering.{Site, at, held, Covers, Says, holding_here, holding_there}
-use Rattle.vale_object_facts.proofs.Runs.{row_at, next_known, Does, Runs, single, End, falls}
+use Rattle.vale_object_facts.proofs.Agreeing.{agrees_same, Facts, put, put_here, put_there, hold_put, hold_at, hold_free}
+use Rattle.vale_object_facts.proofs.Covering.{Site, at, held, Covers, holding_here, holding_there}
+use Rattle.vale_object_facts.proofs.Runs.{Does, Runs, single, falls}
 use Rattle.vale_object_facts.proofs.Ways.{in_order}
-use Rattle.vale_object_facts.proofs.Rows.{Fine, usable, room, does_by, Beside, over}
+use Rattle.vale_object_facts.proofs.Rows.{usable, room, does_by, Beside, over}
 
 -- the code's type of an owner or an isolate is one, and no other is
 pub owned_too : (p : Parts) (x : Ty) → is_owned (code_type p x) ≡ y.is_owned x

@@ -1,6 +1,6 @@
 -- How the walk goes through parts of the tree, from how it goes through their own parts.
-use Rattle.std.proofs.Common.{◌≡◌, ◌≢◌, ℕ, ◌+◌, ◌<◌, ◌≤◌, List, [], ◌∷◌, ◌++◌, length, Option, Some, None, Bool, true, false, not, ◌&&◌, ◌||◌, ◌==◌, if◌then◌else◌, refl, sym, ap, ◌∙◌, subst, arith}
-use Rattle.std.proofs.lemmas.Bool.{and_parts, and_from}
+use Rattle.std.proofs.Common.{◌≡◌, ℕ, ◌+◌, List, [], ◌∷◌, ◌++◌, length, Bool, true, false, if◌then◌else◌, refl, sym, ap, ◌∙◌, subst, arith}
+use Rattle.std.proofs.lemmas.Bool.{and_parts}
 use Rattle.vale_base.specs.declared.spot.Spot.{Spot}
 use Rattle.vale_syntax.specs.declared.tree.BinaryOp.{BinaryOp}
 use Rattle.vale_syntax.specs.declared.tree.BinaryOp.TheVariants as op
@@ -10,19 +10,18 @@ use Rattle.vale_rules_spec.specs.Types as y
 use Rattle.vale_rules_spec.specs.Typing.{Env}
 use Rattle.vale_code.specs.declared.instr.Instr.{Instr}
 use Rattle.vale_code.specs.declared.instr.Instr.TheVariants as i
-use Rattle.vale_cert.specs.Known.{is_free, agrees}
-use Rattle.vale_cert.specs.declared.facts.RegFact.TheVariants.{Empty, Held}
+use Rattle.vale_cert.specs.Known.{is_free}
+use Rattle.vale_cert.specs.declared.facts.RegFact.TheVariants.{Empty}
 use Rattle.vale_lowering.specs.Instructions.{only_if, operator}
-use Rattle.vale_lowering_objects.specs.Lowered.{then_code, if_comes, jump_over, sides, turns_code, loop_after, link_code, link_after}
-use Rattle.vale_lowering_objects.specs.Scopes.{Gives, void, copy, owner, gives_of, is_value, is_owner, agree, Entry, entry, Gone, is_gone, After, comes, never, then_after, met, may_meet, closes, same_gone}
+use Rattle.vale_lowering_objects.specs.Lowered.{then_code, jump_over, sides, turns_code, loop_after, link_code, link_after}
+use Rattle.vale_lowering_objects.specs.Scopes.{Gives, void, copy, owner, gives_of, is_value, agree, Gone, After, comes, never, then_after, met, may_meet, closes}
 use Rattle.vale_object_facts.specs.Slots.{Stand, scope_at, with_gone, holding, given}
 use Rattle.vale_object_facts.specs.Stands.{Stands as Marks, then_stands, sides_stands, turns_stands, link_stands}
 use Rattle.vale_object_facts.proofs.Agreeing.{agrees_same}
-use Rattle.vale_object_facts.proofs.Covering.{Site, at, held, Says, says_same, says_then, says_gone, says_holding, says_given, says_role, says_less, holding_here, holding_there, nothing_above}
-use Rattle.vale_object_facts.proofs.Locals.{Stands, none_at, free_at, stands_up, stands_gone, stands_holding}
-use Rattle.vale_object_facts.proofs.Operators.{Plain, operands_plain, is_plain, operator_runs, bool_is}
-use Rattle.vale_object_facts.proofs.Owners.{free_type}
-use Rattle.vale_object_facts.proofs.Runs.{End, falls, stops, ending, Runs, runs_less, runs_from, ends_less, nothing, both}
+use Rattle.vale_object_facts.proofs.Covering.{Site, at, held, Says, says_same, says_then, says_gone, says_holding, says_given, says_less, holding_here, holding_there}
+use Rattle.vale_object_facts.proofs.Locals.{Stands, none_at, stands_gone}
+use Rattle.vale_object_facts.proofs.Operators.{operands_plain, is_plain, operator_runs, bool_is}
+use Rattle.vale_object_facts.proofs.Runs.{End, falls, ending, Runs, runs_less, nothing}
 use Rattle.vale_object_facts.proofs.Turns.{Meets, sides_runs, and_runs, loop_runs}
 use Rattle.vale_object_facts.proofs.Ways.{Clean, clean_both, then_runs, ending_none}
 

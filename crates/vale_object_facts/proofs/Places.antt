@@ -1,21 +1,18 @@
 -- The instructions on fields and elements: they are read, and get new values for old ones.
-use Rattle.std.proofs.Common.{◌≡◌, ◌≢◌, ℕ, ◌+◌, ◌<◌, ◌≤◌, List, [], ◌∷◌, length, Option, Some, None, Bool, true, false, not, ◌&&◌, ◌||◌, ◌==◌, if◌then◌else◌, refl, sym, ap, ◌∙◌, subst, arith, ⊎_elim}
-use Rattle.std.specs.Prelude.{slice_get, slice_set, nat_lt}
-use Rattle.std.proofs.lemmas.Bool.{and_parts, and_from, cases_eq, le-ltb, le-leb}
+use Rattle.std.proofs.Common.{◌≡◌, ◌≢◌, ℕ, ◌<◌, ◌≤◌, List, [], ◌∷◌, Option, Some, None, Bool, true, false, not, ◌&&◌, ◌||◌, refl, sym, ap, ◌∙◌, subst, arith, ⊎_elim}
+use Rattle.std.specs.Prelude.{slice_set, nat_lt}
+use Rattle.std.proofs.lemmas.Bool.{and_from, cases_eq, le-ltb, le-leb}
 use Rattle.vale_base.specs.declared.name.Kind.{Kind}
-use Rattle.vale_base.specs.declared.spot.Spot.{Spot}
 use Rattle.vale_rules_spec.specs.Types.{Ty}
-use Rattle.vale_rules_spec.specs.Types as y
 use Rattle.vale_code.specs.Operands.{room_for}
 use Rattle.vale_code.specs.declared.instr.Instr.{Instr}
-use Rattle.vale_code.specs.declared.instr.Instr.TheVariants as i
 use Rattle.vale_code.specs.declared.ty.Ty.{Ty as CodeTy}
 use Rattle.vale_code.specs.declared.ty.Ty.TheVariants as t
 use Rattle.vale_cert.specs.Types.{is_owned, is_isolate, is_frozen}
-use Rattle.vale_cert.specs.Known.{Known, fact_of, is_there, is_free, agrees}
+use Rattle.vale_cert.specs.Known.{Known, fact_of, is_free, agrees}
 use Rattle.vale_cert.specs.Numbers.{in_tables}
-use Rattle.vale_cert.specs.Objects.{field_of, item_of, cell_by, owner_kind, reference_kind, read_kind, is_through_frozen, found_alive, seen}
-use Rattle.vale_cert.specs.Rules.{Effect, reads, uses, gets, is_usable, is_readable, leads, is_known, leads_as_owner, leads_as_reference, leads_to_read, reads_cell, reads_own, reads_found, finds_alive, measures, after_passing, swaps, pushes, pops}
+use Rattle.vale_cert.specs.Objects.{cell_by, owner_kind, read_kind, is_through_frozen, found_alive, seen}
+use Rattle.vale_cert.specs.Rules.{Effect, uses, gets, is_readable, is_known, leads_as_owner, leads_as_reference, leads_to_read, reads_cell, reads_own, reads_found, finds_alive, after_passing, swaps}
 use Rattle.vale_cert.specs.Walk.{goes_on, target_of}
 use Rattle.vale_cert.specs.declared.facts.RegFact.{RegFact}
 use Rattle.vale_cert.specs.declared.facts.RegFact.TheVariants.{Empty, Held}
@@ -23,10 +20,10 @@ use Rattle.vale_cert.specs.declared.rules.Kept.{Kept}
 use Rattle.vale_lowering_objects.specs.Program.{code_type}
 use Rattle.vale_object_facts.specs.Slots.{Stand, holding}
 use Rattle.vale_object_facts.proofs.Agreeing.{held_agrees, agrees_same, Facts, put, put_here, put_there, Hold, hold_less, hold_put, hold_at, hold_free}
-use Rattle.vale_object_facts.proofs.Covering.{Site, at, held, Covers, Says, holding_here, holding_there}
-use Rattle.vale_object_facts.proofs.Runs.{row_at, Does, Runs, single, End, falls}
+use Rattle.vale_object_facts.proofs.Covering.{Site, at, held, Covers, holding_here, holding_there}
+use Rattle.vale_object_facts.proofs.Runs.{row_at, Does, Runs, single, falls}
 use Rattle.vale_object_facts.proofs.Ways.{in_order}
-use Rattle.vale_object_facts.proofs.Rows.{Fine, reads_fine, uses_fine, usable, room, does_by, Beside, over, writes}
+use Rattle.vale_object_facts.proofs.Rows.{Fine, uses_fine, usable, room, does_by, Beside, over}
 use Rattle.vale_object_facts.proofs.Owners.{says_put}
 
 -- a reference, `&imm` or not

@@ -1,29 +1,26 @@
 -- What an instruction does to what is known of the registers; and the instructions on numbers, truths and texts.
-use Rattle.std.proofs.Common.{◌≡◌, ◌≢◌, ℕ, ◌+◌, ◌<◌, ◌≤◌, ℤ, List, [], ◌∷◌, length, Option, Some, None, Bool, true, false, not, ◌&&◌, ◌||◌, ◌==◌, max, if◌then◌else◌, refl, sym, ap, ◌∙◌, subst, arith, ⊎_elim}
+use Rattle.std.proofs.Common.{◌≡◌, ◌≢◌, ℕ, ◌<◌, ◌≤◌, ℤ, List, [], ◌∷◌, length, None, Bool, true, false, not, ◌&&◌, ◌||◌, ◌==◌, refl, sym, ap, ◌∙◌, subst, arith, ⊎_elim}
 use Rattle.std.specs.Prelude.{slice_get, slice_set, nat_lt}
-use Rattle.std.proofs.lemmas.Bool.{and_parts, and_from, lt-ltb, cases_eq, eq-eqb, ne_eqb}
-use Rattle.vale_base.specs.declared.spot.Spot.{Spot}
+use Rattle.std.proofs.lemmas.Bool.{and_from, lt-ltb, cases_eq, eq-eqb}
 use Rattle.vale_rules_spec.specs.Types.{Ty}
 use Rattle.vale_rules_spec.specs.Types as y
-use Rattle.vale_code.specs.Kinds.{same_type}
 use Rattle.vale_code.specs.Operands.{room_for}
 use Rattle.vale_code.specs.declared.instr.Instr.{Instr}
 use Rattle.vale_code.specs.declared.instr.Instr.TheVariants as i
 use Rattle.vale_code.specs.declared.ty.Ty.{Ty as CodeTy}
-use Rattle.vale_code.specs.declared.ty.Ty.TheVariants as t
 use Rattle.vale_cert.specs.Types.{is_copy, is_owned}
 use Rattle.vale_cert.specs.Known.{Known, fact_of, is_there, is_free, has, agrees}
 use Rattle.vale_cert.specs.Numbers.{in_tables}
-use Rattle.vale_cert.specs.Rules.{Effect, fine, reads, uses, overwrites, gets, copy_of, is_copied, is_bound, is_usable, is_ordered, is_comparable, are_alike, is_printable, is_short, if_types}
+use Rattle.vale_cert.specs.Rules.{fine, reads, uses, overwrites, gets, copy_of, is_copied, is_bound, is_usable, is_ordered, is_comparable, are_alike, is_printable, is_short, if_types}
 use Rattle.vale_cert.specs.Walk.{goes_on, target_of}
 use Rattle.vale_cert.specs.declared.facts.RegFact.{RegFact}
 use Rattle.vale_cert.specs.declared.facts.RegFact.TheVariants.{Empty, Held}
 use Rattle.vale_cert.specs.declared.rules.Kept.{Kept}
 use Rattle.vale_lowering_objects.specs.Program.{code_type}
 use Rattle.vale_object_facts.specs.Slots.{Stand, holding}
-use Rattle.vale_object_facts.proofs.Agreeing.{type_same, held_agrees, agrees_same, agrees_through, Facts, put, put_here, put_there, Hold, hold_less, hold_put, hold_at, hold_free}
+use Rattle.vale_object_facts.proofs.Agreeing.{type_same, held_agrees, agrees_same, Facts, put, put_here, put_there, Hold, hold_less, hold_put, hold_at, hold_free}
 use Rattle.vale_object_facts.proofs.Covering.{Site, at, held, Covers, Says, holding_here, holding_there}
-use Rattle.vale_object_facts.proofs.Runs.{row_at, next_known, Does, Runs, single, End, falls}
+use Rattle.vale_object_facts.proofs.Runs.{row_at, Does, Runs, single, falls}
 use Rattle.vale_object_facts.proofs.Ways.{in_order}
 
 -- ---- rules that are kept

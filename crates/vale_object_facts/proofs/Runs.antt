@@ -19,7 +19,7 @@ use Rattle.vale_lowering_objects.specs.Scopes.{Gone, After, comes, never}
 use Rattle.vale_object_facts.specs.Slots.{Stand, label_for}
 use Rattle.vale_object_facts.specs.Stands.{Stands}
 use Rattle.vale_object_facts.proofs.Agreeing.{hold_at}
-use Rattle.vale_object_facts.proofs.Covering.{Site, at, Covers, Says, says_then, covers_less, known_of, covers_stated, enters_label}
+use Rattle.vale_object_facts.proofs.Covering.{Site, at, Covers, Says, covers_less, known_of, covers_stated, enters_label}
 
 one_kept : (n : ℕ) (a : Bool) (rest : Rules) → a ≡ true → broken rest ≡ None → broken ((n, a) ∷ rest) ≡ None
 one_kept n true rest e h = h

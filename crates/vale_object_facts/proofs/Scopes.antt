@@ -1,27 +1,25 @@
 -- How the walk goes through what a block hands out, and through the end of a local's scope.
-use Rattle.std.proofs.Common.{◌≡◌, ◌≢◌, ℕ, ◌+◌, ◌<◌, ◌≤◌, List, [], ◌∷◌, ◌++◌, length, Option, Some, None, Bool, true, false, not, ◌&&◌, ◌||◌, ◌==◌, if◌then◌else◌, refl, sym, ap, ◌∙◌, subst, arith, ⊎_elim}
-use Rattle.std.proofs.lemmas.Bool.{and_parts, and_from, cases_eq, eq-eqb, ne_eqb}
+use Rattle.std.proofs.Common.{◌≡◌, ◌≢◌, ℕ, ◌<◌, [], ◌∷◌, Bool, true, false, not, ◌&&◌, ◌==◌, if◌then◌else◌, refl, sym, ap, ◌∙◌, subst, arith, ⊎_elim}
+use Rattle.std.proofs.lemmas.Bool.{cases_eq, eq-eqb, ne_eqb}
 use Rattle.vale_base.specs.declared.spot.Spot.{Spot}
 use Rattle.vale_rules_spec.specs.Types.{Ty}
 use Rattle.vale_rules_spec.specs.Types as y
-use Rattle.vale_rules_spec.specs.Typing.{Env, with_local as env_with_local}
-use Rattle.vale_code.specs.declared.instr.Instr.{Instr}
+use Rattle.vale_rules_spec.specs.Typing.{Env}
 use Rattle.vale_code.specs.declared.instr.Instr.TheVariants as i
 use Rattle.vale_cert.specs.Known.{is_free, agrees}
-use Rattle.vale_cert.specs.declared.facts.RegFact.{RegFact}
 use Rattle.vale_cert.specs.declared.facts.RegFact.TheVariants.{Empty, Held}
 use Rattle.vale_lowering_objects.specs.Lowered.{hand, drop_entry, drop_value}
 use Rattle.vale_lowering_objects.specs.Program.{code_type}
-use Rattle.vale_lowering_objects.specs.Scopes.{Gives, void, copy, owner, gives_of, is_owner, Entry, entry, Gone, is_gone, without}
-use Rattle.vale_object_facts.specs.Slots.{local, Slot, Slots, is_listed, Stand, with_gone, holding, given, with_local, is_lost, slot_fact, fact_in}
-use Rattle.vale_object_facts.specs.Stands.{Stands as Marks, hand_stands, drop_local, drop_stands}
+use Rattle.vale_lowering_objects.specs.Scopes.{void, copy, owner, gives_of, entry, Gone, is_gone}
+use Rattle.vale_object_facts.specs.Slots.{local, Slot, Stand, with_gone, holding, given, with_local, is_lost, slot_fact, fact_in}
+use Rattle.vale_object_facts.specs.Stands.{hand_stands, drop_local, drop_stands}
 use Rattle.vale_object_facts.proofs.Agreeing.{agrees_same}
-use Rattle.vale_object_facts.proofs.Covering.{Site, at, held, Says, Falls, nothing_above, says_same, says_less, holding_here, holding_there}
+use Rattle.vale_object_facts.proofs.Covering.{Site, at, held, Says, nothing_above, says_less, holding_here, holding_there}
 use Rattle.vale_object_facts.proofs.Leaving.{owner_is}
-use Rattle.vale_object_facts.proofs.Locals.{Stands, none_at, free_at}
+use Rattle.vale_object_facts.proofs.Locals.{Stands, none_at}
 use Rattle.vale_object_facts.proofs.Owners.{owned_too, free_type, moves_out, drops_run}
-use Rattle.vale_object_facts.proofs.Rows.{Beside, beside_same, beside_one, copy_runs}
-use Rattle.vale_object_facts.proofs.Runs.{Runs, runs_less, nothing, End, falls}
+use Rattle.vale_object_facts.proofs.Rows.{Beside, copy_runs}
+use Rattle.vale_object_facts.proofs.Runs.{Runs, runs_less, nothing, falls}
 
 module _ (k : Site) where
   -- no slot is in the register, whatever is gone

@@ -1,6 +1,6 @@
 -- How the walk goes through the set of a local.
-use Rattle.std.proofs.Common.{◌≡◌, ◌≢◌, ℕ, ◌+◌, ◌<◌, ◌≤◌, List, [], ◌∷◌, ◌++◌, length, Option, Some, None, Bool, true, false, not, ◌&&◌, ◌||◌, ◌==◌, if◌then◌else◌, refl, sym, ap, ◌∙◌, subst, arith, ⊎_elim}
-use Rattle.std.proofs.lemmas.Bool.{and_parts, and_from, cases_eq, eq-eqb, ne_eqb}
+use Rattle.std.proofs.Common.{◌≡◌, ◌≢◌, ℕ, ◌+◌, ◌<◌, List, [], ◌∷◌, Bool, true, false, not, ◌&&◌, ◌==◌, if◌then◌else◌, refl, sym, ap, ◌∙◌, subst, arith, ⊎_elim}
+use Rattle.std.proofs.lemmas.Bool.{cases_eq}
 use Rattle.vale_base.specs.declared.spot.Spot.{Spot}
 use Rattle.vale_rules_spec.specs.Types.{Ty}
 use Rattle.vale_rules_spec.specs.Types as y
@@ -9,21 +9,20 @@ use Rattle.vale_code.specs.declared.instr.Instr.{Instr}
 use Rattle.vale_code.specs.declared.instr.Instr.TheVariants as i
 use Rattle.vale_cert.specs.Types.{is_owned}
 use Rattle.vale_cert.specs.Known.{is_free, agrees}
-use Rattle.vale_cert.specs.declared.facts.RegFact.{RegFact}
-use Rattle.vale_cert.specs.declared.facts.RegFact.TheVariants.{Empty, Held}
+use Rattle.vale_cert.specs.declared.facts.RegFact.TheVariants.{Empty}
 use Rattle.vale_lowering.specs.Instructions.{stuck}
 use Rattle.vale_lowering_objects.specs.Lowered.{exchange_by, exchange, store_by, store}
 use Rattle.vale_lowering_objects.specs.Program.{code_type}
-use Rattle.vale_lowering_objects.specs.Scopes.{Gives, void, copy, owner, gives_of, is_owner, find, Gone, is_gone, same_truth}
+use Rattle.vale_lowering_objects.specs.Scopes.{Gives, void, copy, owner, gives_of, is_owner, find, is_gone, same_truth}
 use Rattle.vale_object_facts.specs.Slots.{is_listed, Stand, scope_at, with_gone, holding, is_lost}
 use Rattle.vale_object_facts.specs.Stands as stands
 use Rattle.vale_object_facts.proofs.Agreeing.{agrees_same, put, put_here, put_there}
 use Rattle.vale_object_facts.proofs.Covering.{Site, at, held, Says, holding_here, holding_there}
 use Rattle.vale_object_facts.proofs.Leaving.{owner_is}
-use Rattle.vale_object_facts.proofs.Locals.{Named, Stands, none_at, free_at, below, holds, lost, others_stay}
+use Rattle.vale_object_facts.proofs.Locals.{Named, Stands, none_at, below, holds, lost, others_stay}
 use Rattle.vale_object_facts.proofs.Owners.{owned_too, free_type, says_put, moves_run, moves_out, drops_run}
-use Rattle.vale_object_facts.proofs.Rows.{Beside, beside_same, beside_one, beside_above, copy_runs}
-use Rattle.vale_object_facts.proofs.Runs.{Runs, runs_less, both, End, falls}
+use Rattle.vale_object_facts.proofs.Rows.{beside_same, beside_one, beside_above, copy_runs}
+use Rattle.vale_object_facts.proofs.Runs.{Runs, runs_less, both, falls}
 use Rattle.vale_object_facts.proofs.Ways.{Clean}
 
 none_and : (b : Bool) → (b && false) ≡ false

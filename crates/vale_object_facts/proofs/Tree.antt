@@ -1,51 +1,45 @@
 -- The walk goes through the code of each part of a program whose types fit, where no instruction of it is one that no step follows.
-use Rattle.std.proofs.Common.{◌≡◌, ◌≢◌, ℕ, ◌+◌, ◌<◌, ◌≤◌, List, [], ◌∷◌, ◌++◌, length, Option, Some, None, Bool, true, false, not, ◌&&◌, ◌||◌, ◌==◌, if◌then◌else◌, refl, sym, ap, ◌∙◌, subst, arith}
+use Rattle.std.proofs.Common.{◌≡◌, ℕ, ◌+◌, ◌<◌, ◌≤◌, List, [], ◌∷◌, ◌++◌, length, Some, Bool, true, false, ◌&&◌, if◌then◌else◌, refl, sym, ap, ◌∙◌, subst, arith}
 use Rattle.std.specs.Prelude.{slice_get, nat_lt}
-use Rattle.std.proofs.lemmas.Bool.{and_parts, and_from, ne_eqb}
+use Rattle.std.proofs.lemmas.Bool.{and_parts, ne_eqb}
 use Rattle.std.proofs.lemmas.Option.{slice_get_within}
 use Rattle.vale_base.specs.declared.spot.Spot.{Spot}
-use Rattle.vale_syntax.specs.declared.built_in.BuiltIn.{BuiltIn}
-use Rattle.vale_syntax.specs.declared.built_in.BuiltIn.TheVariants as b
 use Rattle.vale_syntax.specs.declared.tree.NameAt.{NameAt}
-use Rattle.vale_syntax.specs.declared.tree.BinaryOp.{BinaryOp}
 use Rattle.vale_syntax.specs.declared.tree.UnaryOp.TheVariants as unary_op
 use Rattle.vale_text.specs.Operations.{is_int}
 use Rattle.vale_base.specs.Limits.{text_limit}
 use Rattle.std.specs.Prelude.{nat_le}
 use Rattle.std.specs.List.{list_all}
 use Rattle.vale_syntax.specs.Bytes.{is_byte}
-use Rattle.vale_rules_spec.specs.TypeRules.{takes_operands, link_gives}
 use Rattle.vale_rules_spec.specs.Types.{Ty, Seen}
 use Rattle.vale_rules_spec.specs.Types as y
-use Rattle.vale_rules_spec.specs.Typed.{Callee, built_in, Form, branch, pure, parallel_range, parallel_each, else_if, Elses, no_else, otherwise, more_elses, Block, block, Stmt, declare, destructure, return_nothing, return_value, while, foreach, form_stmt, express, Stmts, no_stmts, last, more_stmts, Expr, expr, Node, set, chain, unary, steps, number, quote, truth, name, call, paren, array, iso, form, Exprs, no_exprs, more_exprs, link, Links, no_links, more_links, type, types, chain_seen}
+use Rattle.vale_rules_spec.specs.Typed.{Form, branch, pure, parallel_range, parallel_each, else_if, Elses, no_else, otherwise, more_elses, Block, block, Stmt, declare, destructure, return_nothing, return_value, while, foreach, form_stmt, express, Stmts, no_stmts, last, more_stmts, Expr, expr, Node, set, chain, unary, steps, number, quote, truth, name, call, paren, array, iso, form, Exprs, no_exprs, more_exprs, link, Links, no_links, more_links, type, types, chain_seen}
 use Rattle.vale_rules_spec.specs.Typing.{Env, with_local as env_with_local}
 use Rattle.vale_model.specs.Expressions.{expr_spot}
 use Rattle.vale_code.specs.declared.instr.Instr.{Instr}
 use Rattle.vale_code.specs.declared.instr.Instr.TheVariants as i
-use Rattle.vale_cert.specs.Known.{is_free}
 use Rattle.vale_cert.specs.Rules.{is_short}
-use Rattle.vale_cert.specs.declared.facts.RegFact.TheVariants.{Empty, Held}
+use Rattle.vale_cert.specs.declared.facts.RegFact.TheVariants.{Empty}
 use Rattle.vale_lowering.specs.Instructions.{only_if, unary_code}
 use Rattle.vale_lowering.specs.Scopes.{number_of_text}
 use Rattle.vale_lowering.specs.Texts.{is_lawful_text}
-use Rattle.vale_lowering_objects.specs.Lowered.{then_code, if_comes, args_code, args_after, callee_code, gives_list, first_type, sides, turns_code, hand, drop_value, store, drop_entry, drop_scope, form_code, elses_code, block_code, stmts_code, stmt_code, form_after, elses_after, block_after, stmts_after, stmt_after, move_out, lend_local, moved_out, truth_number, expr_code, node_code, links_code, link_code, link_after, place_code, exchange, expr_after, node_after, links_after, place_after}
+use Rattle.vale_lowering_objects.specs.Lowered.{then_code, if_comes, args_code, args_after, callee_code, gives_list, first_type, sides, hand, drop_value, store, drop_entry, drop_scope, form_code, elses_code, block_code, stmts_code, stmt_code, form_after, elses_after, block_after, stmts_after, stmt_after, moved_out, truth_number, expr_code, node_code, links_code, link_code, link_after, exchange, expr_after, node_after, links_after}
 use Rattle.vale_lowering_objects.specs.Scopes.{Gives, void, copy, owner, gives_of, is_value, agree, entry, waiting, find, Gone, without, After, comes, never, then_after, met, may_meet, closes, Around}
 use Rattle.vale_lowering_objects.specs.Program.{code_type}
 use Rattle.vale_object_facts.specs.Slots.{local, waits, Stand, scope_at, with_gone, holding, given, with_local, with_waiting, slot_fact, fact_in}
-use Rattle.vale_object_facts.specs.Stands.{Stands as Marks, with_args, args_stands, then_stands, comes_stands, sides_stands, hand_stands, drop_stands, store_stands, drop_local, leave_stands, form_stands, elses_stands, block_stands, stmts_stands, stmt_stands, unary_stands, expr_stands, node_stands, links_stands, link_stands, place_stands, exchange_stands}
-use Rattle.vale_object_facts.specs.Suits.{IsLocal, exprs_suit, expr_suits, node_suits, links_suit, place_suits, lent_suits, form_suits, elses_suit, block_suits, stmts_suit, stmt_suits}
-use Rattle.vale_object_facts.proofs.Agreeing.{agrees_same}
+use Rattle.vale_object_facts.specs.Stands.{Stands as Marks, with_args, args_stands, then_stands, comes_stands, sides_stands, hand_stands, drop_stands, store_stands, drop_local, leave_stands, form_stands, elses_stands, block_stands, stmts_stands, stmt_stands, unary_stands, expr_stands, node_stands, links_stands, link_stands, exchange_stands}
+use Rattle.vale_object_facts.specs.Suits.{IsLocal, exprs_suit, expr_suits, node_suits, links_suit, form_suits, elses_suit, block_suits, stmts_suit, stmt_suits}
 use Rattle.vale_object_facts.proofs.Arguments.{args_gone, args_fall, args_wait}
 use Rattle.vale_object_facts.proofs.Callees.{callee_runs}
-use Rattle.vale_object_facts.proofs.Covering.{Site, at as says_at, held, Says, says_same, says_then, says_holding, says_given, says_role, nothing_above, holding_here, holding_there}
+use Rattle.vale_object_facts.proofs.Covering.{Site, at as says_at, Says, says_same, says_holding, says_role, nothing_above}
 use Rattle.vale_object_facts.proofs.Leaving.{leaves_with, leaves}
 use Rattle.vale_object_facts.proofs.Locals.{Named, named, Stands, none_at, free_at, stands_up, stands_gone, stands_holding, stands_waiting, stands_local, move_runs, load_runs, lend_runs}
 use Rattle.vale_object_facts.proofs.Operators.{operands_plain, not_runs, minus_runs}
-use Rattle.vale_object_facts.proofs.Parts.{value_some, copy_value, copy_of, owner_of, owned_some, agree_is, agree_self, chosen, as_given, as_value, says_still, next_free, link_runs, sides_go, turns_go}
+use Rattle.vale_object_facts.proofs.Parts.{value_some, copy_value, copy_of, owner_of, owned_some, agree_is, chosen, as_given, as_value, says_still, next_free, link_runs, sides_go, turns_go}
 use Rattle.vale_object_facts.proofs.Rows.{int_runs, truth_runs, text_runs}
-use Rattle.vale_object_facts.proofs.Runs.{End, falls, stops, ending, Runs, runs_less, runs_from, ends_less, nothing, both}
+use Rattle.vale_object_facts.proofs.Runs.{falls, ending, Runs, runs_less, ends_less, nothing}
 use Rattle.vale_object_facts.proofs.Sets.{exchange_runs, store_runs}
-use Rattle.vale_object_facts.proofs.Ways.{Clean, clean_both, then_runs, then_runs_known, comes_runs, comes_stops, ending_none}
+use Rattle.vale_object_facts.proofs.Ways.{Clean, then_runs, then_runs_known, comes_runs, comes_stops, ending_none}
 use Rattle.vale_object_facts.proofs.Scopes.{Fresh, fresh_slot, hand_runs, unused_runs, scope_ends}
 
 -- what a function's body is lowered with

@@ -1,18 +1,18 @@
 -- How the walk goes through tests with their sides, and through loops.
-use Rattle.std.proofs.Common.{◌≡◌, ℕ, suc, ◌+◌, ◌<◌, List, [], ◌∷◌, ◌++◌, length, Option, Some, None, Bool, true, false, refl, sym, ap, ◌∙◌, subst, arith, length-append, append_assoc}
+use Rattle.std.proofs.Common.{◌≡◌, ℕ, suc, ◌+◌, List, [], ◌∷◌, ◌++◌, length, Some, false, refl, sym, ap, ◌∙◌, subst, arith, length-append, append_assoc}
 use Rattle.std.proofs.lemmas.Bool.{and_from}
 use Rattle.vale_code.specs.declared.instr.Instr.{Instr}
 use Rattle.vale_code.specs.declared.instr.Instr.TheVariants as i
 use Rattle.vale_code.specs.declared.ty.Ty.TheVariants as t
-use Rattle.vale_cert.specs.Known.{Known, label_at, is_label}
+use Rattle.vale_cert.specs.Known.{Known}
 use Rattle.vale_cert.specs.Walk.{target_of}
 use Rattle.vale_cert.specs.declared.facts.RegFact.TheVariants.{Held}
 use Rattle.vale_lowering_objects.specs.Lowered.{jump_over}
 use Rattle.vale_lowering_objects.specs.Scopes.{Gone, After, comes, never, met}
 use Rattle.vale_object_facts.specs.Slots.{Stand}
-use Rattle.vale_object_facts.specs.Stands.{Stands, sides_stands, jump_stands, loop_stands}
-use Rattle.vale_object_facts.proofs.Covering.{Site, at, Covers, Says, says_same, says_then, known_of, covers_stated}
-use Rattle.vale_object_facts.proofs.Runs.{Ready, Cut, End, falls, stops, ending, Next, ready_more, ready_at, Placed, no_way, Does, goes, target_ready, target_placed, covers_kept, jumps, tests, Fits, front, back, tail, numbered, numbered_both, Runs}
+use Rattle.vale_object_facts.specs.Stands.{Stands, sides_stands, loop_stands}
+use Rattle.vale_object_facts.proofs.Covering.{Site, at, Covers, Says, says_same, known_of, covers_stated}
+use Rattle.vale_object_facts.proofs.Runs.{Ready, Cut, End, falls, stops, ending, Next, ready_more, ready_at, Placed, no_way, Does, goes, target_ready, target_placed, covers_kept, jumps, tests, Fits, front, back, tail, numbered_both, Runs}
 use Rattle.vale_object_facts.proofs.Ways.{in_order}
 
 module _ (k : Site) where

@@ -1,8 +1,7 @@
 -- How the walk goes through the shapes of code: one part after another, code that no run comes to, tests with their sides, and loops.
-use Rattle.std.proofs.Common.{◌≡◌, ℕ, suc, ◌+◌, ◌<◌, ◌≤◌, List, [], ◌∷◌, ◌++◌, length, Option, Some, None, Bool, true, false, ◌&&◌, ◌||◌, refl, sym, ap, ◌∙◌, subst, arith, length-append, append_assoc}
-use Rattle.std.specs.Prelude.{nat_lt}
+use Rattle.std.proofs.Common.{◌≡◌, ℕ, ◌+◌, ◌<◌, ◌≤◌, List, [], ◌∷◌, ◌++◌, length, Bool, true, false, ◌||◌, refl, sym, ap, ◌∙◌, subst, arith, length-append, append_assoc}
 use Rattle.std.specs.List.{list_all}
-use Rattle.std.proofs.lemmas.Bool.{and_parts, and_from, lt-ltb}
+use Rattle.std.proofs.lemmas.Bool.{and_parts, and_from}
 use Rattle.std.proofs.lemmas.List.Folds.{list_all-append}
 use Rattle.vale_rules_spec.specs.Types as y
 use Rattle.vale_code.specs.Operands.{reads as registers_read, writes, room_for}
@@ -12,17 +11,16 @@ use Rattle.vale_code.specs.declared.instr.Instr.TheVariants as i
 use Rattle.vale_code.specs.declared.ty.Ty.TheVariants as t
 use Rattle.vale_cert.specs.Known.{Known, is_free, agrees}
 use Rattle.vale_cert.specs.Numbers.{numbers, in_tables, is_void_call}
-use Rattle.vale_cert.specs.Walk.{target_of}
 use Rattle.vale_cert.specs.declared.facts.RegFact.TheVariants.{Empty, Held}
-use Rattle.vale_lowering.specs.Instructions.{stuck, only_if}
-use Rattle.vale_lowering_objects.specs.Lowered.{dead_code, then_code, if_comes, jump_over}
-use Rattle.vale_lowering_objects.specs.Scopes.{Gone, After, comes, never, no_run, then_after, met}
+use Rattle.vale_lowering.specs.Instructions.{only_if}
+use Rattle.vale_lowering_objects.specs.Lowered.{dead_code, then_code, if_comes}
+use Rattle.vale_lowering_objects.specs.Scopes.{Gone, After, comes, never, no_run, then_after}
 use Rattle.vale_object_facts.specs.Slots.{Stand, holding}
 use Rattle.vale_object_facts.specs.Suits.{is_sure, Sure}
-use Rattle.vale_object_facts.specs.Stands.{Stands, gone_of, dead_stands, then_stands, comes_stands, jump_stands}
-use Rattle.vale_object_facts.proofs.Agreeing.{hold_put, hold_less, hold_free, put, agrees_same, held_agrees}
+use Rattle.vale_object_facts.specs.Stands.{Stands, gone_of, dead_stands, then_stands, comes_stands}
+use Rattle.vale_object_facts.proofs.Agreeing.{hold_put, hold_free, agrees_same}
 use Rattle.vale_object_facts.proofs.Covering.{Site, at, Covers, Says, says_same, says_less, holding_here}
-use Rattle.vale_object_facts.proofs.Runs.{Ready, Cut, End, falls, stops, ending, Next, ready_more, ready_at, next_at, Placed, no_way, Does, goes, Target, target_ready, target_placed, covers_kept, jumps, tests, Fits, front, back, tail, numbered, numbered_both, Runs, runs_less, both}
+use Rattle.vale_object_facts.proofs.Runs.{Ready, Cut, End, falls, stops, ending, Next, ready_more, ready_at, no_way, Does, goes, target_placed, jumps, tests, Fits, front, back, tail, numbered, numbered_both, Runs, both}
 
 -- ---- code without instructions that no step follows
 

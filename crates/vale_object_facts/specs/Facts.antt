@@ -1,5 +1,5 @@
 -- The facts that certify the code of a program with owners: a label at each place that a jump names, which states what is known there.
-use Rattle.std.specs.Prelude.{ℕ, zero, ◌+◌, Bool, false, ◌==◌, List, [], ◌∷◌, ◌++◌, length, map, Option, Some, None, if◌then◌else◌}
+use Rattle.std.specs.Prelude.{ℕ, ◌+◌, Bool, false, ◌==◌, List, [], ◌∷◌, length, map, Option, Some, None, if◌then◌else◌}
 use Rattle.std.specs.List.{list_any}
 use Rattle.vale_syntax.specs.Tree.{Param, param}
 use Rattle.vale_rules_spec.specs.Declarations.{head_params}
@@ -16,7 +16,7 @@ use Rattle.vale_cert.specs.declared.facts.Label.{Label}
 use Rattle.vale_lowering_objects.specs.Code.{lowered_function, functions_in, texts_of}
 use Rattle.vale_lowering_objects.specs.Lowered.{block_after}
 use Rattle.vale_lowering_objects.specs.Program.{names_in}
-use Rattle.vale_object_facts.specs.Slots.{local, Slot, Slots, Stand, scope_at, with_gone, label_for}
+use Rattle.vale_object_facts.specs.Slots.{local, Slots, Stand, scope_at, with_gone, label_for}
 use Rattle.vale_object_facts.specs.Stands.{Stands, comes_stands, leave_stands, block_stands}
 
 -- the parameters have the first registers, in order

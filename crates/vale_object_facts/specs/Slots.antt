@@ -1,5 +1,5 @@
 -- What is known at a place of lowered code: which registers hold values of which types, at which depth, and which owners are gone.
-use Rattle.std.specs.Prelude.{ℕ, zero, suc, ◌+◌, Bool, true, false, not, ◌&&◌, ◌==◌, List, [], ◌∷◌, if◌then◌else◌}
+use Rattle.std.specs.Prelude.{ℕ, zero, suc, ◌+◌, Bool, true, false, ◌&&◌, ◌==◌, List, [], ◌∷◌, if◌then◌else◌}
 use Rattle.vale_rules_spec.specs.Types.{Ty, is_void, is_owned}
 use Rattle.vale_model.specs.Parts.{Parts}
 use Rattle.vale_cert.specs.declared.facts.Label.{Label}

@@ -1,5 +1,5 @@
 -- What is known before each instruction of lowered code, part by part, in the order of the code.
-use Rattle.std.specs.Prelude.{ℕ, ◌+◌, Bool, true, false, not, ◌&&◌, List, [], ◌∷◌, ◌++◌, length, Option, Some, None, if◌then◌else◌}
+use Rattle.std.specs.Prelude.{ℕ, ◌+◌, Bool, false, not, ◌&&◌, List, [], ◌∷◌, ◌++◌, length, Option, Some, None, if◌then◌else◌}
 use Rattle.vale_syntax.specs.declared.tree.BinaryOp.{BinaryOp}
 use Rattle.vale_syntax.specs.declared.tree.BinaryOp.TheVariants as op
 use Rattle.vale_syntax.specs.declared.tree.UnaryOp.{UnaryOp}
@@ -7,12 +7,12 @@ use Rattle.vale_syntax.specs.declared.tree.UnaryOp.TheVariants as unary_op
 use Rattle.vale_rules_spec.specs.Types.{Ty, View, is_owned, Seen}
 use Rattle.vale_rules_spec.specs.Types as y
 use Rattle.vale_rules_spec.specs.TypeRules.{borrow_gives}
-use Rattle.vale_rules_spec.specs.Typed.{Expr, expr, Node, set, chain, unary, steps, number, quote, truth, name, call, paren, array, iso, form, Exprs, no_exprs, more_exprs, link, Links, no_links, more_links, Step, field, method, index, Steps, no_steps, more_steps, Form, branch, pure, else_if, Elses, no_else, otherwise, more_elses, Block, block, Stmt, declare, destructure, return_nothing, return_value, while, foreach, form_stmt, express, Stmts, no_stmts, last, more_stmts, type, block_type, chain_seen, steps_seen, step_seen}
+use Rattle.vale_rules_spec.specs.Typed.{Expr, expr, Node, set, chain, unary, steps, number, quote, truth, name, call, paren, array, iso, form, Exprs, no_exprs, more_exprs, link, Links, no_links, more_links, Step, index, Steps, no_steps, more_steps, Form, branch, pure, else_if, Elses, no_else, otherwise, more_elses, Block, block, Stmt, declare, destructure, return_nothing, return_value, while, foreach, form_stmt, express, Stmts, no_stmts, last, more_stmts, type, block_type, chain_seen, steps_seen, step_seen}
 use Rattle.vale_model.specs.Expressions.{numbers_of}
 use Rattle.vale_lowering_objects.specs.Changes.{step_changes}
 use Rattle.vale_lowering_objects.specs.Lowered.{all_gives, locals_after, link_after, step_view, stays_of, expr_after, node_after, start_after, step_after, steps_after, place_after, targets_after, args_after, links_after, elses_after, block_after, stmts_after, stmt_after, gives_list}
 use Rattle.vale_lowering_objects.specs.Scopes.{gives_of, Entry, find, Gone, is_gone, After, comes, never, met, Scope}
-use Rattle.vale_object_facts.specs.Slots.{at_hand, Slot, Slots, is_listed, is_lost, Stand, scope_at, with_gone, deeper, holding, given, with_waiting, with_local}
+use Rattle.vale_object_facts.specs.Slots.{Slot, Slots, is_listed, Stand, scope_at, with_gone, deeper, holding, given, with_waiting, with_local}
 
 abbrev pub Stands : Type 0
 Stands = List Stand

@@ -4,12 +4,11 @@ use Rattle.std.specs.List.{list_all}
 use Rattle.vale_syntax.specs.declared.built_in.BuiltIn.{BuiltIn}
 use Rattle.vale_syntax.specs.declared.built_in.BuiltIn.TheVariants as b
 use Rattle.vale_syntax.specs.declared.tree.NameAt.{NameAt}
-use Rattle.vale_syntax.specs.declared.tree.UnaryOp.{UnaryOp}
 use Rattle.vale_syntax.specs.declared.tree.UnaryOp.TheVariants as unary_op
 use Rattle.vale_rules_spec.specs.TypeRules.{takes_operands, link_gives}
 use Rattle.vale_rules_spec.specs.Types.{Ty, void, int, bool, str, ref, is_owner, is_owned, is_copy, is_frozen, Local, local_of}
 use Rattle.vale_rules_spec.specs.Typed.{Callee, built_in, Expr, expr, Node, set, chain, unary, steps, number, quote, truth, name, call, paren, array, iso, form, Exprs, no_exprs, more_exprs, link, Links, no_links, more_links, Form, branch, pure, parallel_range, parallel_each, else_if, Elses, no_else, otherwise, more_elses, Block, block, Stmt, declare, destructure, return_nothing, return_value, while, foreach, form_stmt, express, Stmts, no_stmts, last, more_stmts, type, types}
-use Rattle.vale_rules_spec.specs.Typing.{Env, with_local, after}
+use Rattle.vale_rules_spec.specs.Typing.{Env, after}
 use Rattle.vale_code.specs.declared.instr.Instr.{Instr}
 use Rattle.vale_code.specs.declared.instr.Instr.TheVariants as i
 use Rattle.vale_lowering.specs.Scopes.{number_of_text}
