@@ -1,10 +1,10 @@
 // What an object has: a kind, and a value for each field or element.
-ghost use Rattle.std.specs.Prelude.{◌≡◌, ◌+◌, ◌<◌, [], ◌∷◌, ◌++◌, length, IfErr, IfNone, OnErr, OnOk, option_to_list, slice_get, slice_set, Some, option_copied};
+ghost use Rattle.std.specs.Prelude.{◌≡◌, ◌+◌, ◌<◌, [], ◌∷◌, ◌++◌, length, IfErr, IfNone, IfSome, OnErr, OnOk, option_to_list, slice_get, slice_set, Some, option_copied};
 
 use std::alloc::{AllocFailed, Global};
 use std::marker::Model;
 use std::mem;
-use vale_base::{Kind, Text};
+use vale_base::{Kind, Memory, Text};
 
 /// The place of an object: a frame, a slot of its page, and the slot's generation at which the object was made.
 #[derive(Clone, Copy, Debug, PartialEq, Eq)]
@@ -85,6 +85,22 @@ impl Cells {
         ensures after { self.new ≡ slice_set self.old index cell }
     {
         mem::replace(&mut self.cells[index], cell)
+    }
+
+    /// Puts a cell behind the others.
+    pub fn push(&mut self, cell: Cell) -> Result<(), Memory>
+        ensures { OnOk result (self.new ≡ self.old ++ cell ∷ []) }
+    {
+        self.cells.push(cell)?;
+        Ok(())
+    }
+
+    /// Takes the last cell, if there is one.
+    pub fn pop(&mut self) -> Option<Cell>
+        ensures some { IfSome result (λ cell. self.old ≡ self.new ++ cell ∷ []) }
+        ensures none { IfNone result (self.old ≡ []) }
+    {
+        self.cells.pop()
     }
 }
 

@@ -1,0 +1,5 @@
+pub mod Arrays
+pub mod Fields
+pub mod Objects
+pub mod References
+pub mod Registers

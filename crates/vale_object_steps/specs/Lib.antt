@@ -1,0 +1,5 @@
+pub mod Doing
+pub mod Indices
+pub mod Keeping
+pub mod Lent
+pub mod Views
