@@ -129,6 +129,7 @@ module _ (to a x : ℕ) (heap : HeapState) (cells : List (Option Cell)) where
         view = v;
         value = Some (value_of v.names (lent_cell c));
         grows = same_names v v.state;
+        steady = record { left = refl; spent = refl; pieces = refl; frozen = refl; quiet = refl };
         agrees = w.agrees;
         is =
             read_is v (Int z) e
@@ -161,6 +162,7 @@ module _ (to a : ℕ) (heap : HeapState) (cells : List (Option Cell)) where
         view = v;
         value = Some (number (pos (length body.cells)));
         grows = same_names v v.state;
+        steady = record { left = refl; spent = refl; pieces = refl; frozen = refl; quiet = refl };
         agrees = w.agrees;
         is = on_living v heap cells agrees a p at (on_count v.state) means.0 means.1 ∙ ap (λ n. gives (Some (number (pos n))) v.state) (sym many);
         registers = w.is;
@@ -243,6 +245,7 @@ module _ (to a x b : ℕ) (heap : HeapState) (cells : List (Option Cell)) where
         view = u;
         value = Some (value_of v.names was);
         grows = same_names v s;
+        steady = record { left = refl; spent = refl; pieces = refl; frozen = refl; quiet = refl };
         agrees = w.agrees;
         is =
             exchange_is v (Int z) c e new
@@ -348,6 +351,7 @@ module _ (a b : ℕ) (heap : HeapState) (cells : List (Option Cell)) where
         view = u;
         value = None;
         grows = same_names v s;
+        steady = record { left = refl; spent = refl; pieces = refl; frozen = refl; quiet = refl };
         agrees = record { stands = stood; regions = agrees.regions; known = kp.agrees.known };
         is =
             push_is v c new
@@ -401,6 +405,7 @@ module _ (to a : ℕ) (heap : HeapState) (cells : List (Option Cell)) where
         view = u;
         value = Some (value_of v.names was);
         grows = same_names v s;
+        steady = record { left = refl; spent = refl; pieces = refl; frozen = refl; quiet = refl };
         agrees = w.agrees;
         is =
             on_living v heap cells agrees a p at (on_pop v.state) o means.1

@@ -56,6 +56,7 @@ module _ (to a field : ℕ) (heap : HeapState) (cells : List (Option Cell)) wher
         view = v;
         value = Some (value_of v.names (lent_cell c));
         grows = same_names v v.state;
+        steady = record { left = refl; spent = refl; pieces = refl; frozen = refl; quiet = refl };
         agrees = w.agrees;
         is =
             on_living v heap cells agrees a p at (λ n o. field_in (slice_get o.values field) v.state) means.0 means.1
@@ -122,6 +123,7 @@ module _ (to a field b : ℕ) (heap : HeapState) (cells : List (Option Cell)) wh
         view = u;
         value = Some (value_of v.names was);
         grows = same_names v s;
+        steady = record { left = refl; spent = refl; pieces = refl; frozen = refl; quiet = refl };
         agrees = w.agrees;
         is =
             swap_is v c new

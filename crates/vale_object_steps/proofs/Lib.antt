@@ -1,4 +1,5 @@
 pub mod Arrays
+pub mod Births
 pub mod Fields
 pub mod Objects
 pub mod References

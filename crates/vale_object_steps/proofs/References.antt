@@ -105,6 +105,7 @@ module _ (to a : ℕ) (heap : HeapState) (cells new : List (Option Cell)) (room 
         view = v;
         value = Some (value_of v.names l.cell);
         grows = same_names v v.state;
+        steady = record { left = refl; spent = refl; pieces = refl; frozen = refl; quiet = refl };
         agrees = w.agrees;
         is = ap (λ o. on_value o (λ x. given (moved x) v.state)) (read_values v.names cells a)
             ∙ moved_is v.names v.state (held cells a) l.cell l.is (subst (λ o. IsRight (on_value o (λ x. given (moved x) v.state))) (read_values v.names cells a) right);
@@ -118,6 +119,7 @@ module _ (to a : ℕ) (heap : HeapState) (cells new : List (Option Cell)) (room 
         view = v;
         value = Some (value_of v.names (Ref p));
         grows = same_names v v.state;
+        steady = record { left = refl; spent = refl; pieces = refl; frozen = refl; quiet = refl };
         agrees = w.agrees;
         is = ap (λ o. on_value o (λ x. given (as_frozen (name_of x)) v.state)) (read_values v.names cells a)
             ∙ frozen_is v.names v.state (held cells a) p at;
@@ -134,6 +136,7 @@ module _ (to a : ℕ) (heap : HeapState) (cells new : List (Option Cell)) (room 
         view = v;
         value = Some (value_of v.names l.cell);
         grows = same_names v v.state;
+        steady = record { left = refl; spent = refl; pieces = refl; frozen = refl; quiet = refl };
         agrees = w.agrees;
         is = ap (λ o. on_value o (λ x. given (leading x) v.state)) (read_values v.names cells a ∙ ap (value_in v.names) l.is)
             ∙ leading_is v.names v.state l.cell l.place l.leads;

@@ -1,5 +1,5 @@
 -- What a heap and registers stand for, where names have places, and how a step of theirs follows one of the state.
-use Rattle.std.specs.Prelude.{◌≡◌, ℕ, List, ◌++◌, Option, Bool, false}
+use Rattle.std.specs.Prelude.{◌≡◌, ℕ, List, ◌++◌, Option, None, Bool, false}
 use Rattle.vale_state_spec.specs.State.{State, Answer, gives, traps, fails}
 use Rattle.vale_state_spec.specs.World.{Value}
 use Rattle.vale_code.specs.Registers.{Registers, with_result}
@@ -11,7 +11,6 @@ use Rattle.vale_object_cells.specs.Names.{AllKnown, values_in}
 use Rattle.vale_object_steps.specs.Doing.{Doing}
 use Rattle.vale_object_steps.specs.declared.effect.Effect.{Effect}
 use Rattle.vale_object_steps.specs.declared.effect.Effect.TheVariants as effect
-use Rattle.std.specs.Prelude.{None}
 
 -- the names with their places, the lower bound of each slot of frames that have no page, and the state
 pub record View : Type 0 where
@@ -35,6 +34,14 @@ pub record Grows (v w : View) : Type 0 where
   pub names : w.names ≡ v.names ++ more
   pub low : w.low ≡ v.low
 
+-- the rest of a state: the ticks, the pieces and what is open
+pub record Steady (s t : State) : Type 0 where
+  pub left : t.left ≡ s.left
+  pub spent : t.spent ≡ s.spent
+  pub pieces : t.pieces ≡ s.pieces
+  pub frozen : t.frozen ≡ s.frozen
+  pub quiet : t.quiet ≡ s.quiet
+
 -- a rule gives the step
 abbrev pub IsRight : Answer → Type 0
 IsRight fails = ⊥
@@ -45,6 +52,7 @@ pub record Gave (v : View) (d : Doing) (heap : HeapState) (cells : List (Option 
   pub view : View
   pub value : Option Value
   pub grows : Grows v view
+  pub steady : Steady v.state view.state
   pub agrees : Agrees view heap cells
   pub is : d.answer ≡ gives value view.state
   pub registers : values_in view.names cells ≡ with_result d.to value d.after

@@ -1,0 +1,3 @@
+pub mod Landing
+pub mod Objects
+pub mod Steps

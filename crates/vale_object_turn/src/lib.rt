@@ -1,0 +1,7 @@
+//! What an instruction on objects does within its function: its registers, the heap and the place go on as the code's meaning
+//! says, whatever names the places have.
+#![tactic(auto)]
+
+mod obey;
+
+pub use obey::{obey_change, obey_look, obey_reference};
