@@ -26,9 +26,13 @@ fn put_text(
     ensures cells { OnOk result (cells_from base texts.new registers.new ≡ slice_set (cells_from base texts.old registers.old) to (Some (Cell.Text text))) }
     ensures others { OnOk result ((i : ℕ) → i < base → text_at texts.new i ≡ text_at texts.old i) }
 {
-    texts.put(alloc, base + to as usize, text)?;
-    set_text(registers, to);
-    Ok(())
+    match texts.put(alloc, base + to as usize, text) {
+        Ok(()) => {
+            set_text(registers, to);
+            Ok(())
+        }
+        Err(fault) => Err(fault),
+    }
 }
 
 /// A register gets what others get of a cell: of an owner and an isolate a reference.
@@ -46,17 +50,31 @@ pub fn lend(
     ensures others { OnOk result ((i : ℕ) → i < base → text_at texts.new i ≡ text_at texts.old i) }
 {
     match cell {
-        Cell::Int(number) => set_int(registers, to, *number),
-        Cell::Truth(truth) => set_truth(registers, to, *truth),
-        Cell::Text(text) => {
-            let text = Text::from_slice(alloc, text.as_slice())?;
-            return put_text(alloc, registers, texts, base, to, text);
+        Cell::Int(number) => {
+            set_int(registers, to, *number);
+            Ok(())
         }
-        Cell::Own(place) => set_reference(registers, to, *place),
-        Cell::Ref(place) => set_reference(registers, to, *place),
-        Cell::Iso(place) => set_reference(registers, to, *place),
+        Cell::Truth(truth) => {
+            set_truth(registers, to, *truth);
+            Ok(())
+        }
+        Cell::Text(text) => match Text::from_slice(alloc, text.as_slice()) {
+            Ok(copy) => put_text(alloc, registers, texts, base, to, copy),
+            Err(fault) => Err(fault),
+        },
+        Cell::Own(place) => {
+            set_reference(registers, to, *place);
+            Ok(())
+        }
+        Cell::Ref(place) => {
+            set_reference(registers, to, *place);
+            Ok(())
+        }
+        Cell::Iso(place) => {
+            set_reference(registers, to, *place);
+            Ok(())
+        }
     }
-    Ok(())
 }
 
 /// A register gets a cell.
@@ -74,14 +92,28 @@ pub fn receive(
     ensures others { OnOk result ((i : ℕ) → i < base → text_at texts.new i ≡ text_at texts.old i) }
 {
     match cell {
-        Cell::Int(number) => set_int(registers, to, number),
-        Cell::Truth(truth) => set_truth(registers, to, truth),
-        Cell::Text(text) => return put_text(alloc, registers, texts, base, to, text),
-        Cell::Own(place) => set_own(registers, to, place),
-        Cell::Ref(place) => set_reference(registers, to, place),
-        Cell::Iso(place) => set_iso(registers, to, place),
+        Cell::Int(number) => {
+            set_int(registers, to, number);
+            Ok(())
+        }
+        Cell::Truth(truth) => {
+            set_truth(registers, to, truth);
+            Ok(())
+        }
+        Cell::Text(text) => put_text(alloc, registers, texts, base, to, text),
+        Cell::Own(place) => {
+            set_own(registers, to, place);
+            Ok(())
+        }
+        Cell::Ref(place) => {
+            set_reference(registers, to, place);
+            Ok(())
+        }
+        Cell::Iso(place) => {
+            set_iso(registers, to, place);
+            Ok(())
+        }
     }
-    Ok(())
 }
 
 /// The cell of what a register holds, which is kept: an owner or an isolate leaves the register empty.
@@ -98,22 +130,34 @@ pub fn keep(
     ensures cells { OnOk result (cells_from base texts.now registers.new ≡ kept_cells (held (cells_from base texts.now registers.old) from) from (cells_from base texts.now registers.old)) }
 {
     match shape_at(registers, from) {
-        Shape::Int => Ok(Cell::Int(int_at(registers, from))),
-        Shape::Truth => Ok(Cell::Truth(truth_at(registers, from))),
+        Shape::Int => {
+            let number = int_at(registers, from);
+            Ok(Cell::Int(number))
+        }
+        Shape::Truth => {
+            let truth = truth_at(registers, from);
+            Ok(Cell::Truth(truth))
+        }
         Shape::Text => {
             let text = texts.text(base + from as usize);
-            Ok(Cell::Text(Text::from_slice(alloc, text.as_slice())?))
+            match Text::from_slice(alloc, text.as_slice()) {
+                Ok(copy) => Ok(Cell::Text(copy)),
+                Err(fault) => Err(fault),
+            }
         }
         Shape::Own => {
-            let place = place_at(registers, from);
+            let owned = place_at(registers, from);
             empty(registers, from);
-            Ok(Cell::Own(place))
+            Ok(Cell::Own(owned))
         }
-        Shape::Ref => Ok(Cell::Ref(place_at(registers, from))),
+        Shape::Ref => {
+            let referred = place_at(registers, from);
+            Ok(Cell::Ref(referred))
+        }
         Shape::Iso => {
-            let place = place_at(registers, from);
+            let root = place_at(registers, from);
             empty(registers, from);
-            Ok(Cell::Iso(place))
+            Ok(Cell::Iso(root))
         }
         Shape::Empty => unreachable!(),
     }

@@ -32,6 +32,7 @@ pub struct Register {
 
 /// The number in a register that holds one.
 #[inline(always)]
+#[tactic(auto, using(crate::proofs::Holding::int_within, crate::proofs::Holding::int_is))]
 pub fn int_at(registers: &[Register], register: u32) -> i64
     requires { HoldsInt registers.now register }
     ensures { (t : ℕ → List ℕ) → held (cells_in t registers.now) register ≡ Some (Cell.Int result) }

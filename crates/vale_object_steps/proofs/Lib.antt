@@ -1,5 +1,6 @@
 pub mod Arrays
 pub mod Births
+pub mod Drops
 pub mod Fields
 pub mod Objects
 pub mod References

@@ -1,14 +1,19 @@
 -- What steps read of registers, and what they write.
-use Rattle.std.proofs.Common.{◌≡◌, ℕ, zero, suc, ◌<◌, List, [], ◌∷◌, length, Option, Some, None, refl, sym, ap, subst, ◌∙◌, arith}
+use Rattle.std.proofs.Common.{◌≡◌, ℕ, zero, suc, ◌<◌, ℤ, List, [], ◌∷◌, length, Option, Some, None, refl, sym, ap, subst, ◌∙◌, arith}
 use Rattle.std.specs.Prelude.{slice_set}
 use Rattle.vale_state_spec.specs.State.{State, Answer}
 use Rattle.vale_state_spec.specs.World.{Value}
 use Rattle.vale_code.specs.Registers.{Registers, after_keeping, kept, put, read}
 use Rattle.vale_heap.specs.HeapState.{HeapState}
+use Rattle.vale_registers.specs.Passing.{from_base}
+use Rattle.vale_registers.specs.Texts.{text_at}
 use Rattle.vale_heap.specs.declared.body.Cell.{Cell}
+use Rattle.vale_heap.specs.declared.body.Cell.TheVariants.{Int}
 use Rattle.vale_heap.specs.declared.body.Place.{Place}
-use Rattle.vale_object_cells.specs.Cells.{held, kept_cells, place_in}
+use Rattle.vale_object_cells.specs.Cells.{HoldsCell, HoldsInt, HoldsPlace, cells_from, held, kept_cells, place_in}
 use Rattle.vale_object_cells.specs.Names.{AllKnown, Knows, value_in, value_of, values_in}
+use Rattle.vale_object_cells.specs.declared.register.Register.{Register}
+use Rattle.vale_object_cells.proofs.Holding.{as_many}
 use Rattle.vale_object_cells.proofs.Naming.{kept_is, kept_known, kept_long, known_put, put_values, read_values}
 use Rattle.vale_object_steps.specs.Doing.{on_value}
 use Rattle.vale_object_steps.specs.Views.{Agrees, IsRight, View}
@@ -69,3 +74,18 @@ kept_from v heap cells new from c a e is = record {
 
 pub kept_size : (cells new : List (Option Cell)) (from : ℕ) → new ≡ kept_cells (held cells from) from cells → length new ≡ length cells
 kept_size cells new from is = ap length is ∙ kept_long cells from (held cells from)
+
+-- ---- registers whose texts stand in a row
+
+pub holds_place : (base : ℕ) (texts : List (List ℕ)) (rs : List Register) (a : ℕ) → (p : Place) × (place_in (held (cells_from base texts rs) a) ≡ Some p) → HoldsPlace rs a
+holds_place base texts rs a h = (from_base base (text_at texts), h.0, h.1)
+
+pub holds_int : (base : ℕ) (texts : List (List ℕ)) (rs : List Register) (a : ℕ) → (z : ℤ) × (held (cells_from base texts rs) a ≡ Some (Int z)) → HoldsInt rs a
+holds_int base texts rs a h = (from_base base (text_at texts), h.0, h.1)
+
+pub holds_cell : (base : ℕ) (texts : List (List ℕ)) (rs : List Register) (a : ℕ) → (c : Cell) × (held (cells_from base texts rs) a ≡ Some c) → HoldsCell rs a
+holds_cell base texts rs a h = (from_base base (text_at texts), h.0, h.1)
+
+-- as many cells as registers
+pub cells_many : (base : ℕ) (texts : List (List ℕ)) (rs : List Register) (to : ℕ) → to < length rs → to < length (cells_from base texts rs)
+cells_many base texts rs to lt = let many = as_many (from_base base (text_at texts)) rs in omega (arith, lt, many)

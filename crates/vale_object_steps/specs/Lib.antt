@@ -1,4 +1,5 @@
 pub mod Doing
+pub mod Drops
 pub mod Indices
 pub mod Keeping
 pub mod Lent

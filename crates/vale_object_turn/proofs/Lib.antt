@@ -1,2 +1,3 @@
+pub mod Births
 pub mod Mirrors
 pub mod Stepping

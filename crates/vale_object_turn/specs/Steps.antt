@@ -1,5 +1,5 @@
 -- A function that runs over a heap, as a configuration of the code's meaning, where names have places.
-use Rattle.std.specs.Prelude.{◌≡◌, ℕ, ◌+◌, List, ◌∷◌, Option, None}
+use Rattle.std.specs.Prelude.{◌≡◌, ℕ, ◌+◌, List, ◌∷◌, Option, None, Bool}
 use Rattle.vale_base.specs.declared.trap.FrameAt.{FrameAt}
 use Rattle.vale_state_spec.specs.Outcome.{Cut}
 use Rattle.vale_state_spec.specs.State.{State}
@@ -8,6 +8,7 @@ use Rattle.vale_code.specs.Frames.{Active, Config, Frame, Next, On, Over, Runnin
 use Rattle.vale_code.specs.Parts.{Parts}
 use Rattle.vale_code.specs.declared.instr.Instr.{Instr}
 use Rattle.vale_heap.specs.HeapState.{HeapState}
+use Rattle.vale_heap.specs.Standing.{LowIsFloor}
 use Rattle.vale_heap.specs.declared.body.Cell.{Cell}
 use Rattle.vale_turn.specs.View.{IsRight}
 use Rattle.vale_turn.specs.declared.stop.Stop.{Stop}
@@ -68,3 +69,8 @@ Stepped s v from old _ next heap cells place left = ⊥
 abbrev pub Obeys : Instr → HeapState → List (Option Cell) → ℕ → ℕ → Stop → HeapState → List (Option Cell) → ℕ → ℕ → Type 0
 Obeys instr heap cells place left told new_heap new_cells new_place new_left =
     (s : Scene) (v : View) → Runs v heap cells left → IsRight (next_of s v place cells instr) → Stepped s v place cells told (next_of s v place cells instr) new_heap new_cells new_place new_left
+
+-- the same, where `low` has the lender's floors
+abbrev pub ObeysLent : (ℕ → Bool) → (ℕ → ℕ) → Instr → HeapState → List (Option Cell) → ℕ → ℕ → Stop → HeapState → List (Option Cell) → ℕ → ℕ → Type 0
+ObeysLent out floors instr heap cells place left told new_heap new_cells new_place new_left =
+    (s : Scene) (v : View) → LowIsFloor v.low out floors → Runs v heap cells left → IsRight (next_of s v place cells instr) → Stepped s v place cells told (next_of s v place cells instr) new_heap new_cells new_place new_left

@@ -2,6 +2,8 @@
 //! says, whatever names the places have.
 #![tactic(auto)]
 
+mod births;
 mod obey;
 
+pub use births::{obey_make, obey_open};
 pub use obey::{obey_change, obey_look, obey_reference};

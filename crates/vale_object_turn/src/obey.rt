@@ -64,14 +64,28 @@ pub fn obey_reference(registers: &mut [Register], place: &mut usize, instr: &Ins
     ensures step { (t : ℕ → List ℕ) (heap : HeapState) (left : ℕ) → Obeys instr.now heap (cells_in t registers.old) place.old left result heap (cells_in t registers.new) place.new left }
 {
     match instr {
-        Instr::Move { to, from } => transfer(registers, *to, *from),
-        Instr::Borrow { to, from } => borrow(registers, *to, *from),
-        Instr::Frozen { to, from } => borrow(registers, *to, *from),
-        Instr::Upcast { to, from, .. } => widen(registers, *to, *from),
+        Instr::Move { to, from } => {
+            transfer(registers, *to, *from);
+            *place += 1;
+            Stop::Going
+        }
+        Instr::Borrow { to, from } => {
+            borrow(registers, *to, *from);
+            *place += 1;
+            Stop::Going
+        }
+        Instr::Frozen { to, from } => {
+            borrow(registers, *to, *from);
+            *place += 1;
+            Stop::Going
+        }
+        Instr::Upcast { to, from, .. } => {
+            widen(registers, *to, *from);
+            *place += 1;
+            Stop::Going
+        }
         _ => unreachable!(),
     }
-    *place += 1;
-    Stop::Going
 }
 
 /// An instruction that looks at an object.

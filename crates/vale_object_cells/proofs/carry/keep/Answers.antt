@@ -1,0 +1,28 @@
+use Rattle.std.proofs.Common.{Some, ap, ◌∙◌, sym}
+use Rattle.vale_registers.specs.Passing.{from_base}
+use Rattle.vale_registers.specs.Texts.{text_at}
+use Rattle.vale_object_cells.specs.Cells.{cells_from}
+use Rattle.vale_object_cells.proofs.Holding.{cell_within, int_shaped, iso_is, iso_shaped, not_empty, own_is, own_shaped, place_within, reference_is, reference_shaped, truth_shaped}
+use Rattle.vale_object_cells.proofs.Carrying.{int_kept, iso_kept, own_kept, reference_kept, text_kept, text_shaped, truth_kept}
+use Rattle.vale_object_cells.proofs.carry.keep.Goals as goal
+
+pub shape_at-requires : goal.shape_at-requires
+shape_at-requires c = cell_within c.args.registers.now c.args.from c.requires.there
+
+pub int_at-number-requires : goal.int_at-number-requires
+int_at-number-requires c = int_shaped c.args.registers.now c.args.from c.shape_at.result c.shape_at.ensures c.in-Int.is
+
+pub truth_at-truth-requires : goal.truth_at-truth-requires
+truth_at-truth-requires c = truth_shaped c.args.registers.now c.args.from c.shape_at.result c.shape_at.ensures c.in-Truth.is
+
+pub place_at-owned-requires : goal.place_at-owned-requires
+place_at-owned-requires c = own_shaped c.args.registers.now c.args.from c.shape_at.result c.shape_at.ensures c.in-Own.is
+
+pub place_at-referred-requires : goal.place_at-referred-requires
+place_at-referred-requires c = reference_shaped c.args.registers.now c.args.from c.shape_at.result c.shape_at.ensures c.in-Ref.is
+
+pub place_at-root-requires : goal.place_at-root-requires
+place_at-root-requires c = iso_shaped c.args.registers.now c.args.from c.shape_at.result c.shape_at.ensures c.in-Iso.is
+
+pub unreachable-requires : goal.unreachable-requires
+unreachable-requires c = not_empty c.args.registers.now c.args.from c.shape_at.result c.shape_at.ensures c.in-Empty.is c.requires.there
