@@ -55,11 +55,11 @@ pub fn place_at(registers: &[Register], register: u32) -> Place
     requires { HoldsPlace registers.now register }
     ensures { (t : ℕ → List ℕ) → place_in (held (cells_in t registers.now) register) ≡ Some result }
 {
-    let register = &registers[register as usize];
+    let holder = &registers[register as usize];
     Place {
-        frame: register.frame,
-        slot: register.slot,
-        generation: register.generation,
+        frame: holder.frame,
+        slot: holder.slot,
+        generation: holder.generation,
     }
 }
 
@@ -78,8 +78,8 @@ pub fn empty(registers: &mut [Register], register: u32)
     requires { register < length registers.old }
     ensures { (t : ℕ → List ℕ) → cells_in t registers.new ≡ slice_set (cells_in t registers.old) register None }
 {
-    let register = &mut registers[register as usize];
-    register.shape = Shape::Empty;
+    let holder = &mut registers[register as usize];
+    holder.shape = Shape::Empty;
 }
 
 /// A number goes to a register.
@@ -88,9 +88,9 @@ pub fn set_int(registers: &mut [Register], register: u32, number: i64)
     requires { register < length registers.old }
     ensures { (t : ℕ → List ℕ) → cells_in t registers.new ≡ slice_set (cells_in t registers.old) register (Some (Cell.Int number)) }
 {
-    let register = &mut registers[register as usize];
-    register.shape = Shape::Int;
-    register.number = number;
+    let holder = &mut registers[register as usize];
+    holder.shape = Shape::Int;
+    holder.number = number;
 }
 
 /// A truth goes to a register.
@@ -99,9 +99,9 @@ pub fn set_truth(registers: &mut [Register], register: u32, truth: bool)
     requires { register < length registers.old }
     ensures { (t : ℕ → List ℕ) → cells_in t registers.new ≡ slice_set (cells_in t registers.old) register (Some (Cell.Truth truth)) }
 {
-    let register = &mut registers[register as usize];
-    register.shape = Shape::Truth;
-    register.truth = truth;
+    let holder = &mut registers[register as usize];
+    holder.shape = Shape::Truth;
+    holder.truth = truth;
 }
 
 /// The text of a register in a row goes to it; no other register has another text.
@@ -110,8 +110,8 @@ pub fn set_text(registers: &mut [Register], register: u32)
     requires { register < length registers.old }
     ensures { (t u : ℕ → List ℕ) → ((i : ℕ) → i ≢ register → u i ≡ t i) → cells_in u registers.new ≡ slice_set (cells_in t registers.old) register (Some (Cell.Text (u register))) }
 {
-    let register = &mut registers[register as usize];
-    register.shape = Shape::Text;
+    let holder = &mut registers[register as usize];
+    holder.shape = Shape::Text;
 }
 
 /// The owner of the object at a place goes to a register.
@@ -120,11 +120,11 @@ pub fn set_own(registers: &mut [Register], register: u32, place: Place)
     requires { register < length registers.old }
     ensures { (t : ℕ → List ℕ) → cells_in t registers.new ≡ slice_set (cells_in t registers.old) register (Some (Cell.Own place)) }
 {
-    let register = &mut registers[register as usize];
-    register.shape = Shape::Own;
-    register.frame = place.frame;
-    register.slot = place.slot;
-    register.generation = place.generation;
+    let holder = &mut registers[register as usize];
+    holder.shape = Shape::Own;
+    holder.frame = place.frame;
+    holder.slot = place.slot;
+    holder.generation = place.generation;
 }
 
 /// A reference to the object at a place goes to a register.
@@ -133,11 +133,11 @@ pub fn set_reference(registers: &mut [Register], register: u32, place: Place)
     requires { register < length registers.old }
     ensures { (t : ℕ → List ℕ) → cells_in t registers.new ≡ slice_set (cells_in t registers.old) register (Some (Cell.Ref place)) }
 {
-    let register = &mut registers[register as usize];
-    register.shape = Shape::Ref;
-    register.frame = place.frame;
-    register.slot = place.slot;
-    register.generation = place.generation;
+    let holder = &mut registers[register as usize];
+    holder.shape = Shape::Ref;
+    holder.frame = place.frame;
+    holder.slot = place.slot;
+    holder.generation = place.generation;
 }
 
 /// The isolate whose root is at a place goes to a register.
@@ -146,11 +146,11 @@ pub fn set_iso(registers: &mut [Register], register: u32, place: Place)
     requires { register < length registers.old }
     ensures { (t : ℕ → List ℕ) → cells_in t registers.new ≡ slice_set (cells_in t registers.old) register (Some (Cell.Iso place)) }
 {
-    let register = &mut registers[register as usize];
-    register.shape = Shape::Iso;
-    register.frame = place.frame;
-    register.slot = place.slot;
-    register.generation = place.generation;
+    let holder = &mut registers[register as usize];
+    holder.shape = Shape::Iso;
+    holder.frame = place.frame;
+    holder.slot = place.slot;
+    holder.generation = place.generation;
 }
 
 /// What leads to an object goes from a register to another, and leaves the first one empty.

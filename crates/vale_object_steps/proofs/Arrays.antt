@@ -28,11 +28,11 @@ use Rattle.vale_object_steps.proofs.Fields.{same_names}
 
 -- ---- indices
 
-index_some : (i count k : ℕ) (b : Bool) → nat_lt i count ≡ b → (let o : Option ℕ = if b then Some i else None in o) ≡ Some k → (i ≡ k) × (k < count)
+index_some : (i count k : ℕ) (b : Bool) → nat_lt i count ≡ b → (if b then Some i else None) ≡ Some k → (i ≡ k) × (k < count)
 index_some i count k true e h = let same : i ≡ k = cc in (same, subst (λ n. n < count) same (ltb-true i count e))
 index_some i count k false e h = absurd (let x : ⊥ = cc in x)
 
-index_none : (i count : ℕ) (b : Bool) → nat_lt i count ≡ b → (let o : Option ℕ = if b then Some i else None in o) ≡ None → count ≤ i
+index_none : (i count : ℕ) (b : Bool) → nat_lt i count ≡ b → (if b then Some i else None) ≡ None → count ≤ i
 index_none i count true e h = absurd (let x : ⊥ = cc in x)
 index_none i count false e h = ltb-false i count e
 

@@ -1,5 +1,5 @@
 -- Objects that are made, and objects that are taken apart.
-use Rattle.std.proofs.Common.{◌≡◌, ℕ, zero, suc, ◌+◌, ◌-◌, ◌<◌, ◌++◌, List, [], ◌∷◌, length, map, max, Option, Some, None, Bool, true, false, refl, sym, ap, subst, ◌∙◌, arith, append_assoc, append-nil}
+use Rattle.std.proofs.Common.{◌≡◌, ℕ, zero, suc, ◌+◌, ◌-◌, ◌<◌, ◌≤◌, ◌++◌, List, [], ◌∷◌, length, drop, drop-cons, get_or, map, max, Option, Some, None, Bool, true, false, refl, sym, ap, subst, ◌∙◌, arith, append_assoc, append-nil}
 use Rattle.std.proofs.lemmas.List.{length-set}
 use Rattle.std.specs.Prelude.{IsSome, if◌then◌else◌, slice_get, slice_index, slice_set}
 use Rattle.std.proofs.Common.{◌⊎◌, inl, inr}
@@ -55,7 +55,8 @@ record KeptAs (names : List Place) (before : List Cell) (rs : List ℕ) (now : L
 
 kept_as : (names : List Place) (before : List Cell) (rs : List ℕ) (now : List (Option Cell)) (k : Kept) → AllKnown names now → keep_from before rs now ≡ Some k → KeptAs names before rs now k
 kept_as names before [] now k all e =
-    let same : record { cells = before; after = now } ≡ k = cc in
+    let first : Kept = record { cells = before; after = now } in
+    let same : first ≡ k = cc in
     let cs : before ≡ k.cells = ap (λ (x : Kept). x.cells) same in
     let rs : now ≡ k.after = ap (λ (x : Kept). x.after) same in
     record {
@@ -159,7 +160,8 @@ make_found to kind args heap new lent out floors cells mid after kept place keep
     let o : Object = record { region = Freeze s.regions; kind = kind; values = vs } in
     let denote : DenoteAll v.names kept vs = subst (λ cs. DenoteAll v.names cs vs) (sym k.is) k.denote in
     let stood = stands None v.low nobody v.names s.world vs agrees.stands denote (λ f seat x. absurd (let y : ⊥ = cc in y)) (λ n p gone has. absurd (let y : ⊥ = cc in y)) low in
-    let region : inner_freeze heap None ≡ Freeze s.regions = ap Freeze (omega arith) ∙ ap Freeze (sym agrees.regions) in
+    let whole : 0 + innermost heap ≡ innermost heap = omega arith in
+    let region : inner_freeze heap None ≡ Freeze s.regions = ap Freeze (whole ∙ sym agrees.regions) in
     let stood_here : Stands new None v.low nobody names (w.born s.world o) = subst (λ r. Stands new None v.low nobody names (w.born s.world (record { region = r; kind = kind; values = vs }))) region stood in
     let t : State = born kind vs s in
     let same = counted_same (record s { world = w.born s.world o }) in
@@ -318,3 +320,41 @@ module _ (to : List ℕ) (from : ℕ) (heap : HeapState) (cells : List (Option C
         is = ap (λ (d : Doing). d.answer) step;
         registers = ap (values_in v.names) is ∙ sym (ap (λ (d : Doing). with_result d.to None d.after) step);
       }
+
+-- ---- loops
+
+-- the next register of those that are kept
+pub keep_here : (args : List ℕ) (at : ℕ) (before : List Cell) (start now : List (Option Cell)) → at < length args → keep_from [] args start ≡ keep_from before (drop at args) now → IsSome (keep_from [] args start) → (c : Cell) × (held now (get_or args at 0) ≡ Some c)
+keep_here args at before start now lt e some =
+    keep_there before (get_or args at 0) (drop (suc at) args) now (subst (λ o. IsSome o) (e ∙ ap (λ rs. keep_from before rs now) (drop-cons args at 0 lt)) some)
+
+pub keep_more : (args : List ℕ) (at : ℕ) (before : List Cell) (start now after : List (Option Cell)) (c : Cell) → at < length args → keep_from [] args start ≡ keep_from before (drop at args) now → held now (get_or args at 0) ≡ Some c
+    → after ≡ kept_cells (held now (get_or args at 0)) (get_or args at 0) now → keep_from [] args start ≡ keep_from (before ++ c ∷ []) (drop (at + 1) args) after
+keep_more args at before start now after c lt e here is =
+    let next : suc at ≡ at + 1 = omega arith in
+    e
+    ∙ ap (λ rs. keep_from before rs now) (drop-cons args at 0 lt)
+    ∙ keep_next before (get_or args at 0) (drop (suc at) args) now after c here is
+    ∙ ap (λ k. keep_from (before ++ c ∷ []) (drop k args) after) next
+
+pub keep_end : (args : List ℕ) (at : ℕ) (before : List Cell) (start now : List (Option Cell)) → length args ≤ at → keep_from [] args start ≡ keep_from before (drop at args) now → keep_from [] args start ≡ Some (record { cells = before; after = now })
+keep_end args at before start now le e = e ∙ ap (λ rs. keep_from before rs now) (none_left args at le)
+  where
+    none_left : (xs : List ℕ) (n : ℕ) → length xs ≤ n → drop n xs ≡ []
+    none_left [] zero le = refl
+    none_left [] (suc n) le = refl
+    none_left (x ∷ xs) zero le = absurd (omega (arith, le))
+    none_left (x ∷ xs) (suc n) le = none_left xs n (omega (arith, le))
+
+-- the next cell goes to the next register
+pub fill_more : (to : List ℕ) (at : ℕ) (c : Cell) (cells : List Cell) (now after : List (Option Cell)) → at < length to → after ≡ slice_set now (get_or to at 0) (Some c)
+    → fill_from (drop at to) (c ∷ cells) now ≡ fill_from (drop (at + 1) to) cells after
+fill_more to at c cells now after lt is =
+    let next : suc at ≡ at + 1 = omega arith in
+    ap (λ rs. fill_from rs (c ∷ cells) now) (drop-cons to at 0 lt)
+    ∙ ap (fill_from (drop (suc at) to) cells) (sym is)
+    ∙ ap (λ k. fill_from (drop k to) cells after) next
+
+pub fill_end : (to : List ℕ) (now : List (Option Cell)) → fill_from to [] now ≡ now
+fill_end [] now = refl
+fill_end (r ∷ rs) now = refl

@@ -49,6 +49,14 @@ led names cells a p s k e = ap (λ o. on_value o (λ w. with_object w s k)) (rea
 
 -- ---- what is found there
 
+-- each name that has a place was given
+past_names : (p : Place) (world : World) (names : List Place) (n : ℕ) → slice_get world n ≡ None → slice_get names n ≡ Some p → length world ≡ length names → ⊥
+past_names p [] [] n e h many = let y : ⊥ = cc in y
+past_names p [] (q ∷ qs) n e h many = omega (arith, many)
+past_names p (o ∷ os) [] n e h many = let y : ⊥ = cc in y
+past_names p (o ∷ os) (q ∷ qs) zero e h many = let y : ⊥ = cc in y
+past_names p (o ∷ os) (q ∷ qs) (suc n) e h many = past_names p os qs n e h (omega (arith, many))
+
 module _ (v : View) (heap : HeapState) (cells : List (Option Cell)) (agrees : Agrees v heap cells) (a : ℕ) (p : Place) (at : place_in (held cells a) ≡ Some p) where
   pub known : IsKnown v.names p
   known = agrees.known a p at
@@ -60,14 +68,7 @@ module _ (v : View) (heap : HeapState) (cells : List (Option Cell)) (agrees : Ag
   looks found looked = looked v.low nobody v.names v.state.world (name_at v.names p) agrees.stands known
 
   none_lives : (o : Option (Option Object)) → slice_get v.state.world (name_at v.names p) ≡ o → StandsFound heap p None → o ≡ Some None
-  none_lives None e found = absurd (past v.state.world v.names (name_at v.names p) e known agrees.stands.at.as_many)
-    where
-      past : (world : World) (names : List Place) (n : ℕ) → slice_get world n ≡ None → slice_get names n ≡ Some p → length world ≡ length names → ⊥
-      past [] [] n e h many = cc
-      past [] (q ∷ qs) n e h many = omega (arith, many)
-      past (o ∷ os) [] n e h many = cc
-      past (o ∷ os) (q ∷ qs) zero e h many = cc
-      past (o ∷ os) (q ∷ qs) (suc n) e h many = past os qs n e h (omega (arith, many))
+  none_lives None e found = absurd (past_names p v.state.world v.names (name_at v.names p) e known agrees.stands.at.as_many)
   none_lives (Some None) e found = refl
   none_lives (Some (Some o)) e found =
       let none = found None v.low nobody v.names v.state.world (name_at v.names p) agrees.stands known o e in
@@ -147,3 +148,8 @@ changes v heap cells p o body left values agrees known there stands lives kind d
     let some : IsSome (look_in heap p) = subst (λ x. IsSome x) (sym there) refl in
     let after = stands None v.low nobody v.names v.state.world (name_at v.names p) o values some agrees.stands known lives denote in
     subst (λ k. Stands (changed heap p left) None v.low nobody v.names (written v.state.world (name_at v.names p) (record { region = o.region; kind = k; values = values }))) kind after
+
+pub got_at : {A : Type 0} (xs : List A) (i : ℕ) (d : A) → i < length xs → slice_get xs i ≡ Some (get_or xs i d)
+got_at [] i d lt = absurd (omega arith)
+got_at (x ∷ xs) zero d lt = refl
+got_at (x ∷ xs) (suc i) d lt = got_at xs i d (omega arith)
