@@ -1,5 +1,6 @@
 -- From what a step comes to, to what an instruction leads to.
 use Rattle.std.proofs.Common.{◌≡◌, ℕ, ◌+◌, List, [], ◌∷◌, Option, Some, None, refl, sym, ap, subst, ◌∙◌}
+use Rattle.std.specs.Prelude.{Err, IfOk, Ok, OnOk, Result}
 use Rattle.vale_base.specs.declared.spot.Spot.{Spot}
 use Rattle.vale_base.specs.declared.trap.TrapKind.{TrapKind}
 use Rattle.vale_state_spec.specs.State.{Answer, State, traps}
@@ -80,3 +81,49 @@ module _ (instr : Instr) (step : Registers → State → Doing) (heap : HeapStat
       let m = mirrors s.code s.last (active s v place cells) s.below v.state right in
       let at : Spot = record { line = 0; col = 0 } in
       gone_on s v (step (values_in v.names cells) v.state) (next_of s v place cells instr) at new after new_place runs (m.is at) (follows v runs.agrees m.right) e
+
+-- ---- the same of the arms of a `match` on an instruction
+
+pub if_ok : {T E : Type 0} (r : Result T E) (P Q : T → Type 0) → IfOk r P → ((x : T) → P x → Q x) → IfOk r Q
+if_ok (Ok x) P Q h f = f x h
+if_ok (Err e) P Q h f = tt
+
+-- what holds where a step came to something holds where its instruction did
+pub ok_on : {E F : Type 0} (came : Result Effect E) (r : Result Stop F) (X : Type 0) (L : Effect → Stop → Type 0) → IfOk r (λ told. (e : Effect) × (came ≡ Ok e) × L e told) → OnOk came X → OnOk r X
+ok_on came (Ok told) X L h o = subst (λ c. OnOk c X) h.1 o
+ok_on came (Err e) X L h o = tt
+
+pub ok_surely : {E F : Type 0} (came : Result Effect E) (r : Result Stop F) (X : Type 0) (L : Stop → Type 0) → IfOk r (λ told. (came ≡ Ok effect.Done) × L told) → OnOk came X → OnOk r X
+ok_surely came (Ok told) X L h o = subst (λ c. OnOk c X) h.0 o
+ok_surely came (Err e) X L h o = tt
+
+module _ (instr same : Instr) (step : Registers → State → Doing) (heap : HeapState) (cells : List (Option Cell)) (place : ℕ) (is : instr ≡ same) where
+  pub can : (at : Spot) → Mirrors same step at → (left : ℕ) × HasRule heap cells place left instr → CanDo step heap cells
+  can at mirrors h = can_do same step heap cells place h.0 at mirrors (subst (HasRule heap cells place h.0) is h.1)
+
+  pub can_so : MirrorsSurely same step → (left : ℕ) × HasRule heap cells place left instr → CanDo step heap cells
+  can_so mirrors h = can_surely same step heap cells place h.0 mirrors (subst (HasRule heap cells place h.0) is h.1)
+
+  pub never_traps : {E : Type 0} (came : Result Effect E) (new : HeapState) (after : List (Option Cell)) → MirrorsSurely same step → (left : ℕ) × HasRule heap cells place left instr → IfOk came (λ e. Follows step heap cells e new after)
+      → (kind : TrapKind) → came ≡ Ok (effect.Trap kind) → ⊥
+  never_traps came new after mirrors h follows kind e =
+      no_trap same step heap cells place h.0 kind (effect.Trap kind) new after mirrors (subst (HasRule heap cells place h.0) is h.1) (subst (λ c. IfOk c (λ x. Follows step heap cells x new after)) e follows) refl
+
+  pub lands : {E F : Type 0} (at : Spot) (came : Result Effect E) (r : Result Stop F) (new : HeapState) (after : List (Option Cell)) (new_place : ℕ) → Mirrors same step at → IfOk came (λ e. Follows step heap cells e new after)
+      → IfOk r (λ told. (e : Effect) × (came ≡ Ok e) × Landed e at told place new_place) → IfOk r (λ told. (left : ℕ) → Obeys instr heap cells place left told new after new_place left)
+  lands at came r new after new_place mirrors follows landed =
+      if_ok r (λ told. (e : Effect) × (came ≡ Ok e) × Landed e at told place new_place) (λ told. (left : ℕ) → Obeys instr heap cells place left told new after new_place left) landed
+      (λ told h left. subst (λ x. Obeys x heap cells place left told new after new_place left) (sym is)
+      (obeys same step heap cells place left at h.0 told new after new_place mirrors (subst (λ c. IfOk c (λ x. Follows step heap cells x new after)) h.1 follows) h.2))
+
+  pub lands_surely : {E F : Type 0} (came : Result Effect E) (r : Result Stop F) (new : HeapState) (after : List (Option Cell)) (new_place : ℕ) → MirrorsSurely same step → IfOk came (λ e. Follows step heap cells e new after)
+      → IfOk r (λ told. (came ≡ Ok effect.Done) × (told ≡ stop.Going) × (new_place ≡ place + 1)) → IfOk r (λ told. (left : ℕ) → Obeys instr heap cells place left told new after new_place left)
+  lands_surely came r new after new_place mirrors follows landed =
+      if_ok r (λ told. (came ≡ Ok effect.Done) × (told ≡ stop.Going) × (new_place ≡ place + 1)) (λ told. (left : ℕ) → Obeys instr heap cells place left told new after new_place left) landed
+      (λ told h left. subst (λ x. Obeys x heap cells place left told new after new_place left) (sym is)
+      (subst (λ t. Obeys same heap cells place left t new after new_place left) (sym h.1)
+      (obeys_surely same step heap cells place left new after new_place mirrors (subst (λ c. IfOk c (λ x. Follows step heap cells x new after)) h.0 follows) h.2)))
+
+  -- of an instruction that looks at no object
+  pub goes : (new : HeapState) (after : List (Option Cell)) (new_place left : ℕ) → MirrorsSurely same step → Follows step heap cells effect.Done new after → new_place ≡ place + 1 → Obeys instr heap cells place left stop.Going new after new_place left
+  goes new after new_place left mirrors follows e = subst (λ x. Obeys x heap cells place left stop.Going new after new_place left) (sym is) (obeys_surely same step heap cells place left new after new_place mirrors follows e)

@@ -108,8 +108,8 @@ pub fn obey_look(
 {
     match instr {
         Instr::LoadOwn { to, object, field } => {
-            let came = load(alloc, heap, registers, texts, base, *to, *object, *field);
-            go_on(place, came)
+            let from_owner = load(alloc, heap, registers, texts, base, *to, *object, *field);
+            go_on(place, from_owner)
         }
         Instr::Load {
             to,
@@ -117,12 +117,12 @@ pub fn obey_look(
             field,
             at,
         } => {
-            let came = load(alloc, heap, registers, texts, base, *to, *object, *field);
-            land(place, came, *at)
+            let checked = load(alloc, heap, registers, texts, base, *to, *object, *field);
+            land(place, checked, *at)
         }
         Instr::LoadLive { to, object, field } => {
-            let came = load(alloc, heap, registers, texts, base, *to, *object, *field);
-            go_on(place, came)
+            let living = load(alloc, heap, registers, texts, base, *to, *object, *field);
+            go_on(place, living)
         }
         Instr::ElemOwn {
             to,
@@ -130,8 +130,8 @@ pub fn obey_look(
             index,
             at,
         } => {
-            let came = element(alloc, heap, registers, texts, base, *to, *object, *index);
-            land(place, came, *at)
+            let from_owner = element(alloc, heap, registers, texts, base, *to, *object, *index);
+            land(place, from_owner, *at)
         }
         Instr::Elem {
             to,
@@ -139,8 +139,8 @@ pub fn obey_look(
             index,
             at,
         } => {
-            let came = element(alloc, heap, registers, texts, base, *to, *object, *index);
-            land(place, came, *at)
+            let checked = element(alloc, heap, registers, texts, base, *to, *object, *index);
+            land(place, checked, *at)
         }
         Instr::ElemLive {
             to,
@@ -148,16 +148,16 @@ pub fn obey_look(
             index,
             at,
         } => {
-            let came = element(alloc, heap, registers, texts, base, *to, *object, *index);
-            land(place, came, *at)
+            let living = element(alloc, heap, registers, texts, base, *to, *object, *index);
+            land(place, living, *at)
         }
         Instr::Len { to, object, at } => {
-            let came = Ok(count(heap, registers, *to, *object));
-            land(place, came, *at)
+            let counted = count(heap, registers, *to, *object);
+            land(place, Ok(counted), *at)
         }
         Instr::LenLive { to, object } => {
-            let came = Ok(count(heap, registers, *to, *object));
-            go_on(place, came)
+            let measured = count(heap, registers, *to, *object);
+            go_on(place, Ok(measured))
         }
         _ => unreachable!(),
     }
@@ -188,8 +188,8 @@ pub fn obey_change(
             field,
             value,
         } => {
-            let came = swap(alloc, heap, registers, texts, base, *to, *object, *field, *value);
-            go_on(place, came)
+            let from_owner = swap(alloc, heap, registers, texts, base, *to, *object, *field, *value);
+            go_on(place, from_owner)
         }
         Instr::Swap {
             to,
@@ -198,8 +198,8 @@ pub fn obey_change(
             value,
             at,
         } => {
-            let came = swap(alloc, heap, registers, texts, base, *to, *object, *field, *value);
-            land(place, came, *at)
+            let checked = swap(alloc, heap, registers, texts, base, *to, *object, *field, *value);
+            land(place, checked, *at)
         }
         Instr::SwapElOwn {
             to,
@@ -208,8 +208,8 @@ pub fn obey_change(
             value,
             at,
         } => {
-            let came = exchange(alloc, heap, registers, texts, base, *to, *object, *index, *value);
-            land(place, came, *at)
+            let from_owner = exchange(alloc, heap, registers, texts, base, *to, *object, *index, *value);
+            land(place, from_owner, *at)
         }
         Instr::SwapEl {
             to,
@@ -218,16 +218,16 @@ pub fn obey_change(
             value,
             at,
         } => {
-            let came = exchange(alloc, heap, registers, texts, base, *to, *object, *index, *value);
-            land(place, came, *at)
+            let checked = exchange(alloc, heap, registers, texts, base, *to, *object, *index, *value);
+            land(place, checked, *at)
         }
         Instr::Push { object, value, at } => {
-            let came = push(alloc, heap, registers, texts, base, *object, *value);
-            land(place, came, *at)
+            let checked = push(alloc, heap, registers, texts, base, *object, *value);
+            land(place, checked, *at)
         }
         Instr::Pop { to, object, at } => {
-            let came = pop(alloc, heap, registers, texts, base, *to, *object);
-            land(place, came, *at)
+            let checked = pop(alloc, heap, registers, texts, base, *to, *object);
+            land(place, checked, *at)
         }
         _ => unreachable!(),
     }

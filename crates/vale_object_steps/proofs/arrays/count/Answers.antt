@@ -1,0 +1,20 @@
+use Rattle.std.proofs.Common.{◌<◌, length, arith}
+use Rattle.vale_object_cells.specs.Cells.{cells_in}
+use Rattle.vale_object_cells.proofs.Holding.{as_many}
+use Rattle.vale_object_steps.proofs.Arrays.{count_dead, count_found, count_place}
+use Rattle.vale_object_steps.proofs.Objects.{slot_of}
+use Rattle.vale_object_steps.proofs.arrays.count.Goals as goal
+
+pub place_at-place-requires : goal.place_at-place-requires
+place_at-place-requires c =
+    let h = c.requires.right in
+    let p = count_place c.args.to c.args.object c.args.heap.now (cells_in h.0 c.args.registers.now) h.1 in
+    (h.0, p.0, p.1)
+
+pub look-requires : goal.look-requires
+look-requires c =
+    let h = c.requires.right in
+    slot_of h.1.view c.args.heap.now (cells_in h.0 c.args.registers.now) h.1.agrees c.args.object c.place_at-place.result (c.place_at-place.ensures h.0)
+
+pub returns-in-None : goal.returns-in-None
+returns-in-None c = λ t. count_dead c.args.to c.args.object c.args.heap.now (cells_in t c.args.registers.now) c.place_at-place.result _ _ (c.place_at-place.ensures t) c.in-None.ensures.stands

@@ -1,0 +1,29 @@
+use Rattle.std.proofs.Common.{◌<◌, length, refl, sym}
+use Rattle.vale_registers.specs.Passing.{from_base}
+use Rattle.vale_registers.specs.Texts.{text_at}
+use Rattle.vale_heap.specs.declared.body.Body.{Body}
+use Rattle.vale_object_cells.specs.Cells.{cells_from}
+use Rattle.vale_object_steps.proofs.Arrays.{exchange_dead, exchange_found, exchange_number, exchange_outside, exchange_place, exchange_value, index_within}
+use Rattle.vale_object_steps.proofs.Objects.{slot_of}
+use Rattle.vale_object_steps.proofs.Registers.{cells_many, holds_cell, holds_int, holds_place}
+use Rattle.vale_object_steps.proofs.arrays.exchange.Goals as goal
+
+pub place_at-place-requires : goal.place_at-place-requires
+place_at-place-requires c =
+    holds_place c.args.base c.args.texts.now c.args.registers.now c.args.object
+    (exchange_place c.args.to c.args.object c.args.index c.args.value c.args.heap.now (cells_from c.args.base c.args.texts.now c.args.registers.now) c.requires.right)
+
+pub change-requires : goal.change-requires
+change-requires c =
+    slot_of c.requires.right.view c.args.heap.now (cells_from c.args.base c.args.texts.now c.args.registers.now) c.requires.right.agrees c.args.object c.place_at-place.result
+    (c.place_at-place.ensures (from_base c.args.base (text_at c.args.texts.now)))
+
+pub int_at-number-requires : goal.int_at-number-requires
+int_at-number-requires c =
+    holds_int c.args.base c.args.texts.now c.args.registers.now c.args.index
+    (exchange_number c.args.to c.args.object c.args.index c.args.value c.args.heap.now (cells_from c.args.base c.args.texts.now c.args.registers.now) c.place_at-place.result c.in-Some.body.now c.requires.right (c.place_at-place.ensures (from_base c.args.base (text_at c.args.texts.now))) c.in-Some.ensures.found)
+
+pub keep-requires-clause-there : goal.keep-requires-clause-there
+keep-requires-clause-there c =
+    holds_cell c.args.base c.args.texts.now c.args.registers.now c.args.value
+    (exchange_value c.args.to c.args.object c.args.index c.args.value c.args.heap.now (cells_from c.args.base c.args.texts.now c.args.registers.now) c.requires.right)
