@@ -26,3 +26,38 @@ place_at-root-requires c = iso_shaped c.args.registers.now c.args.from c.shape_a
 
 pub unreachable-requires : goal.unreachable-requires
 unreachable-requires c = not_empty c.args.registers.now c.args.from c.shape_at.result c.shape_at.ensures c.in-Empty.is c.requires.there
+
+pub returns-in-Int-clause-cell : goal.returns-in-Int-clause-cell
+returns-in-Int-clause-cell c = c.int_at-number.ensures (from_base c.args.base (text_at c.args.texts.now))
+
+pub returns-in-Int-clause-cells : goal.returns-in-Int-clause-cells
+returns-in-Int-clause-cells c = int_kept (cells_from c.args.base c.args.texts.now c.args.registers.now) c.args.from _ (c.int_at-number.ensures (from_base c.args.base (text_at c.args.texts.now)))
+
+pub returns-in-Truth-clause-cells : goal.returns-in-Truth-clause-cells
+returns-in-Truth-clause-cells c = truth_kept (cells_from c.args.base c.args.texts.now c.args.registers.now) c.args.from _ (c.truth_at-truth.ensures (from_base c.args.base (text_at c.args.texts.now)))
+
+pub returns-in-Own-clause-cell : goal.returns-in-Own-clause-cell
+returns-in-Own-clause-cell c = own_is c.args.registers.now c.args.from c.shape_at.result c.place_at-owned.result c.shape_at.ensures c.in-Own.is c.place_at-owned.ensures (from_base c.args.base (text_at c.args.texts.now))
+
+pub returns-in-Own-clause-cells : goal.returns-in-Own-clause-cells
+returns-in-Own-clause-cells c =
+    let t = from_base c.args.base (text_at c.args.texts.now) in
+    own_kept (cells_from c.args.base c.args.texts.now c.args.registers.now) c.args.from c.place_at-owned.result _
+    (own_is c.args.registers.now c.args.from c.shape_at.result c.place_at-owned.result c.shape_at.ensures c.in-Own.is c.place_at-owned.ensures t) (c.empty.ensures t)
+
+pub returns-in-Ref-clause-cell : goal.returns-in-Ref-clause-cell
+returns-in-Ref-clause-cell c = reference_is c.args.registers.now c.args.from c.shape_at.result c.place_at-referred.result c.shape_at.ensures c.in-Ref.is c.place_at-referred.ensures (from_base c.args.base (text_at c.args.texts.now))
+
+pub returns-in-Ref-clause-cells : goal.returns-in-Ref-clause-cells
+returns-in-Ref-clause-cells c =
+    reference_kept (cells_from c.args.base c.args.texts.now c.args.registers.now) c.args.from c.place_at-referred.result
+    (reference_is c.args.registers.now c.args.from c.shape_at.result c.place_at-referred.result c.shape_at.ensures c.in-Ref.is c.place_at-referred.ensures (from_base c.args.base (text_at c.args.texts.now)))
+
+pub returns-in-Iso-clause-cell : goal.returns-in-Iso-clause-cell
+returns-in-Iso-clause-cell c = iso_is c.args.registers.now c.args.from c.shape_at.result c.place_at-root.result c.shape_at.ensures c.in-Iso.is c.place_at-root.ensures (from_base c.args.base (text_at c.args.texts.now))
+
+pub returns-in-Iso-clause-cells : goal.returns-in-Iso-clause-cells
+returns-in-Iso-clause-cells c =
+    let t = from_base c.args.base (text_at c.args.texts.now) in
+    iso_kept (cells_from c.args.base c.args.texts.now c.args.registers.now) c.args.from c.place_at-root.result _
+    (iso_is c.args.registers.now c.args.from c.shape_at.result c.place_at-root.result c.shape_at.ensures c.in-Iso.is c.place_at-root.ensures t) (c.empty-in-Iso.ensures t)
