@@ -233,7 +233,7 @@ module _ (to a x b : ℕ) (heap : HeapState) (cells : List (Option Cell)) where
       let f = field_is v.names k body.cells o.values was means.3 got in
       let knows : Knows v.names (Some c) = subst (Knows v.names) new (agrees.known b) in
       let denote : DenoteAll v.names left.cells (slice_set o.values k y) =
-          subst (λ cs. DenoteAll v.names cs (slice_set o.values k y)) (sym cells_are) (denote_set v.names k body.cells o.values c y means.3 (is_denoted v.names c knows)) in
+      subst (λ cs. DenoteAll v.names cs (slice_set o.values k y)) (sym cells_are) (denote_set v.names k body.cells o.values c y means.3 (is_denoted v.names c knows)) in
       let s : State = changed n o (slice_set o.values k y) v.state in
       let u : View = record v { state = s } in
       let stood = changes v heap cells p o body left (slice_set o.values k y) agrees (known v heap cells agrees a p at) there stands means.1 (kind ∙ means.2) denote in
@@ -328,6 +328,7 @@ module _ (a b : ℕ) (heap : HeapState) (cells : List (Option Cell)) where
       by_test : (n : ℕ) (x : Answer) (t : Bool) → nat_lt n width_limit ≡ t → width_limit ≤ n → (if t then x else traps ArrayTooLong) ≡ traps ArrayTooLong
       by_test n x true e le = absurd (let lt = ltb-true n width_limit e in omega (arith, lt, le))
       by_test n x false e le = refl
+
       too_many : (n : ℕ) (x : Answer) → width_limit ≤ n → (if nat_lt n width_limit then x else traps ArrayTooLong) ≡ traps ArrayTooLong
       too_many n x le = by_test n x (nat_lt n width_limit) refl le
 
@@ -342,7 +343,7 @@ module _ (a b : ℕ) (heap : HeapState) (cells : List (Option Cell)) where
       let many = as_many v.names body.cells o.values means.3 in
       let knows : Knows v.names (Some c) = subst (Knows v.names) new (agrees.known b) in
       let denote : DenoteAll v.names left.cells (o.values ++ y ∷ []) =
-          subst (λ cs. DenoteAll v.names cs (o.values ++ y ∷ [])) (sym cells_are) (denote_more v.names body.cells o.values c y means.3 (is_denoted v.names c knows)) in
+      subst (λ cs. DenoteAll v.names cs (o.values ++ y ∷ [])) (sym cells_are) (denote_more v.names body.cells o.values c y means.3 (is_denoted v.names c knows)) in
       let s : State = changed n o (o.values ++ y ∷ []) v.state in
       let u : View = record v { state = s } in
       let stood = changes v heap cells p o body left (o.values ++ y ∷ []) agrees (known v heap cells agrees a p at) there stands means.1 (kind ∙ means.2) denote in
@@ -363,6 +364,7 @@ module _ (a b : ℕ) (heap : HeapState) (cells : List (Option Cell)) where
       by_test : (n : ℕ) (x : Answer) (t : Bool) → nat_lt n width_limit ≡ t → n < width_limit → (if t then x else traps ArrayTooLong) ≡ x
       by_test n x true e lt = refl
       by_test n x false e lt = absurd (let le = ltb-false n width_limit e in omega (arith, lt, le))
+
       fits : (n : ℕ) (x : Answer) → n < width_limit → (if nat_lt n width_limit then x else traps ArrayTooLong) ≡ x
       fits n x lt = by_test n x (nat_lt n width_limit) refl lt
 

@@ -78,7 +78,7 @@ kept_as names before (r ∷ rs) now k all e = at (held now r) refl (λ c next kn
         let knows : Knows names (Some c) = subst (Knows names) h (all r) in
         let value : read (values_in names now) r ≡ Some (value_of names c) = read_held names now r c h in
         let after : values_in names next ≡ after_keeping r (read (values_in names now) r) (values_in names now) =
-            ap (λ o. values_in names (kept_cells o r now)) h ∙ kept_is names now r c (held_within now r c h) ∙ sym (ap (λ o. after_keeping r o (values_in names now)) value) in
+        ap (λ o. values_in names (kept_cells o r now)) h ∙ kept_is names now r c (held_within now r c h) ∙ sym (ap (λ o. after_keeping r o (values_in names now)) value) in
         record {
           cells = c ∷ t.cells;
           values = value_of names c ∷ t.values;
@@ -109,7 +109,7 @@ keeps_read names before (r ∷ rs) now x e =
     let next : List (Option Cell) = kept_cells (held now r) r now in
     let value : read (values_in names now) r ≡ Some (value_of names c.0) = read_held names now r c.0 c.1 in
     let after : values_in names next ≡ after_keeping r (read (values_in names now) r) (values_in names now) =
-        ap (λ o. values_in names (kept_cells o r now)) c.1 ∙ kept_is names now r c.0 (held_within now r c.0 c.1) ∙ sym (ap (λ o. after_keeping r o (values_in names now)) value) in
+    ap (λ o. values_in names (kept_cells o r now)) c.1 ∙ kept_is names now r c.0 (held_within now r c.0 c.1) ∙ sym (ap (λ o. after_keeping r o (values_in names now)) value) in
     subst (λ o. IsSome o) (sym (keep_next before r rs now next c.0 c.1 refl)) (keeps_read names (before ++ c.0 ∷ []) rs next p.1 (ap (read_all rs) after ∙ p.3))
 
 -- ---- a birth
@@ -305,7 +305,7 @@ module _ (to : List ℕ) (from : ℕ) (heap : HeapState) (cells : List (Option C
       let mid_is : values_in v.names mid ≡ put regs from None = ap (values_in v.names) emptied ∙ put_values v.names cells from None within in
       let puts : put_all to means.0.values (put regs from None) ≡ Some (values_in v.names (fill_from to body.cells mid)) = ap (put_all to means.0.values) (sym mid_is) ∙ f.puts in
       let step : opens to from regs s ≡ opened_to n regs s (Some (values_in v.names (fill_from to body.cells mid))) =
-          open_is v p e ∙ ap (λ o. opened_of to from regs s n (living o)) means.1 ∙ ap (opened_to n regs s) puts in
+      open_is v p e ∙ ap (λ o. opened_of to from regs s n (living o)) means.1 ∙ ap (opened_to n regs s) puts in
       let u : View = record v { state = dies n s } in
       record {
         view = u;

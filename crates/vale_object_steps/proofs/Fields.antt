@@ -111,7 +111,7 @@ module _ (to a field b : ℕ) (heap : HeapState) (cells : List (Option Cell)) wh
       let f = field_is v.names field body.cells o.values was means.3 got in
       let knows : Knows v.names (Some c) = subst (Knows v.names) new (agrees.known b) in
       let denote : DenoteAll v.names left.cells (slice_set o.values field x) =
-          subst (λ cs. DenoteAll v.names cs (slice_set o.values field x)) (sym cells_are) (denote_set v.names field body.cells o.values c x means.3 (is_denoted v.names c knows)) in
+      subst (λ cs. DenoteAll v.names cs (slice_set o.values field x)) (sym cells_are) (denote_set v.names field body.cells o.values c x means.3 (is_denoted v.names c knows)) in
       let s : State = changed n o (slice_set o.values field x) v.state in
       let u : View = record v { state = s } in
       let stood = changes v heap cells p o body left (slice_set o.values field x) agrees (known v heap cells agrees a p at) there stands means.1 (kind ∙ means.2) denote in

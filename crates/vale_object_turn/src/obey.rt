@@ -188,7 +188,9 @@ pub fn obey_change(
             field,
             value,
         } => {
-            let from_owner = swap(alloc, heap, registers, texts, base, *to, *object, *field, *value);
+            let from_owner = swap(
+                alloc, heap, registers, texts, base, *to, *object, *field, *value,
+            );
             go_on(place, from_owner)
         }
         Instr::Swap {
@@ -198,7 +200,9 @@ pub fn obey_change(
             value,
             at,
         } => {
-            let checked = swap(alloc, heap, registers, texts, base, *to, *object, *field, *value);
+            let checked = swap(
+                alloc, heap, registers, texts, base, *to, *object, *field, *value,
+            );
             land(place, checked, *at)
         }
         Instr::SwapElOwn {
@@ -208,7 +212,9 @@ pub fn obey_change(
             value,
             at,
         } => {
-            let from_owner = exchange(alloc, heap, registers, texts, base, *to, *object, *index, *value);
+            let from_owner = exchange(
+                alloc, heap, registers, texts, base, *to, *object, *index, *value,
+            );
             land(place, from_owner, *at)
         }
         Instr::SwapEl {
@@ -218,7 +224,9 @@ pub fn obey_change(
             value,
             at,
         } => {
-            let checked = exchange(alloc, heap, registers, texts, base, *to, *object, *index, *value);
+            let checked = exchange(
+                alloc, heap, registers, texts, base, *to, *object, *index, *value,
+            );
             land(place, checked, *at)
         }
         Instr::Push { object, value, at } => {

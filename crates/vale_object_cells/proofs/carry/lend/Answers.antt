@@ -1,0 +1,28 @@
+use Rattle.std.proofs.Common.{Some, ap, subst, sym, ◌∙◌}
+use Rattle.std.specs.Prelude.{◌≡◌, OnOk, slice_set}
+use Rattle.vale_registers.specs.Passing.{from_base}
+use Rattle.vale_registers.specs.Texts.{text_at}
+use Rattle.vale_heap.specs.declared.body.Cell.{Cell}
+use Rattle.vale_heap.specs.declared.body.Cell.TheVariants.{Text}
+use Rattle.vale_object_cells.specs.Cells.{cells_from, lent_cell}
+use Rattle.vale_object_cells.proofs.carry.lend.Goals as goal
+
+pub returns-in-Int-clause-cells : goal.returns-in-Int-clause-cells
+returns-in-Int-clause-cells c = c.set_int.ensures (from_base c.args.base (text_at c.args.texts.now)) ∙ ap (λ (x : Cell). slice_set (cells_from c.args.base c.args.texts.now c.args.registers.now) c.args.to (Some (lent_cell x))) (sym c.in-Int.is)
+
+pub returns-in-Truth-clause-cells : goal.returns-in-Truth-clause-cells
+returns-in-Truth-clause-cells c = c.set_truth.ensures (from_base c.args.base (text_at c.args.texts.now)) ∙ ap (λ (x : Cell). slice_set (cells_from c.args.base c.args.texts.now c.args.registers.now) c.args.to (Some (lent_cell x))) (sym c.in-Truth.is)
+
+pub returns-in-Own-clause-cells : goal.returns-in-Own-clause-cells
+returns-in-Own-clause-cells c = c.set_reference.ensures (from_base c.args.base (text_at c.args.texts.now)) ∙ ap (λ (x : Cell). slice_set (cells_from c.args.base c.args.texts.now c.args.registers.now) c.args.to (Some (lent_cell x))) (sym c.in-Own.is)
+
+pub returns-in-Ref-clause-cells : goal.returns-in-Ref-clause-cells
+returns-in-Ref-clause-cells c = c.set_reference-in-Ref.ensures (from_base c.args.base (text_at c.args.texts.now)) ∙ ap (λ (x : Cell). slice_set (cells_from c.args.base c.args.texts.now c.args.registers.now) c.args.to (Some (lent_cell x))) (sym c.in-Ref.is)
+
+pub returns-in-Iso-clause-cells : goal.returns-in-Iso-clause-cells
+returns-in-Iso-clause-cells c = c.set_reference-in-Iso.ensures (from_base c.args.base (text_at c.args.texts.now)) ∙ ap (λ (x : Cell). slice_set (cells_from c.args.base c.args.texts.now c.args.registers.now) c.args.to (Some (lent_cell x))) (sym c.in-Iso.is)
+
+pub returns-in-Ok-clause-cells : goal.returns-in-Ok-clause-cells
+returns-in-Ok-clause-cells c =
+    let same : Text c.in-Ok.copy ≡ lent_cell c.args.cell.now = ap Text (c.in-Ok.ensures ∙ c.as_slice.ensures) ∙ ap lent_cell (sym c.in-Text.is) in
+    subst (λ x. OnOk c.put_text.result (cells_from c.args.base c.put_text.new.texts c.put_text.new.registers ≡ slice_set (cells_from c.args.base c.args.texts.now c.args.registers.now) c.args.to (Some x))) same c.put_text.ensures.cells
