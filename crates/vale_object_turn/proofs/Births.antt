@@ -34,10 +34,10 @@ spend_some : (n : ℕ) (t : State) → 0 < n → spend_of n t ≡ Some (record t
 spend_some zero t lt = absurd (omega (arith, lt))
 spend_some (suc n) t lt = let one : n ≡ suc n - 1 = omega arith in ap (λ k. Some (record t { left = k; spent = t.spent + 1 })) one
 
-ticked_on : (t : State) (go : State → Next) → 0 < t.left → after_tick t go ≡ go (after_one t)
+pub ticked_on : (t : State) (go : State → Next) → 0 < t.left → after_tick t go ≡ go (after_one t)
 ticked_on t go lt = ap (λ o. ticked o t go) (spend_some t.left t lt)
 
-not_ticked : (t : State) (go : State → Next) → t.left ≡ 0 → after_tick t go ≡ Over Cut None t
+pub not_ticked : (t : State) (go : State → Next) → t.left ≡ 0 → after_tick t go ≡ Over Cut None t
 not_ticked t go e = ap (λ n. ticked (spend_of n t) t go) e
 
 -- ---- the step after its tick
@@ -104,7 +104,7 @@ nowhere = record { line = 0; col = 0 }
 abbrev ticked_view : View → View
 ticked_view v = record v { state = after_one v.state }
 
-still_agrees : (v : View) (heap : HeapState) (cells : List (Option Cell)) → Agrees v heap cells → Agrees (ticked_view v) heap cells
+pub still_agrees : (v : View) (heap : HeapState) (cells : List (Option Cell)) → Agrees v heap cells → Agrees (ticked_view v) heap cells
 still_agrees v heap cells a = record { stands = a.stands; regions = a.regions; known = a.known }
 
 module _ (heap : HeapState) (cells : List (Option Cell)) (place left : ℕ) where

@@ -1,3 +1,4 @@
 pub mod Births
+pub mod Destroying
 pub mod Mirrors
 pub mod Stepping

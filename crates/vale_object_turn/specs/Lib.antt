@@ -1,3 +1,4 @@
+pub mod Destroying
 pub mod Landing
 pub mod Objects
 pub mod Steps

@@ -3,7 +3,9 @@
 #![tactic(auto)]
 
 mod births;
+mod destroy;
 mod obey;
 
 pub use births::{obey_make, obey_open};
+pub use destroy::{Onset, begin};
 pub use obey::{obey_change, obey_look, obey_reference};
