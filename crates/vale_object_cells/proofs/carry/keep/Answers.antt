@@ -1,4 +1,7 @@
-use Rattle.std.proofs.Common.{Some, ap, ◌∙◌, sym}
+use Rattle.std.proofs.Common.{Some, ap, ◌∙◌, ◌<◌, length, rules, sym, arith}
+use Rattle.std.proofs.lemmas.Int.{to_z-of_z}
+use mir.Syntax.{w64}
+use Rattle.vale_heap.specs.declared.body.Cell.TheVariants.{Int}
 use Rattle.vale_registers.specs.Passing.{from_base}
 use Rattle.vale_registers.specs.Texts.{text_at}
 use Rattle.vale_object_cells.specs.Cells.{cells_from}
@@ -28,7 +31,7 @@ pub unreachable-requires : goal.unreachable-requires
 unreachable-requires c = not_empty c.args.registers.now c.args.from c.shape_at.result c.shape_at.ensures c.in-Empty.is c.requires.there
 
 pub returns-in-Int-clause-cell : goal.returns-in-Int-clause-cell
-returns-in-Int-clause-cell c = c.int_at-number.ensures (from_base c.args.base (text_at c.args.texts.now))
+returns-in-Int-clause-cell c = c.int_at-number.ensures (from_base c.args.base (text_at c.args.texts.now)) ∙ ap (λ z. Some (Int z)) (sym (to_z-of_z w64 c.int_at-number.result (search rules)))
 
 pub returns-in-Int-clause-cells : goal.returns-in-Int-clause-cells
 returns-in-Int-clause-cells c = int_kept (cells_from c.args.base c.args.texts.now c.args.registers.now) c.args.from _ (c.int_at-number.ensures (from_base c.args.base (text_at c.args.texts.now)))
@@ -61,3 +64,14 @@ returns-in-Iso-clause-cells c =
     let t = from_base c.args.base (text_at c.args.texts.now) in
     iso_kept (cells_from c.args.base c.args.texts.now c.args.registers.now) c.args.from c.place_at-root.result _
     (iso_is c.args.registers.now c.args.from c.shape_at.result c.place_at-root.result c.shape_at.ensures c.in-Iso.is c.place_at-root.ensures t) (c.empty-in-Iso.ensures t)
+
+pub overflow_add-base : goal.overflow_add-base
+overflow_add-base c =
+    let within : c.args.from < length c.args.registers.now = cell_within c.args.registers.now c.args.from c.requires.there in
+    omega (arith, c.requires.few, within)
+
+pub empty-requires : goal.empty-requires
+empty-requires c = cell_within c.args.registers.now c.args.from c.requires.there
+
+pub empty-requires-in-Iso : goal.empty-requires-in-Iso
+empty-requires-in-Iso c = cell_within c.args.registers.now c.args.from c.requires.there
