@@ -1,5 +1,5 @@
 -- Cells that go to registers, and cells that are kept.
-use Rattle.std.proofs.Common.{◌≡◌, ◌≢◌, ℕ, ◌+◌, List, [], ◌∷◌, Option, Some, None, ℤ, Bool, refl, sym, ap, subst, ◌∙◌, arith}
+use Rattle.std.proofs.Common.{◌≡◌, ◌≢◌, ℕ, ◌+◌, List, Option, Some, None, ℤ, Bool, sym, ap, subst, ◌∙◌, arith}
 use Rattle.std.specs.Prelude.{slice_set}
 use Rattle.vale_registers.specs.Passing.{from_base}
 use Rattle.vale_registers.specs.Texts.{IsWritten, text_at}

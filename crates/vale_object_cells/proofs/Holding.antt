@@ -2,9 +2,9 @@
 use Rattle.std.proofs.Common.{◌≡◌, ◌≢◌, ℕ, zero, suc, ◌<◌, ℤ, List, [], ◌∷◌, length, get_or, Option, Some, None, Bool, refl, sym, ap, ◌∙◌, subst, arith}
 use Rattle.std.specs.Prelude.{slice_set}
 use Rattle.vale_heap.specs.declared.body.Cell.{Cell}
-use Rattle.vale_heap.specs.declared.body.Cell.TheVariants.{Int, Truth, Text, Own, Ref, Iso}
+use Rattle.vale_heap.specs.declared.body.Cell.TheVariants.{Int, Truth, Own, Ref, Iso}
 use Rattle.vale_heap.specs.declared.body.Place.{Place}
-use Rattle.vale_object_cells.specs.Cells.{cell_of, cell_in, cells_in, held, kept_cells, place_of, place_in, HoldsInt, HoldsTruth, HoldsPlace, HoldsCell, IsShaped}
+use Rattle.vale_object_cells.specs.Cells.{cell_of, cell_in, cells_in, held, place_of, place_in, HoldsInt, HoldsTruth, HoldsPlace, HoldsCell, IsShaped}
 use Rattle.vale_object_cells.specs.declared.register.Register.{Register}
 use Rattle.vale_object_cells.specs.declared.register.Shape.{Shape}
 use Rattle.vale_object_cells.specs.declared.register.Shape.TheVariants as shape

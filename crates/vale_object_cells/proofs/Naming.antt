@@ -1,16 +1,16 @@
 -- Places and their names.
-use Rattle.std.proofs.Common.{◌≡◌, ℕ, zero, suc, ◌+◌, ◌<◌, Bool, true, false, ◌&&◌, nat_eq, if◌then◌else◌, List, [], ◌∷◌, ◌++◌, length, map, Option, Some, None, refl, sym, ap, subst, ◌∙◌, arith}
+use Rattle.std.proofs.Common.{◌≡◌, ℕ, zero, suc, ◌<◌, Bool, true, false, ◌&&◌, nat_eq, if◌then◌else◌, List, [], ◌∷◌, ◌++◌, length, Option, Some, None, refl, sym, ap, subst, ◌∙◌, arith}
 use Rattle.std.specs.Prelude.{slice_get, slice_set}
 use Rattle.std.proofs.lemmas.Bool.{eqb-true, eq-eqb}
 use Rattle.std.proofs.lemmas.List.{length-set}
 use Rattle.vale_state_spec.specs.World.{Value}
 use Rattle.vale_state_spec.specs.World.{Int as number, Truth as truth, Text as text, Own as owner, Ref as reference, Iso as isolate}
 use Rattle.vale_code.specs.Registers.{read, put, kept}
-use Rattle.vale_heap.specs.Standing.{HasPlace, Denotes, DenoteAll}
+use Rattle.vale_heap.specs.Standing.{HasPlace, Denotes}
 use Rattle.vale_heap.specs.declared.body.Place.{Place}
 use Rattle.vale_heap.specs.declared.body.Cell.{Cell}
 use Rattle.vale_heap.specs.declared.body.Cell.TheVariants.{Int, Truth, Text, Own, Ref, Iso}
-use Rattle.vale_object_cells.specs.Cells.{held, kept_cells, lent_cell, place_in}
+use Rattle.vale_object_cells.specs.Cells.{held, kept_cells, lent_cell}
 use Rattle.vale_object_cells.specs.Names.{place_eq, name_at, IsKnown, value_of, value_in, values_in, Knows, AllKnown, Apart}
 
 and_true : (a b : Bool) → (a && b) ≡ true → (a ≡ true) × (b ≡ true)

@@ -1,7 +1,7 @@
-pub mod Arrays
-pub mod Births
-pub mod Drops
-pub mod Fields
+pub mod ArrayLaws
+pub mod BirthLaws
+pub mod DropLaws
+pub mod FieldLaws
 pub mod Objects
-pub mod References
+pub mod ReferenceLaws
 pub mod Registers

@@ -26,7 +26,7 @@ use Rattle.vale_object_steps.specs.Views.{View}
 use Rattle.vale_object_turn.specs.Destroying.{Begins, Begun, after_tick_of, destructor_frame}
 use Rattle.vale_object_turn.specs.Steps.{Runs}
 use Rattle.vale_object_turn.specs.declared.destroy.Onset.TheVariants as onset
-use Rattle.vale_object_turn.proofs.Births.{not_ticked, still_agrees, ticked_on}
+use Rattle.vale_object_turn.proofs.BirthLaws.{not_ticked, still_agrees, ticked_on}
 
 module _ (frames : List Frame) (at : Spot) (s : State) where
   -- where the depth allows no more, and where it allows one

@@ -1,4 +1,4 @@
-pub mod Births
+pub mod BirthLaws
 pub mod Destroying
 pub mod Mirrors
 pub mod Stepping

@@ -5,8 +5,8 @@ use Rattle.vale_heap.specs.declared.body.Cell.TheVariants.{Int}
 use Rattle.vale_registers.specs.Passing.{from_base}
 use Rattle.vale_registers.specs.Texts.{text_at}
 use Rattle.vale_object_cells.specs.Cells.{cells_from}
-use Rattle.vale_object_cells.proofs.Holding.{cell_within, int_shaped, iso_is, iso_shaped, not_empty, own_is, own_shaped, place_within, reference_is, reference_shaped, truth_shaped}
-use Rattle.vale_object_cells.proofs.Carrying.{int_kept, iso_kept, own_kept, reference_kept, text_kept, text_shaped, truth_kept}
+use Rattle.vale_object_cells.proofs.Holding.{cell_within, int_shaped, iso_is, iso_shaped, not_empty, own_is, own_shaped, reference_is, reference_shaped, truth_shaped}
+use Rattle.vale_object_cells.proofs.Carrying.{int_kept, iso_kept, own_kept, reference_kept, truth_kept}
 use Rattle.vale_object_cells.proofs.carry.keep.Goals as goal
 
 pub shape_at-requires : goal.shape_at-requires

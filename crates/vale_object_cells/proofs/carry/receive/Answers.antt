@@ -5,8 +5,8 @@ use Rattle.std.specs.Prelude.{◌≡◌, OnOk, slice_set}
 use Rattle.vale_registers.specs.Passing.{from_base}
 use Rattle.vale_registers.specs.Texts.{text_at}
 use Rattle.vale_heap.specs.declared.body.Cell.{Cell}
-use Rattle.vale_heap.specs.declared.body.Cell.TheVariants.{Int, Text}
-use Rattle.vale_object_cells.specs.Cells.{cells_from, lent_cell}
+use Rattle.vale_heap.specs.declared.body.Cell.TheVariants.{Int}
+use Rattle.vale_object_cells.specs.Cells.{cells_from}
 use Rattle.vale_object_cells.proofs.carry.receive.Goals as goal
 
 pub returns-in-Int-clause-cells : goal.returns-in-Int-clause-cells

@@ -1,4 +1,4 @@
-use Rattle.vale_object_cells.proofs.Holding.{int_is, int_within}
+use Rattle.vale_object_cells.proofs.Holding.{int_within}
 use Rattle.vale_object_cells.proofs.register.int_at.Goals as goal
 
 pub bounds-registers-register : goal.bounds-registers-register

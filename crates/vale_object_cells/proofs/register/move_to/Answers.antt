@@ -1,7 +1,4 @@
-use Rattle.std.proofs.Common.{Some, ap, sym, ◌∙◌}
-use Rattle.std.specs.Prelude.{slice_set}
-use Rattle.vale_object_cells.specs.Cells.{cells_in}
-use Rattle.vale_object_cells.proofs.Holding.{iso_is, own_is, place_within, reference_is}
+use Rattle.vale_object_cells.proofs.Holding.{place_within}
 use Rattle.vale_object_cells.proofs.register.move_to.Goals as goal
 
 pub shape_at-shape-requires : goal.shape_at-shape-requires

@@ -1,7 +1,7 @@
 use Rattle.std.proofs.Common.{◌<◌, length, arith}
 use Rattle.vale_object_cells.specs.Cells.{cells_in}
 use Rattle.vale_object_cells.proofs.Holding.{as_many}
-use Rattle.vale_object_steps.proofs.Arrays.{count_dead, count_found, count_place}
+use Rattle.vale_object_steps.proofs.ArrayLaws.{count_dead, count_found, count_place}
 use Rattle.vale_object_steps.proofs.Objects.{slot_of}
 use Rattle.vale_object_steps.proofs.arrays.count.Goals as goal
 

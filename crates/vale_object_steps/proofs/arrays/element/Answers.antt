@@ -2,7 +2,7 @@ use Rattle.std.proofs.Common.{◌<◌, ◌∙◌, Some, ap, get_or, length, refl
 use Rattle.vale_registers.specs.Passing.{from_base}
 use Rattle.vale_registers.specs.Texts.{text_at}
 use Rattle.vale_object_cells.specs.Cells.{cells_from}
-use Rattle.vale_object_steps.proofs.Arrays.{index_within, read_dead, read_found, read_number, read_outside, read_place}
+use Rattle.vale_object_steps.proofs.ArrayLaws.{index_within, read_dead, read_found, read_number, read_outside, read_place}
 use Rattle.vale_object_steps.proofs.Objects.{got_at, slot_of}
 use Rattle.vale_object_steps.proofs.Registers.{cells_many, holds_int, holds_place}
 use Rattle.vale_object_steps.proofs.arrays.element.Goals as goal

@@ -3,7 +3,7 @@ use Rattle.vale_registers.specs.Passing.{from_base}
 use Rattle.vale_registers.specs.Texts.{text_at}
 use Rattle.vale_heap.specs.declared.body.Body.{Body}
 use Rattle.vale_object_cells.specs.Cells.{cells_from}
-use Rattle.vale_object_steps.proofs.Arrays.{exchange_dead, exchange_found, exchange_number, exchange_outside, exchange_place, exchange_value, index_within}
+use Rattle.vale_object_steps.proofs.ArrayLaws.{exchange_dead, exchange_found, exchange_number, exchange_outside, exchange_place, exchange_value, index_within}
 use Rattle.vale_object_steps.proofs.Objects.{slot_of}
 use Rattle.vale_object_steps.proofs.Registers.{cells_many, holds_cell, holds_int, holds_place}
 use Rattle.vale_object_steps.proofs.arrays.exchange.Goals as goal

@@ -3,7 +3,7 @@ use Rattle.vale_registers.specs.Passing.{from_base}
 use Rattle.vale_registers.specs.Texts.{text_at}
 use Rattle.vale_heap.specs.declared.body.Body.{Body}
 use Rattle.vale_object_cells.specs.Cells.{cells_from}
-use Rattle.vale_object_steps.proofs.Arrays.{pop_dead, pop_empty, pop_found, pop_place}
+use Rattle.vale_object_steps.proofs.ArrayLaws.{pop_dead, pop_empty, pop_found, pop_place}
 use Rattle.vale_object_steps.proofs.Objects.{slot_of}
 use Rattle.vale_object_steps.proofs.Registers.{cells_many, holds_place}
 use Rattle.vale_object_steps.proofs.arrays.pop.Goals as goal

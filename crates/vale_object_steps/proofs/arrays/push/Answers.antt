@@ -3,7 +3,7 @@ use Rattle.vale_registers.specs.Passing.{from_base}
 use Rattle.vale_registers.specs.Texts.{text_at}
 use Rattle.vale_heap.specs.declared.body.Body.{Body}
 use Rattle.vale_object_cells.specs.Cells.{cells_from}
-use Rattle.vale_object_steps.proofs.Arrays.{push_dead, push_found, push_full, push_place, push_value}
+use Rattle.vale_object_steps.proofs.ArrayLaws.{push_dead, push_found, push_full, push_place, push_value}
 use Rattle.vale_object_steps.proofs.Objects.{slot_of}
 use Rattle.vale_object_steps.proofs.Registers.{holds_cell, holds_place}
 use Rattle.vale_object_steps.proofs.arrays.push.Goals as goal

@@ -2,7 +2,7 @@ use Rattle.std.proofs.Common.{◌∙◌, Some, ap, length}
 use Rattle.vale_registers.specs.Passing.{from_base}
 use Rattle.vale_registers.specs.Texts.{text_at}
 use Rattle.vale_object_cells.specs.Cells.{cells_from}
-use Rattle.vale_object_steps.proofs.Births.{make_found, make_there}
+use Rattle.vale_object_steps.proofs.BirthLaws.{make_found, make_there}
 use Rattle.vale_object_steps.proofs.Registers.{cells_many}
 use Rattle.vale_object_steps.proofs.births.make.Goals as goal
 

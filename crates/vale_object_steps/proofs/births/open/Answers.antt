@@ -2,7 +2,7 @@ use Rattle.std.proofs.Common.{◌∙◌, length, arith}
 use Rattle.vale_registers.specs.Passing.{from_base}
 use Rattle.vale_registers.specs.Texts.{text_at}
 use Rattle.vale_object_cells.specs.Cells.{cells_from}
-use Rattle.vale_object_steps.proofs.Births.{open_found, open_lives, open_many, open_place}
+use Rattle.vale_object_steps.proofs.BirthLaws.{open_found, open_lives, open_many, open_place}
 use Rattle.vale_object_steps.proofs.Objects.{slot_of}
 use Rattle.vale_object_steps.proofs.Registers.{cells_many, holds_place}
 use Rattle.vale_object_steps.proofs.births.open.Goals as goal

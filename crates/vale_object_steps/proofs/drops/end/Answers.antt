@@ -1,4 +1,4 @@
-use Rattle.vale_object_steps.proofs.Drops.{ends, finds_living, slot_within}
+use Rattle.vale_object_steps.proofs.DropLaws.{ends, finds_living, slot_within}
 use Rattle.vale_object_steps.proofs.drops.end.Goals as goal
 
 pub end-requires-clause-within : goal.end-requires-clause-within

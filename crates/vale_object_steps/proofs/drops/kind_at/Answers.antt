@@ -1,4 +1,4 @@
-use Rattle.vale_object_steps.proofs.Drops.{kind_is, looks_living, slot_within}
+use Rattle.vale_object_steps.proofs.DropLaws.{kind_is, looks_living, slot_within}
 use Rattle.vale_object_steps.proofs.drops.kind_at.Goals as goal
 
 pub look-requires : goal.look-requires

@@ -2,7 +2,7 @@ use Rattle.std.proofs.Common.{◌<◌, ◌∙◌, Some, ap, get_or, length, refl
 use Rattle.vale_registers.specs.Passing.{from_base}
 use Rattle.vale_registers.specs.Texts.{text_at}
 use Rattle.vale_object_cells.specs.Cells.{cells_from}
-use Rattle.vale_object_steps.proofs.Fields.{load_dead, load_found, load_place, load_within}
+use Rattle.vale_object_steps.proofs.FieldLaws.{load_dead, load_found, load_place, load_within}
 use Rattle.vale_object_steps.proofs.Objects.{got_at, slot_of}
 use Rattle.vale_object_steps.proofs.Registers.{cells_many, holds_place}
 use Rattle.vale_object_steps.proofs.fields.load.Goals as goal

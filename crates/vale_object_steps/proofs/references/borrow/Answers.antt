@@ -1,7 +1,7 @@
 use Rattle.std.proofs.Common.{◌<◌, length, arith}
 use Rattle.vale_object_cells.specs.Cells.{cells_in}
 use Rattle.vale_object_cells.proofs.Holding.{as_many}
-use Rattle.vale_object_steps.proofs.References.{freeze_place, frozen_to}
+use Rattle.vale_object_steps.proofs.ReferenceLaws.{freeze_place, frozen_to}
 use Rattle.vale_object_steps.proofs.references.borrow.Goals as goal
 
 pub place_at-place-requires : goal.place_at-place-requires

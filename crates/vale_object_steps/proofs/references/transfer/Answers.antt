@@ -1,7 +1,7 @@
 use Rattle.std.proofs.Common.{◌<◌, length, arith}
 use Rattle.vale_object_cells.specs.Cells.{cells_in}
 use Rattle.vale_object_cells.proofs.Holding.{as_many}
-use Rattle.vale_object_steps.proofs.References.{move_place, moved_to}
+use Rattle.vale_object_steps.proofs.ReferenceLaws.{move_place, moved_to}
 use Rattle.vale_object_steps.proofs.references.transfer.Goals as goal
 
 pub move_to-requires-clause-place : goal.move_to-requires-clause-place

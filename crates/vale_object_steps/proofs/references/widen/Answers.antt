@@ -1,7 +1,7 @@
 use Rattle.std.proofs.Common.{◌<◌, length, arith}
 use Rattle.vale_object_cells.specs.Cells.{cells_in}
 use Rattle.vale_object_cells.proofs.Holding.{as_many}
-use Rattle.vale_object_steps.proofs.References.{widen_place, widened_to}
+use Rattle.vale_object_steps.proofs.ReferenceLaws.{widen_place, widened_to}
 use Rattle.vale_object_steps.proofs.references.widen.Goals as goal
 
 pub upcast_to-requires-clause-place : goal.upcast_to-requires-clause-place

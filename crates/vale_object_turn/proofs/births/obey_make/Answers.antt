@@ -1,6 +1,6 @@
 use Rattle.std.proofs.Common.{◌<◌, arith, refl}
 use Rattle.vale_object_cells.specs.Cells.{cells_from}
-use Rattle.vale_object_turn.proofs.Births.{can_make, make_cut, make_obeys}
+use Rattle.vale_object_turn.proofs.BirthLaws.{can_make, make_cut, make_obeys}
 use Rattle.vale_object_turn.proofs.births.obey_make.Goals as goal
 
 pub make-requires-clause-right : goal.make-requires-clause-right

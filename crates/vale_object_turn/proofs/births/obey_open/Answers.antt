@@ -1,6 +1,6 @@
 use Rattle.std.proofs.Common.{◌<◌, arith, refl}
 use Rattle.vale_object_cells.specs.Cells.{cells_from}
-use Rattle.vale_object_turn.proofs.Births.{can_open, open_cut, open_obeys}
+use Rattle.vale_object_turn.proofs.BirthLaws.{can_open, open_cut, open_obeys}
 use Rattle.vale_object_turn.proofs.births.obey_open.Goals as goal
 
 pub open-requires-clause-right : goal.open-requires-clause-right

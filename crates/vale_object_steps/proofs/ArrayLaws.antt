@@ -24,7 +24,7 @@ use Rattle.vale_object_steps.specs.Views.{Agrees, CanDo, Follows, Gave, Grows, I
 use Rattle.vale_object_steps.specs.declared.effect.Effect.TheVariants as effect
 use Rattle.vale_object_steps.proofs.Registers.{Written, kept_from, kept_size, on_held, on_there, read_held, written_to}
 use Rattle.vale_object_steps.proofs.Objects.{as_many, changes, denote_set, field_is, finds, known, leads, lent_knows, lent_value, looks, on_dead, on_living}
-use Rattle.vale_object_steps.proofs.Fields.{same_names}
+use Rattle.vale_object_steps.proofs.FieldLaws.{same_names}
 
 -- ---- indices
 

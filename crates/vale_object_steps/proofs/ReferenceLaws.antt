@@ -16,7 +16,7 @@ use Rattle.vale_object_steps.specs.Doing.{freezes, given, moves, on_value, widen
 use Rattle.vale_object_steps.specs.Views.{Agrees, CanDo, Follows, IsRight, View}
 use Rattle.vale_object_steps.specs.declared.effect.Effect.TheVariants as effect
 use Rattle.vale_object_steps.proofs.Registers.{Written, held_within, kept_from, kept_size, on_there, written_to}
-use Rattle.vale_object_steps.proofs.Fields.{same_names}
+use Rattle.vale_object_steps.proofs.FieldLaws.{same_names}
 
 -- a cell that is given on, and what it leads to
 record Led (names : List Place) (o : Option Cell) : Type 0 where

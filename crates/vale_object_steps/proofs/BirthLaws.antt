@@ -25,7 +25,7 @@ use Rattle.vale_object_steps.specs.Views.{Agrees, CanDo, Follows, Gave, Grows, I
 use Rattle.vale_object_steps.specs.declared.effect.Effect.TheVariants as effect
 use Rattle.vale_object_steps.proofs.Registers.{Written, held_within, read_held, written_to}
 use Rattle.vale_object_steps.proofs.Objects.{as_many, finds, known}
-use Rattle.vale_object_steps.proofs.Fields.{same_names}
+use Rattle.vale_object_steps.proofs.FieldLaws.{same_names}
 
 -- ---- what registers hold is kept
 
