@@ -61,6 +61,10 @@ swapped_none : (z : ℤ) (n : ℕ) (o : Object) (x : Value) (s : State) → foun
 swapped_none (pos i) n o x s e = ap (λ y. element_swapped_in y n o i x s) (past_end o.values i (index_none i (length o.values) (nat_lt i (length o.values)) refl e))
 swapped_none (negsuc i) n o x s e = refl
 
+-- what was found of an index, by what it and the count are
+pub index_of : (z y : ℤ) (n m : ℕ) (o p : Option ℕ) → y ≡ z → o ≡ found_index y m → m ≡ n → o ≡ p → found_index z n ≡ p
+index_of z y n m o p e h k q = sym (λ i. found_index (e i) (k i)) ∙ sym h ∙ q
+
 -- an index has a rule only where it is a number
 element_number : (names : List Place) (c : Cell) (o : Object) (s : State) → IsRight (element_at (value_of names c) o s) → (z : ℤ) × (c ≡ Int z)
 element_number names (Int z) o s r = (z, refl)

@@ -1,7 +1,7 @@
 -- Objects that are made, and objects that are taken apart.
 use Rattle.std.proofs.Common.{◌≡◌, ℕ, zero, suc, ◌+◌, ◌-◌, ◌<◌, ◌≤◌, ◌++◌, List, [], ◌∷◌, length, drop, drop-cons, get_or, map, max, Option, Some, None, Bool, true, false, refl, sym, ap, subst, ◌∙◌, arith, append_assoc, append-nil}
 use Rattle.std.proofs.lemmas.List.{length-set}
-use Rattle.std.specs.Prelude.{IsSome, if◌then◌else◌, slice_get, slice_index, slice_set}
+use Rattle.std.specs.Prelude.{Err, IsSome, Ok, OnOk, Result, if◌then◌else◌, slice_get, slice_index, slice_set}
 use Rattle.std.proofs.Common.{◌⊎◌, inl, inr}
 use Rattle.vale_base.specs.declared.name.Kind.{Kind}
 use Rattle.vale_state_spec.specs.State.{Answer, State, born, counted, dies, gives, live, living, make, object_of}
@@ -358,3 +358,8 @@ fill_more to at c cells now after lt is =
 pub fill_end : (to : List ℕ) (now : List (Option Cell)) → fill_from to [] now ≡ now
 fill_end [] now = refl
 fill_end (r ∷ rs) now = refl
+
+-- what holds where a call is done, by what it says
+pub on_ok : {A E : Type 0} (r : Result A E) (P Q : Type 0) → OnOk r P → (P → Q) → OnOk r Q
+on_ok (Ok x) P Q h f = f h
+on_ok (Err e) P Q h f = tt

@@ -1,5 +1,5 @@
 -- What a birth keeps of a lender and its heap.
-use Rattle.std.specs.Prelude.{◌≡◌, ℕ, List, Bool, length}
+use Rattle.std.specs.Prelude.{◌≡◌, ℕ, List, Option, Bool, length}
 use Rattle.vale_code.specs.Registers.{Registers}
 use Rattle.vale_state_spec.specs.State.{State}
 use Rattle.vale_table.specs.Lending.{Same, StillOut}
@@ -13,9 +13,9 @@ use Rattle.vale_object_steps.specs.Views.{Agrees, Gave, IsRight, View}
 -- the lender knows the heap's frames, as many as before
 pub record StillLent (heap new : HeapState) (frames new_frames : ℕ) (out new_out : ℕ → Bool) (floors new_floors : ℕ → ℕ) : Type 0 where
   pub known : KnowsFrames new new_out
-  pub out : StillOut out new_out
-  pub floors : Same floors new_floors
-  pub frames : new_frames ≡ frames
+  pub still_out : StillOut out new_out
+  pub same_floors : Same floors new_floors
+  pub same_frames : new_frames ≡ frames
   pub as_long : length new.seats ≡ length heap.seats
 
 -- the same as `Follows` of a step that is done, where `low` has the lender's floors

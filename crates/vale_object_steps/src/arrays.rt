@@ -1,5 +1,5 @@
 // Elements of arrays.
-ghost use Rattle.std.specs.Prelude.{◌≡◌, ℕ, ◌+◌, ◌<◌, ◌^◌, IfOk, List, OnOk, length};
+ghost use Rattle.std.specs.Prelude.{◌≡◌, ℕ, ◌+◌, ◌<◌, ◌^◌, IfOk, List, OnOk, length, pos};
 ghost use Rattle.vale_registers.specs.Texts.{text_at};
 ghost use Rattle.vale_object_cells.specs.Cells.{cells_from, cells_in};
 ghost use Rattle.vale_object_steps.specs.Doing.{counts, exchanges, pops, pushes, reads};
@@ -9,7 +9,7 @@ ghost use Rattle.vale_object_steps.specs.Views.{CanDo, Follows};
 use crate::effect::Effect;
 use std::alloc::Global;
 use vale_base::{Memory, TrapKind, WIDTH_LIMIT};
-use vale_heap::Heap;
+use vale_heap::{Cells, Heap};
 use vale_object_cells::{Register, int_at, keep, lend, place_at, receive, set_int};
 use vale_registers::Row;
 
@@ -58,6 +58,13 @@ pub fn element(
     }
 }
 
+// How many cells there are.
+fn count_of(cells: &Cells) -> i64
+    ensures { result ≡ pos (length cells.now) }
+{
+    cells.as_slice().len() as i64
+}
+
 /// How many elements an array has goes to a register.
 pub fn count(heap: &Heap, registers: &mut [Register], to: u32, object: u32) -> Effect
     requires room { to < length registers.old }
@@ -67,7 +74,7 @@ pub fn count(heap: &Heap, registers: &mut [Register], to: u32, object: u32) -> E
     let place = place_at(registers, object);
     match heap.look(None, place) {
         Some(body) => {
-            let number = body.cells.as_slice().len() as i64;
+            let number = count_of(&body.cells);
             set_int(registers, to, number);
             Effect::Done
         }

@@ -2,7 +2,8 @@ use Rattle.std.proofs.Common.{◌∙◌, length, arith}
 use Rattle.vale_registers.specs.Passing.{from_base}
 use Rattle.vale_registers.specs.Texts.{text_at}
 use Rattle.vale_object_cells.specs.Cells.{cells_from}
-use Rattle.vale_object_steps.proofs.BirthLaws.{open_found, open_lives, open_many, open_place}
+use Rattle.vale_object_cells.proofs.Holding.{as_many, place_within}
+use Rattle.vale_object_steps.proofs.BirthLaws.{on_ok, open_found, open_lives, open_many, open_place}
 use Rattle.vale_object_steps.proofs.Objects.{slot_of}
 use Rattle.vale_object_steps.proofs.Registers.{cells_many, holds_place}
 use Rattle.vale_object_steps.proofs.births.open.Goals as goal
@@ -24,3 +25,18 @@ unreachable-requires c = open_lives c.args.to.now c.args.from c.args.heap.now (c
 
 pub receive_all-requires-clause-many : goal.receive_all-requires-clause-many
 receive_all-requires-clause-many c = open_many c.args.to.now c.args.from c.args.heap.now (cells_from c.args.base c.args.texts.now c.args.registers.now) c.place_at-place.result c.in-Some.body c.requires.right (c.place_at-place.ensures (from_base c.args.base (text_at c.args.texts.now))) c.in-Some.ensures.found
+
+pub empty-requires : goal.empty-requires
+empty-requires c =
+    place_within c.args.registers.now c.args.from
+    (holds_place c.args.base c.args.texts.now c.args.registers.now c.args.from (open_place c.args.to.now c.args.from c.args.heap.now (cells_from c.args.base c.args.texts.now c.args.registers.now) c.requires.right))
+
+pub returns-clause-step : goal.returns-clause-step
+returns-clause-step c =
+    let t = (from_base c.args.base (text_at c.args.texts.now)) in
+    let at = (c.place_at-place.ensures (from_base c.args.base (text_at c.args.texts.now))) in
+    let many = as_many t c.args.registers.now in
+    on_ok c.receive_all.result _ _ c.receive_all.ensures.cells (λ is.
+    open_found c.args.to.now c.args.from c.args.heap.now (cells_from c.args.base c.args.texts.now c.args.registers.now) c.place_at-place.result c.in-Some.body c.end.new.self (cells_from c.args.base c.args.texts.now c.empty.new.registers) _ at c.in-Some.ensures.found c.in-Some.ensures.stands c.in-Some.ensures.ended
+    (c.empty.ensures t) (open_many c.args.to.now c.args.from c.args.heap.now (cells_from c.args.base c.args.texts.now c.args.registers.now) c.place_at-place.result c.in-Some.body c.requires.right at c.in-Some.ensures.found)
+    (λ k lt. let h = c.requires.room k lt in omega (arith, h, many)) is)

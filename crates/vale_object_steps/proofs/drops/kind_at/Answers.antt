@@ -7,5 +7,5 @@ look-requires c = slot_within c.args.heap.now c.args.place c.requires
 pub unreachable-requires : goal.unreachable-requires
 unreachable-requires c = looks_living c.args.heap.now c.args.place c.requires c.in-None.ensures.stands
 
-pub returns-in-Some : goal.returns-in-Some
-returns-in-Some c = kind_is c.args.heap.now c.args.place c.in-Some.body.now c.in-Some.ensures.stands
+pub returns : goal.returns
+returns c = kind_is c.args.heap.now c.args.place c.in-Some.body.now c.in-Some.ensures.stands

@@ -6,3 +6,6 @@ use Rattle.vale_object_steps.proofs.drops.next_owned.Given as goal
 -- nothing that was passed has to be dropped
 abbrev pub invariant-cells : goal.invariant-cells
 invariant-cells l = first_owned_cell (reverse l.fn.rest.items) ≡ first_owned_cell (reverse l.rest.items)
+
+abbrev pub decreases-cells : goal.decreases-cells
+decreases-cells l = goal.left-cells l

@@ -35,5 +35,5 @@ returns-in-Ok-clause-step c =
 
 pub returns-in-None-clause-step : goal.returns-in-None-clause-step
 returns-in-None-clause-step c =
-    load_dead c.args.to c.args.object c.args.field c.args.heap.now (cells_from c.args.base c.args.texts.now c.args.registers.now) c.place_at-place.result _ _
+    load_dead c.args.to c.args.object c.args.field c.args.heap.now (cells_from c.args.base c.args.texts.now c.args.registers.now) c.place_at-place.result c.args.heap.now (cells_from c.args.base c.args.texts.now c.args.registers.now)
     (c.place_at-place.ensures (from_base c.args.base (text_at c.args.texts.now))) c.in-None.ensures.stands
