@@ -43,10 +43,10 @@ not_ticked t go e = ap (λ n. ticked (spend_of n t) t go) e
 -- ---- the step after its tick
 
 -- what the instruction leads to where no tick is left, and where one is
-record Timed (next : Next) (f : Active) (at : Spot) (below : List Frame) (s : State) (d : Doing) : Type 0 where
-  right : IsRight d.answer
-  cut : s.left ≡ 0 → next ≡ Over Cut None s
-  is : 0 < s.left → next ≡ answered f d.to d.after at below (after_one s) d.answer
+pub record Timed (next : Next) (f : Active) (at : Spot) (below : List Frame) (s : State) (d : Doing) : Type 0 where
+  pub right : IsRight d.answer
+  pub cut : s.left ≡ 0 → next ≡ Over Cut None s
+  pub is : 0 < s.left → next ≡ answered f d.to d.after at below (after_one s) d.answer
 
 module _ (code : Parts) (f : Active) (at : Spot) (below : List Frame) (s : State) (to : ℕ) (kind : Kind) where
   abbrev made_by : List Value → Registers → Next
@@ -113,12 +113,12 @@ module _ (heap : HeapState) (cells : List (Option Cell)) (place left : ℕ) wher
   goes_on s v d next new after new_place new_left runs some timed g e h =
       let f = active s v place cells in
       let t = g.steady in
-      let now : 0 < v.state.left = subst (λ n. 0 < n) (sym runs.left) some in
+      let now : 0 < v.state.left = subst (λ n. 0 < n) (sym runs.ticks_left) some in
       let total : (v.state.spent + 1) + (v.state.left - 1) ≡ v.state.spent + v.state.left = omega (arith, now) in
       record {
         view = g.view;
         grows = record { more = g.grows.more; names = g.grows.names; low = g.grows.low };
-        runs = record { agrees = g.agrees; left = t.left ∙ ap (λ n. n - 1) runs.left ∙ sym h };
+        runs = record { agrees = g.agrees; ticks_left = t.left ∙ ap (λ n. n - 1) runs.ticks_left ∙ sym h };
         ticks = (λ i. t.spent i + t.left i) ∙ total;
         pieces = t.pieces;
         frozen = t.frozen;
@@ -138,7 +138,7 @@ module _ (heap : HeapState) (cells : List (Option Cell)) (place left : ℕ) wher
 
   pub make_cut : (to : ℕ) (kind : Kind) (args : List ℕ) (out : ℕ → Bool) (floors : ℕ → ℕ) (new : HeapState) (after : List (Option Cell)) (new_place new_left : ℕ) → left ≡ 0 → ObeysLent out floors (i.Make to kind args) heap cells place left stop.Cut new after new_place new_left
   make_cut to kind args out floors new after new_place new_left z s v low runs right =
-      (make_timed s.code s.last (active s v place cells) nowhere s.below v.state to kind args right).cut (runs.left ∙ z)
+      (make_timed s.code s.last (active s v place cells) nowhere s.below v.state to kind args right).cut (runs.ticks_left ∙ z)
 
   pub make_obeys : (to : ℕ) (kind : Kind) (args : List ℕ) (out : ℕ → Bool) (floors : ℕ → ℕ) (new : HeapState) (after : List (Option Cell)) (new_place new_left : ℕ) → 0 < left → FollowsLent out floors (makes to kind args) heap cells new after
       → new_place ≡ place + 1 → new_left ≡ left - 1 → ObeysLent out floors (i.Make to kind args) heap cells place left stop.Going new after new_place new_left
@@ -156,7 +156,7 @@ module _ (heap : HeapState) (cells : List (Option Cell)) (place left : ℕ) wher
 
   pub open_cut : (to : List ℕ) (from : ℕ) (new : HeapState) (after : List (Option Cell)) (new_place new_left : ℕ) → left ≡ 0 → Obeys (i.Open to from) heap cells place left stop.Cut new after new_place new_left
   open_cut to from new after new_place new_left z s v runs right =
-      (open_timed s.code s.last (active s v place cells) nowhere s.below v.state to from right).cut (runs.left ∙ z)
+      (open_timed s.code s.last (active s v place cells) nowhere s.below v.state to from right).cut (runs.ticks_left ∙ z)
 
   pub open_obeys : (to : List ℕ) (from : ℕ) (new : HeapState) (after : List (Option Cell)) (new_place new_left : ℕ) → 0 < left → Follows (opens to from) heap cells effect.Done new after
       → new_place ≡ place + 1 → new_left ≡ left - 1 → Obeys (i.Open to from) heap cells place left stop.Going new after new_place new_left

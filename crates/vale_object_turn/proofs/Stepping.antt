@@ -51,7 +51,7 @@ module _ (instr : Instr) (step : Registers → State → Doing) (heap : HeapStat
       record {
         view = g.view;
         grows = g.grows;
-        runs = record { agrees = g.agrees; left = t.left ∙ runs.left };
+        runs = record { agrees = g.agrees; ticks_left = t.left ∙ runs.ticks_left };
         ticks = λ i. t.spent i + t.left i;
         pieces = t.pieces;
         frozen = t.frozen;

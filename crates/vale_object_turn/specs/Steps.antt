@@ -39,7 +39,7 @@ next_of s v place cells instr = act s.code s.last (active s v place cells) s.bel
 -- heap, registers and the ticks left stand for these names and this state
 pub record Runs (v : View) (heap : HeapState) (cells : List (Option Cell)) (left : ℕ) : Type 0 where
   pub agrees : Agrees v heap cells
-  pub left : v.state.left ≡ left
+  pub ticks_left : v.state.left ≡ left
 
 -- somewhere a rule gives the step
 pub record HasRule (heap : HeapState) (cells : List (Option Cell)) (place left : ℕ) (instr : Instr) : Type 0 where
