@@ -93,9 +93,9 @@ pub ok_on : {E F : Type 0} (came : Result Effect E) (r : Result Stop F) (X : Typ
 ok_on came (Ok told) X L h o = subst (λ c. OnOk c X) h.1 o
 ok_on came (Err e) X L h o = tt
 
-pub ok_surely : {E F : Type 0} (came : Result Effect E) (r : Result Stop F) (X : Type 0) (L : Stop → Type 0) → IfOk r (λ told. (came ≡ Ok effect.Done) × L told) → OnOk came X → OnOk r X
-ok_surely came (Ok told) X L h o = subst (λ c. OnOk c X) h.0 o
-ok_surely came (Err e) X L h o = tt
+pub ok_surely : {E F : Type 0} (came : Result Effect E) (r : Result Stop F) (X : Type 0) (L M : Stop → Type 0) → IfOk r (λ told. (came ≡ Ok effect.Done) × L told × M told) → OnOk came X → OnOk r X
+ok_surely came (Ok told) X L M h o = subst (λ c. OnOk c X) h.0 o
+ok_surely came (Err e) X L M h o = tt
 
 module _ (instr same : Instr) (step : Registers → State → Doing) (heap : HeapState) (cells : List (Option Cell)) (place : ℕ) (is : instr ≡ same) where
   pub can : (at : Spot) → Mirrors same step at → (left : ℕ) × HasRule heap cells place left instr → CanDo step heap cells

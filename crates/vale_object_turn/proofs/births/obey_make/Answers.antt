@@ -8,7 +8,7 @@ make-requires-clause-right g c = can_make c.args.heap.now (cells_from c.args.bas
 
 pub returns-then-left-eq0-clause-step : goal.returns-then-left-eq0-clause-step
 returns-then-left-eq0-clause-step g c =
-    make_cut c.args.heap.now (cells_from c.args.base c.args.texts.now c.args.registers.now) c.args.place.now c.args.left.now c.args.to c.args.kind c.args.args.now (g.L.Lender.out c.args.lender.now) (g.L.Lender.floors c.args.lender.now) _ _ _ _ c.if-left-eq0.true
+    make_cut c.args.heap.now (cells_from c.args.base c.args.texts.now c.args.registers.now) c.args.place.now c.args.left.now c.args.to c.args.kind c.args.args.now (g.L.Lender.out c.args.lender.now) (g.L.Lender.floors c.args.lender.now) c.args.heap.now (cells_from c.args.base c.args.texts.now c.args.registers.now) c.args.place.now c.args.left.now c.if-left-eq0.true
 
 pub returns-in-Ok-clause-step : goal.returns-in-Ok-clause-step
 returns-in-Ok-clause-step g c =

@@ -8,7 +8,7 @@ open-requires-clause-right c = can_open c.args.heap.now (cells_from c.args.base 
 
 pub returns-then-left-eq0-clause-step : goal.returns-then-left-eq0-clause-step
 returns-then-left-eq0-clause-step c =
-    open_cut c.args.heap.now (cells_from c.args.base c.args.texts.now c.args.registers.now) c.args.place.now c.args.left.now c.args.to.now c.args.from _ _ _ _ c.if-left-eq0.true
+    open_cut c.args.heap.now (cells_from c.args.base c.args.texts.now c.args.registers.now) c.args.place.now c.args.left.now c.args.to.now c.args.from c.args.heap.now (cells_from c.args.base c.args.texts.now c.args.registers.now) c.args.place.now c.args.left.now c.if-left-eq0.true
 
 pub returns-in-Ok-clause-step : goal.returns-in-Ok-clause-step
 returns-in-Ok-clause-step c =

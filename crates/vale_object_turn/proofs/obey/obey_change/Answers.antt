@@ -18,7 +18,7 @@ pub returns-in-SwapOwn-clause-step : goal.returns-in-SwapOwn-clause-step
 returns-in-SwapOwn-clause-step c = lands_surely c.args.instr.now (i.SwapOwn c.in-SwapOwn.to c.in-SwapOwn.object c.in-SwapOwn.field c.in-SwapOwn.value) (swaps c.in-SwapOwn.to c.in-SwapOwn.object c.in-SwapOwn.field c.in-SwapOwn.value) c.args.heap.now (cells_from c.args.base c.args.texts.now c.args.registers.now) c.args.place.now c.in-SwapOwn.is c.swap-from_owner.result c.go_on.result c.swap-from_owner.new.heap (cells_from c.args.base c.swap-from_owner.new.texts c.swap-from_owner.new.registers) c.go_on.new.place (swap_own_mirrors c.in-SwapOwn.to c.in-SwapOwn.object c.in-SwapOwn.field c.in-SwapOwn.value) c.swap-from_owner.ensures.step c.go_on.ensures
 
 pub returns-in-SwapOwn-clause-others : goal.returns-in-SwapOwn-clause-others
-returns-in-SwapOwn-clause-others c = ok_surely c.swap-from_owner.result c.go_on.result _ _ c.go_on.ensures c.swap-from_owner.ensures.others
+returns-in-SwapOwn-clause-others c = ok_surely c.swap-from_owner.result c.go_on.result _ _ _ c.go_on.ensures c.swap-from_owner.ensures.others
 
 pub swap-checked-requires-clause-right : goal.swap-checked-requires-clause-right
 swap-checked-requires-clause-right c = (can c.args.instr.now (i.Swap c.in-Swap.to c.in-Swap.object c.in-Swap.field c.in-Swap.value c.in-Swap.at) (swaps c.in-Swap.to c.in-Swap.object c.in-Swap.field c.in-Swap.value) c.args.heap.now (cells_from c.args.base c.args.texts.now c.args.registers.now) c.args.place.now c.in-Swap.is c.in-Swap.at (swap_mirrors c.in-Swap.to c.in-Swap.object c.in-Swap.field c.in-Swap.value c.in-Swap.at) c.requires.right)

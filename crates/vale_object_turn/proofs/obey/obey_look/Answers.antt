@@ -18,7 +18,7 @@ pub returns-in-LoadOwn-clause-step : goal.returns-in-LoadOwn-clause-step
 returns-in-LoadOwn-clause-step c = lands_surely c.args.instr.now (i.LoadOwn c.in-LoadOwn.to c.in-LoadOwn.object c.in-LoadOwn.field) (loads c.in-LoadOwn.to c.in-LoadOwn.object c.in-LoadOwn.field) c.args.heap.now (cells_from c.args.base c.args.texts.now c.args.registers.now) c.args.place.now c.in-LoadOwn.is c.load-from_owner.result c.go_on.result c.args.heap.now (cells_from c.args.base c.load-from_owner.new.texts c.load-from_owner.new.registers) c.go_on.new.place (load_own_mirrors c.in-LoadOwn.to c.in-LoadOwn.object c.in-LoadOwn.field) c.load-from_owner.ensures.step c.go_on.ensures
 
 pub returns-in-LoadOwn-clause-others : goal.returns-in-LoadOwn-clause-others
-returns-in-LoadOwn-clause-others c = ok_surely c.load-from_owner.result c.go_on.result _ _ c.go_on.ensures c.load-from_owner.ensures.others
+returns-in-LoadOwn-clause-others c = ok_surely c.load-from_owner.result c.go_on.result _ _ _ c.go_on.ensures c.load-from_owner.ensures.others
 
 pub load-checked-requires-clause-right : goal.load-checked-requires-clause-right
 load-checked-requires-clause-right c = (can c.args.instr.now (i.Load c.in-Load.to c.in-Load.object c.in-Load.field c.in-Load.at) (loads c.in-Load.to c.in-Load.object c.in-Load.field) c.args.heap.now (cells_from c.args.base c.args.texts.now c.args.registers.now) c.args.place.now c.in-Load.is c.in-Load.at (load_mirrors c.in-Load.to c.in-Load.object c.in-Load.field c.in-Load.at) c.requires.right)
@@ -39,7 +39,7 @@ pub returns-in-LoadLive-clause-step : goal.returns-in-LoadLive-clause-step
 returns-in-LoadLive-clause-step c = lands_surely c.args.instr.now (i.LoadLive c.in-LoadLive.to c.in-LoadLive.object c.in-LoadLive.field) (loads c.in-LoadLive.to c.in-LoadLive.object c.in-LoadLive.field) c.args.heap.now (cells_from c.args.base c.args.texts.now c.args.registers.now) c.args.place.now c.in-LoadLive.is c.load-living.result c.go_on-in-LoadLive.result c.args.heap.now (cells_from c.args.base c.load-living.new.texts c.load-living.new.registers) c.go_on-in-LoadLive.new.place (load_live_mirrors c.in-LoadLive.to c.in-LoadLive.object c.in-LoadLive.field) c.load-living.ensures.step c.go_on-in-LoadLive.ensures
 
 pub returns-in-LoadLive-clause-others : goal.returns-in-LoadLive-clause-others
-returns-in-LoadLive-clause-others c = ok_surely c.load-living.result c.go_on-in-LoadLive.result _ _ c.go_on-in-LoadLive.ensures c.load-living.ensures.others
+returns-in-LoadLive-clause-others c = ok_surely c.load-living.result c.go_on-in-LoadLive.result _ _ _ c.go_on-in-LoadLive.ensures c.load-living.ensures.others
 
 pub element-from_owner-requires-clause-right : goal.element-from_owner-requires-clause-right
 element-from_owner-requires-clause-right c = (can c.args.instr.now (i.ElemOwn c.in-ElemOwn.to c.in-ElemOwn.object c.in-ElemOwn.index c.in-ElemOwn.at) (reads c.in-ElemOwn.to c.in-ElemOwn.object c.in-ElemOwn.index) c.args.heap.now (cells_from c.args.base c.args.texts.now c.args.registers.now) c.args.place.now c.in-ElemOwn.is c.in-ElemOwn.at (elem_own_mirrors c.in-ElemOwn.to c.in-ElemOwn.object c.in-ElemOwn.index c.in-ElemOwn.at) c.requires.right)
@@ -72,13 +72,13 @@ pub count-counted-requires-clause-right : goal.count-counted-requires-clause-rig
 count-counted-requires-clause-right c = ((from_base c.args.base (text_at c.args.texts.now)), (can c.args.instr.now (i.Len c.in-Len.to c.in-Len.object c.in-Len.at) (counts c.in-Len.to c.in-Len.object) c.args.heap.now (cells_from c.args.base c.args.texts.now c.args.registers.now) c.args.place.now c.in-Len.is c.in-Len.at (len_mirrors c.in-Len.to c.in-Len.object c.in-Len.at) c.requires.right))
 
 pub returns-in-Len-clause-step : goal.returns-in-Len-clause-step
-returns-in-Len-clause-step c = lands c.args.instr.now (i.Len c.in-Len.to c.in-Len.object c.in-Len.at) (counts c.in-Len.to c.in-Len.object) c.args.heap.now (cells_from c.args.base c.args.texts.now c.args.registers.now) c.args.place.now c.in-Len.is c.in-Len.at (Ok c.count-counted.result) c.land-in-Len.result c.args.heap.now (cells_from c.args.base c.args.texts.now c.count-counted.new.registers) c.land-in-Len.new.place (len_mirrors c.in-Len.to c.in-Len.object c.in-Len.at) (c.count-counted.ensures (from_base c.args.base (text_at c.args.texts.now))) c.land-in-Len.ensures
+returns-in-Len-clause-step c = lands c.args.instr.now (i.Len c.in-Len.to c.in-Len.object c.in-Len.at) (counts c.in-Len.to c.in-Len.object) c.args.heap.now (cells_from c.args.base c.args.texts.now c.args.registers.now) c.args.place.now c.in-Len.is c.in-Len.at (Ok c.count-counted.result) c.land-in-Len.result c.args.heap.now (cells_from c.args.base c.args.texts.now c.count-counted.new.registers) c.land-in-Len.new.place (len_mirrors c.in-Len.to c.in-Len.object c.in-Len.at) (c.count-counted.ensures.step (from_base c.args.base (text_at c.args.texts.now))) c.land-in-Len.ensures
 
 pub count-measured-requires-clause-right : goal.count-measured-requires-clause-right
 count-measured-requires-clause-right c = ((from_base c.args.base (text_at c.args.texts.now)), (can_so c.args.instr.now (i.LenLive c.in-LenLive.to c.in-LenLive.object) (counts c.in-LenLive.to c.in-LenLive.object) c.args.heap.now (cells_from c.args.base c.args.texts.now c.args.registers.now) c.args.place.now c.in-LenLive.is (len_live_mirrors c.in-LenLive.to c.in-LenLive.object) c.requires.right))
 
 pub go_on-requires-in-LenLive-clause-no_trap : goal.go_on-requires-in-LenLive-clause-no_trap
-go_on-requires-in-LenLive-clause-no_trap c = never_traps c.args.instr.now (i.LenLive c.in-LenLive.to c.in-LenLive.object) (counts c.in-LenLive.to c.in-LenLive.object) c.args.heap.now (cells_from c.args.base c.args.texts.now c.args.registers.now) c.args.place.now c.in-LenLive.is (Ok c.count-measured.result) c.args.heap.now (cells_from c.args.base c.args.texts.now c.count-measured.new.registers) (len_live_mirrors c.in-LenLive.to c.in-LenLive.object) c.requires.right (c.count-measured.ensures (from_base c.args.base (text_at c.args.texts.now)))
+go_on-requires-in-LenLive-clause-no_trap c = never_traps c.args.instr.now (i.LenLive c.in-LenLive.to c.in-LenLive.object) (counts c.in-LenLive.to c.in-LenLive.object) c.args.heap.now (cells_from c.args.base c.args.texts.now c.args.registers.now) c.args.place.now c.in-LenLive.is (Ok c.count-measured.result) c.args.heap.now (cells_from c.args.base c.args.texts.now c.count-measured.new.registers) (len_live_mirrors c.in-LenLive.to c.in-LenLive.object) c.requires.right (c.count-measured.ensures.step (from_base c.args.base (text_at c.args.texts.now)))
 
 pub returns-in-LenLive-clause-step : goal.returns-in-LenLive-clause-step
-returns-in-LenLive-clause-step c = lands_surely c.args.instr.now (i.LenLive c.in-LenLive.to c.in-LenLive.object) (counts c.in-LenLive.to c.in-LenLive.object) c.args.heap.now (cells_from c.args.base c.args.texts.now c.args.registers.now) c.args.place.now c.in-LenLive.is (Ok c.count-measured.result) c.go_on-in-LenLive.result c.args.heap.now (cells_from c.args.base c.args.texts.now c.count-measured.new.registers) c.go_on-in-LenLive.new.place (len_live_mirrors c.in-LenLive.to c.in-LenLive.object) (c.count-measured.ensures (from_base c.args.base (text_at c.args.texts.now))) c.go_on-in-LenLive.ensures
+returns-in-LenLive-clause-step c = lands_surely c.args.instr.now (i.LenLive c.in-LenLive.to c.in-LenLive.object) (counts c.in-LenLive.to c.in-LenLive.object) c.args.heap.now (cells_from c.args.base c.args.texts.now c.args.registers.now) c.args.place.now c.in-LenLive.is (Ok c.count-measured.result) c.go_on-in-LenLive.result c.args.heap.now (cells_from c.args.base c.args.texts.now c.count-measured.new.registers) c.go_on-in-LenLive.new.place (len_live_mirrors c.in-LenLive.to c.in-LenLive.object) (c.count-measured.ensures.step (from_base c.args.base (text_at c.args.texts.now))) c.go_on-in-LenLive.ensures
