@@ -1,10 +1,10 @@
 -- Births and deaths, each after its tick.
-use Rattle.std.proofs.Common.{◌≡◌, ℕ, zero, suc, ◌+◌, ◌-◌, ◌<◌, List, [], ◌∷◌, length, Option, Some, None, Bool, true, false, refl, sym, ap, subst, ◌∙◌, arith}
+use Rattle.std.proofs.Common.{◌≡◌, ℕ, zero, suc, ◌+◌, ◌-◌, ◌<◌, List, length, Option, Some, None, Bool, true, false, sym, ap, subst, ◌∙◌, arith}
 use Rattle.std.specs.Prelude.{if◌then◌else◌}
 use Rattle.vale_base.specs.declared.name.Kind.{Kind}
 use Rattle.vale_base.specs.declared.spot.Spot.{Spot}
 use Rattle.vale_state_spec.specs.Outcome.{Cut}
-use Rattle.vale_state_spec.specs.State.{Answer, State, dies, gives, make, object_of, spend_of}
+use Rattle.vale_state_spec.specs.State.{State, dies, make, object_of, spend_of}
 use Rattle.vale_state_spec.specs.World.{Object, Value, Int, Truth, Text, Own, Ref, Iso}
 use Rattle.vale_code.specs.Act.{act}
 use Rattle.vale_code.specs.Frames.{Active, Config, Frame, Next, On, Over, after_tick, ticked, wrong}
@@ -14,14 +14,13 @@ use Rattle.vale_code.specs.Parts.{Parts}
 use Rattle.vale_code.specs.Registers.{Read, Registers, put, put_all, read, read_all}
 use Rattle.vale_code.specs.declared.instr.Instr.TheVariants as i
 use Rattle.vale_heap.specs.HeapState.{HeapState}
-use Rattle.vale_heap.specs.Standing.{LowIsFloor}
 use Rattle.vale_heap.specs.declared.body.Cell.{Cell}
 use Rattle.vale_turn.specs.View as turn
 use Rattle.vale_turn.specs.declared.stop.Stop.TheVariants as stop
 use Rattle.vale_object_cells.specs.Names.{values_in}
 use Rattle.vale_object_steps.specs.Doing.{Doing, made_of, makes, opened, opened_of, opened_to, opens}
 use Rattle.vale_object_steps.specs.Lent.{FollowsLent}
-use Rattle.vale_object_steps.specs.Views.{Agrees, CanDo, Follows, Gave, Grows, IsRight, View}
+use Rattle.vale_object_steps.specs.Views.{Agrees, CanDo, Follows, Gave, IsRight, View}
 use Rattle.vale_object_steps.specs.declared.effect.Effect.TheVariants as effect
 use Rattle.vale_object_turn.specs.Steps.{GoesOn, HasRule, Obeys, ObeysLent, Runs, Scene, active, config, next_of}
 

@@ -1,30 +1,26 @@
 -- How the destruction of an object begins.
-use Rattle.std.proofs.Common.{◌≡◌, ℕ, ◌+◌, ◌-◌, ◌<◌, ◌≤◌, List, [], ◌∷◌, length, map, Option, Some, None, Bool, true, false, nat_le, if◌then◌else◌, refl, sym, ap, subst, ◌∙◌, arith}
+use Rattle.std.proofs.Common.{◌≡◌, ℕ, ◌+◌, ◌-◌, ◌<◌, ◌≤◌, List, [], ◌∷◌, length, Option, Some, None, Bool, true, false, nat_le, if◌then◌else◌, refl, sym, ap, subst, ◌∙◌, arith}
 use Rattle.std.specs.Prelude.{slice_get}
 use Rattle.std.proofs.lemmas.Bool.{leb-false, leb-true}
 use Rattle.vale_base.specs.Limits.{depth_limit}
 use Rattle.vale_base.specs.declared.name.Kind.{Kind}
 use Rattle.vale_base.specs.declared.spot.Spot.{Spot}
 use Rattle.vale_base.specs.declared.trap.TrapKind.TheVariants.{CallDepth}
-use Rattle.vale_state_spec.specs.Outcome.{Cut}
 use Rattle.vale_state_spec.specs.State.{State, dies, drop_frame}
-use Rattle.vale_state_spec.specs.World.{Lives, Object, Own}
+use Rattle.vale_state_spec.specs.World.{Object, Own}
 use Rattle.vale_code.specs.Destroy.{destroy_by}
 use Rattle.vale_code.specs.Enter.{Destructor, Form, Iteration, Plain, Pure, enter, form_of, if_destructor, with_form, with_func}
-use Rattle.vale_code.specs.Frames.{Dropping, Frame, Next, Over, Running, after_tick, deeper, on, trap, under}
+use Rattle.vale_code.specs.Frames.{Dropping, Frame, Next, after_tick, deeper, on, trap, under}
 use Rattle.vale_code.specs.Kinds.{destructor_of, kind_text}
 use Rattle.vale_code.specs.Parts.{Parts}
 use Rattle.vale_code.specs.declared.func.Func.{Func}
 use Rattle.vale_heap.specs.HeapState.{HeapState}
 use Rattle.vale_heap.specs.declared.body.Body.{Body}
-use Rattle.vale_heap.specs.declared.body.Cell.{Cell}
 use Rattle.vale_heap.specs.declared.body.Place.{Place}
 use Rattle.vale_turn.specs.View as turn
-use Rattle.vale_object_cells.specs.Names.{IsKnown, name_at, value_of}
-use Rattle.vale_object_steps.specs.Drops.{Ends, HasEnded, IsKindAt}
-use Rattle.vale_object_steps.specs.Views.{View}
-use Rattle.vale_object_turn.specs.Destroying.{Begins, Begun, after_tick_of, destructor_frame}
-use Rattle.vale_object_turn.specs.Steps.{Runs}
+use Rattle.vale_object_cells.specs.Names.{name_at}
+use Rattle.vale_object_steps.specs.Drops.{Ends, IsKindAt}
+use Rattle.vale_object_turn.specs.Destroying.{Begins, after_tick_of, destructor_frame}
 use Rattle.vale_object_turn.specs.declared.destroy.Onset.TheVariants as onset
 use Rattle.vale_object_turn.proofs.BirthLaws.{not_ticked, still_agrees, ticked_on}
 

@@ -1,26 +1,25 @@
 -- From what a step comes to, to what an instruction leads to.
-use Rattle.std.proofs.Common.{◌≡◌, ℕ, ◌+◌, List, [], ◌∷◌, Option, Some, None, refl, sym, ap, subst, ◌∙◌}
+use Rattle.std.proofs.Common.{◌≡◌, ℕ, ◌+◌, List, Option, refl, sym, ap, subst, ◌∙◌}
 use Rattle.std.specs.Prelude.{Err, IfOk, Ok, OnOk, Result}
 use Rattle.vale_base.specs.declared.spot.Spot.{Spot}
 use Rattle.vale_base.specs.declared.trap.TrapKind.{TrapKind}
-use Rattle.vale_state_spec.specs.State.{Answer, State, traps}
-use Rattle.vale_code.specs.Frames.{Next, On, Running, trap}
+use Rattle.vale_state_spec.specs.State.{State}
+use Rattle.vale_code.specs.Frames.{Next, On}
 use Rattle.vale_code.specs.Instructions.{answered, onward}
 use Rattle.vale_code.specs.Registers.{Registers}
 use Rattle.vale_code.specs.declared.instr.Instr.{Instr}
-use Rattle.vale_turn.specs.View as turn
 use Rattle.vale_turn.specs.declared.stop.Stop.{Stop}
 use Rattle.vale_turn.specs.declared.stop.Stop.TheVariants as stop
 use Rattle.vale_heap.specs.HeapState.{HeapState}
 use Rattle.vale_heap.specs.declared.body.Cell.{Cell}
 use Rattle.vale_object_steps.specs.Doing.{Doing}
-use Rattle.vale_object_steps.specs.Views.{Agrees, CanDo, Came, Follows, Gave, IsRight, View}
+use Rattle.vale_object_steps.specs.Views.{CanDo, Came, Follows, Gave, View}
 use Rattle.vale_object_steps.specs.declared.effect.Effect.{Effect}
 use Rattle.vale_object_steps.specs.declared.effect.Effect.TheVariants as effect
 use Rattle.vale_object_cells.specs.Names.{values_in}
 use Rattle.vale_object_turn.specs.Landing.{Landed}
 use Rattle.vale_object_turn.specs.Steps.{GoesOn, HasRule, Obeys, Runs, Scene, Stepped, active, config, next_of}
-use Rattle.vale_object_turn.proofs.Mirrors.{Mirrored, Mirrors, MirrorsSurely, Surely}
+use Rattle.vale_object_turn.proofs.Mirrors.{Mirrors, MirrorsSurely}
 
 module _ (instr : Instr) (step : Registers → State → Doing) (heap : HeapState) (cells : List (Option Cell)) (place left : ℕ) where
   pub can_do : (at : Spot) → Mirrors instr step at → HasRule heap cells place left instr → CanDo step heap cells

@@ -2,7 +2,7 @@
 use Rattle.std.specs.Prelude.{◌≡◌, ℕ, ◌+◌, ◌-◌, List, [], ◌∷◌, length, map, Option, Some, None, slice_get}
 use Rattle.vale_base.specs.declared.spot.Spot.{Spot}
 use Rattle.vale_state_spec.specs.Outcome.{Cut}
-use Rattle.vale_state_spec.specs.State.{State, dies, drop_frame}
+use Rattle.vale_state_spec.specs.State.{dies, drop_frame}
 use Rattle.vale_state_spec.specs.World.{Lives, Object, Own}
 use Rattle.vale_code.specs.Destroy.{destroy_by}
 use Rattle.vale_code.specs.Frames.{Dropping, Frame, Next, Over, Running, on, trap, under}

@@ -1,6 +1,5 @@
-use Rattle.std.proofs.Common.{◌<◌, ◌+◌, ◌≤◌, ◌∙◌, arith, refl, sym}
-use Rattle.vale_base.specs.Limits.{depth_limit}
-use Rattle.vale_object_turn.proofs.Destroying.{begin_cut, begin_deep, begin_dies, begin_enters}
+use Rattle.std.proofs.Common.{◌∙◌, arith, refl, sym}
+use Rattle.vale_object_turn.proofs.Destroying.{begin_dies, begin_enters}
 use Rattle.vale_object_turn.proofs.destroy.begin.Goals as goal
 
 pub returns-in-Some : goal.returns-in-Some

@@ -1,6 +1,3 @@
-use Rattle.std.specs.Prelude.{Ok}
-use Rattle.vale_registers.specs.Passing.{from_base}
-use Rattle.vale_registers.specs.Texts.{text_at}
 use Rattle.vale_code.specs.declared.instr.Instr.TheVariants as i
 use Rattle.vale_object_cells.specs.Cells.{cells_from}
 use Rattle.vale_object_steps.specs.Doing.{exchanges, pops, pushes, swaps}
