@@ -4,10 +4,10 @@ use Rattle.std.specs.Prelude.{pos, negsuc, nat_lt, if◌then◌else◌, slice_ge
 use Rattle.std.proofs.lemmas.Bool.{ltb-true, ltb-false}
 use Rattle.vale_base.specs.Limits.{width_limit}
 use Rattle.vale_base.specs.declared.trap.TrapKind.TheVariants.{ArrayTooLong, DeadReference, EmptyPop, IndexOutOfRange}
-use Rattle.vale_state_spec.specs.State.{Answer, State, changed, element, element_at, element_in, element_swapped_at, element_swapped_in, front_from, gives, last_from, lent, pop, popped, push, swap_element, traps}
+use Rattle.vale_state_spec.specs.State.{Answer, State, changed, element, element_at, element_in, element_swapped_at, element_swapped_in, front_from, gives, last_from, popped, push, swap_element, traps}
 use Rattle.vale_state_spec.specs.World.{Object, Value}
-use Rattle.vale_state_spec.specs.World.{Int as number, Truth as truth, Text as text, Own as owner, Ref as reference, Iso as isolate}
-use Rattle.vale_code.specs.Registers.{Registers, after_keeping, put, read}
+use Rattle.vale_state_spec.specs.World.{Int as number}
+use Rattle.vale_code.specs.Registers.{put, read}
 use Rattle.vale_heap.specs.HeapLends as lends
 use Rattle.vale_heap.specs.HeapState.{HeapState, look_in}
 use Rattle.vale_heap.specs.Standing.{DenoteAll, Denotes, StandsChanged, StandsFound, StandsLooked}
@@ -16,13 +16,13 @@ use Rattle.vale_heap.specs.declared.body.Cell.{Cell}
 use Rattle.vale_heap.specs.declared.body.Cell.TheVariants.{Int, Truth, Text, Own, Ref, Iso}
 use Rattle.vale_heap.specs.declared.body.Place.{Place}
 use Rattle.vale_object_cells.specs.Cells.{held, kept_cells, lent_cell, place_in}
-use Rattle.vale_object_cells.specs.Names.{AllKnown, Knows, name_at, value_of, values_in}
+use Rattle.vale_object_cells.specs.Names.{Knows, name_at, value_of, values_in}
 use Rattle.vale_object_cells.proofs.Naming.{denotes_is, denotes_known, is_denoted}
 use Rattle.vale_object_steps.specs.Doing.{counts, exchanges, on_value, pops, pushes, reads}
 use Rattle.vale_object_steps.specs.Indices.{found_index}
-use Rattle.vale_object_steps.specs.Views.{Agrees, CanDo, Follows, Gave, Grows, IsRight, View}
+use Rattle.vale_object_steps.specs.Views.{Agrees, CanDo, Follows, IsRight, View}
 use Rattle.vale_object_steps.specs.declared.effect.Effect.TheVariants as effect
-use Rattle.vale_object_steps.proofs.Registers.{Written, kept_from, kept_size, on_held, on_there, read_held, written_to}
+use Rattle.vale_object_steps.proofs.Registers.{kept_from, kept_size, on_held, on_there, written_to}
 use Rattle.vale_object_steps.proofs.Objects.{as_many, changes, denote_set, field_is, finds, known, leads, lent_knows, lent_value, looks, on_dead, on_living}
 use Rattle.vale_object_steps.proofs.FieldLaws.{same_names}
 

@@ -1,16 +1,16 @@
 -- Objects that are made, and objects that are taken apart.
-use Rattle.std.proofs.Common.{◌≡◌, ℕ, zero, suc, ◌+◌, ◌-◌, ◌<◌, ◌≤◌, ◌++◌, List, [], ◌∷◌, length, drop, drop-cons, get_or, map, max, Option, Some, None, Bool, true, false, refl, sym, ap, subst, ◌∙◌, arith, append_assoc, append-nil}
+use Rattle.std.proofs.Common.{◌≡◌, ℕ, zero, suc, ◌+◌, ◌-◌, ◌<◌, ◌≤◌, ◌++◌, List, [], ◌∷◌, length, drop, drop-cons, get_or, max, Option, Some, None, Bool, true, false, refl, sym, ap, subst, ◌∙◌, arith, append_assoc, append-nil}
 use Rattle.std.proofs.lemmas.List.{length-set}
 use Rattle.std.specs.Prelude.{Err, IsSome, Ok, OnOk, Result, if◌then◌else◌, slice_get, slice_index, slice_set}
-use Rattle.std.proofs.Common.{◌⊎◌, inl, inr}
+use Rattle.std.proofs.Common.{inl, inr}
 use Rattle.vale_base.specs.declared.name.Kind.{Kind}
-use Rattle.vale_state_spec.specs.State.{Answer, State, born, counted, dies, gives, live, living, make, object_of}
+use Rattle.vale_state_spec.specs.State.{State, born, counted, dies, live, living, object_of}
 use Rattle.vale_state_spec.specs.World.{Freeze, Object, Value, World}
 use Rattle.vale_state_spec.specs.World.{Own as owner}
 use Rattle.vale_state_spec.specs.World as w
 use Rattle.vale_code.specs.Registers.{Read, Registers, after_keeping, and_then, put, put_all, read, read_all, with_result}
 use Rattle.vale_heap.specs.HeapState.{HeapState, IsEnded, IsMade, Lent, innermost}
-use Rattle.vale_heap.specs.Standing.{DenoteAll, Denotes, LowIsFloor, Stands, StandsEnded, StandsFound, StandsMade, inner_freeze}
+use Rattle.vale_heap.specs.Standing.{DenoteAll, Stands, StandsEnded, StandsFound, StandsMade, inner_freeze}
 use Rattle.vale_heap.specs.declared.body.Body.{Body}
 use Rattle.vale_heap.specs.declared.body.Cell.{Cell}
 use Rattle.vale_heap.specs.declared.body.Cell.TheVariants.{Int, Truth, Text, Own, Ref, Iso}
@@ -21,9 +21,9 @@ use Rattle.vale_object_cells.proofs.Naming.{all_known_more, denotes_is, denotes_
 use Rattle.vale_object_steps.specs.Doing.{Doing, makes, made_of, opened, opened_of, opened_to, opens}
 use Rattle.vale_object_steps.specs.Keeping.{AreBelow, Kept, fill_from, keep_from, kept_then}
 use Rattle.vale_object_steps.specs.Lent.{FollowsLent}
-use Rattle.vale_object_steps.specs.Views.{Agrees, CanDo, Follows, Gave, Grows, IsRight, Steady, View, nobody}
+use Rattle.vale_object_steps.specs.Views.{Agrees, CanDo, Follows, IsRight, Steady, View, nobody}
 use Rattle.vale_object_steps.specs.declared.effect.Effect.TheVariants as effect
-use Rattle.vale_object_steps.proofs.Registers.{Written, held_within, read_held, written_to}
+use Rattle.vale_object_steps.proofs.Registers.{held_within, read_held, written_to}
 use Rattle.vale_object_steps.proofs.Objects.{as_many, finds, known}
 use Rattle.vale_object_steps.proofs.FieldLaws.{same_names}
 

@@ -1,23 +1,21 @@
 -- Objects that are destroyed.
-use Rattle.std.proofs.Common.{◌≡◌, ℕ, ◌<◌, ◌++◌, List, [], ◌∷◌, length, map, Option, Some, None, refl, sym, ap, subst, ◌∙◌}
+use Rattle.std.proofs.Common.{◌≡◌, ◌<◌, ◌++◌, List, [], ◌∷◌, map, Option, Some, None, refl, sym, ap, ◌∙◌}
 use Rattle.std.specs.List.{AllByRecursion}
 use Rattle.std.specs.Prelude.{reverse, slice_get}
 use Rattle.std.specs.Option.{option_map, option_or}
 use Rattle.std.proofs.lemmas.List.{reverse-append}
-use Rattle.vale_base.specs.declared.name.Kind.{Kind}
-use Rattle.vale_state_spec.specs.State.{State, dies}
-use Rattle.vale_state_spec.specs.World.{IsDead, Lives, Object, Value}
+use Rattle.vale_state_spec.specs.World.{Object, Value}
 use Rattle.vale_code.specs.Destroy.{first_owned}
 use Rattle.vale_heap.specs.HeapState.{HeapState, IsEnded, innermost}
-use Rattle.vale_heap.specs.Standing.{DenoteAll, HasPlace, LookMeans, StandsEnded, StandsFound, StandsLooked, seat_within}
+use Rattle.vale_heap.specs.Standing.{DenoteAll, StandsEnded, StandsFound, StandsLooked, seat_within}
 use Rattle.vale_heap.specs.declared.body.Body.{Body}
 use Rattle.vale_heap.specs.declared.body.Cell.{Cell}
 use Rattle.vale_heap.specs.declared.body.Cell.TheVariants.{Int, Truth, Text, Own, Ref, Iso}
 use Rattle.vale_heap.specs.declared.body.Place.{Place}
-use Rattle.vale_object_cells.specs.Names.{Apart, IsKnown, Knows, name_at, value_of}
+use Rattle.vale_object_cells.specs.Names.{Apart, Knows, name_at, value_of}
 use Rattle.vale_object_cells.proofs.Naming.{denotes_is, denotes_known}
-use Rattle.vale_object_steps.specs.Drops.{CanEnd, Ends, IsKindAt, OwnedCell, first_owned_cell, owned_by}
-use Rattle.vale_object_steps.specs.Views.{Agrees, View, nobody}
+use Rattle.vale_object_steps.specs.Drops.{CanEnd, Ends, IsKindAt, first_owned_cell, owned_by}
+use Rattle.vale_object_steps.specs.Views.{nobody}
 
 -- cells by names
 pub values_are : (names : List Place) (cells : List Cell) (values : List Value) → Apart names → DenoteAll names cells values → map (value_of names) cells ≡ values

@@ -1,10 +1,10 @@
 -- Fields of objects.
-use Rattle.std.proofs.Common.{◌≡◌, ℕ, zero, suc, ◌++◌, ◌<◌, List, [], ◌∷◌, length, Option, Some, None, refl, sym, ap, subst, ◌∙◌, arith, append-nil}
+use Rattle.std.proofs.Common.{◌≡◌, ℕ, ◌<◌, List, [], length, Option, Some, None, refl, sym, ap, subst, ◌∙◌, arith, append-nil}
 use Rattle.std.specs.Prelude.{slice_get, slice_set}
-use Rattle.vale_state_spec.specs.State.{Answer, State, changed, field_in, gives, lent, load, swap, swapped_in, traps}
+use Rattle.vale_state_spec.specs.State.{Answer, State, changed, field_in, gives, swap, swapped_in}
 use Rattle.vale_state_spec.specs.World.{Object, Value}
 use Rattle.vale_base.specs.declared.trap.TrapKind.TheVariants.{DeadReference}
-use Rattle.vale_code.specs.Registers.{Registers, after_keeping, put, read}
+use Rattle.vale_code.specs.Registers.{put, read}
 use Rattle.vale_heap.specs.HeapLends as lends
 use Rattle.vale_heap.specs.HeapState.{HeapState, look_in}
 use Rattle.vale_heap.specs.Standing.{DenoteAll, StandsChanged, StandsFound, StandsLooked}
@@ -12,12 +12,12 @@ use Rattle.vale_heap.specs.declared.body.Body.{Body}
 use Rattle.vale_heap.specs.declared.body.Cell.{Cell}
 use Rattle.vale_heap.specs.declared.body.Place.{Place}
 use Rattle.vale_object_cells.specs.Cells.{held, kept_cells, lent_cell, place_in}
-use Rattle.vale_object_cells.specs.Names.{AllKnown, Knows, name_at, value_of, values_in}
+use Rattle.vale_object_cells.specs.Names.{Knows, name_at, value_of, values_in}
 use Rattle.vale_object_cells.proofs.Naming.{denotes_is, denotes_known, is_denoted}
 use Rattle.vale_object_steps.specs.Doing.{loads, on_value, swaps}
-use Rattle.vale_object_steps.specs.Views.{Agrees, CanDo, Follows, Gave, Grows, IsRight, View}
+use Rattle.vale_object_steps.specs.Views.{Agrees, CanDo, Follows, Grows, IsRight, View}
 use Rattle.vale_object_steps.specs.declared.effect.Effect.TheVariants as effect
-use Rattle.vale_object_steps.proofs.Registers.{Written, kept_from, kept_size, on_held, on_there, read_held, written_to}
+use Rattle.vale_object_steps.proofs.Registers.{kept_from, kept_size, on_held, on_there, written_to}
 use Rattle.vale_object_steps.proofs.Objects.{changes, denote_set, field_is, field_within, finds, known, leads, lent_knows, lent_value, looks, on_dead, on_living}
 
 pub same_names : (v : View) (s : State) → Grows v (record v { state = s })

@@ -4,17 +4,15 @@ use Rattle.std.specs.Prelude.{IsSome, slice_get, slice_set}
 use Rattle.std.specs.Option.{option_map, option_or}
 use Rattle.vale_state_spec.specs.State.{Answer, State, found_or_dead, lent, living, object_of, on_object, traps, with_object}
 use Rattle.vale_state_spec.specs.World.{IsDead, Lives, Object, Value, World, written}
-use Rattle.vale_state_spec.specs.World.{Int as number, Truth as truth, Text as text, Own as owner, Ref as reference, Iso as isolate}
 use Rattle.vale_base.specs.declared.trap.TrapKind.TheVariants.{DeadReference}
 use Rattle.vale_code.specs.Registers.{read}
 use Rattle.vale_heap.specs.HeapLends.{changed}
-use Rattle.vale_heap.specs.HeapState.{HeapState, look_in, seat_at}
-use Rattle.vale_heap.specs.Standing.{DenoteAll, Denotes, HasPlace, LookMeans, Stands, StandsChanged, StandsFound, StandsLooked, seat_within}
+use Rattle.vale_heap.specs.HeapState.{HeapState, look_in}
+use Rattle.vale_heap.specs.Standing.{DenoteAll, Denotes, LookMeans, Stands, StandsChanged, StandsFound, StandsLooked, seat_within}
 use Rattle.vale_heap.specs.declared.body.Body.{Body}
 use Rattle.vale_heap.specs.declared.body.Cell.{Cell}
 use Rattle.vale_heap.specs.declared.body.Cell.TheVariants.{Int, Truth, Text, Own, Ref, Iso}
 use Rattle.vale_heap.specs.declared.body.Place.{Place}
-use Rattle.vale_heap.specs.declared.seat.Seat.{Seat}
 use Rattle.vale_object_cells.specs.Cells.{held, lent_cell, place_in}
 use Rattle.vale_object_cells.specs.Names.{Apart, IsKnown, Knows, name_at, value_in, value_of, values_in}
 use Rattle.vale_object_cells.proofs.Naming.{denotes_is, denotes_known, lent_known, read_values}

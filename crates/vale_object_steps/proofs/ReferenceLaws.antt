@@ -1,21 +1,21 @@
 -- Owners and references that go from register to register.
-use Rattle.std.proofs.Common.{◌≡◌, ℕ, ◌<◌, List, length, Option, Some, None, refl, sym, ap, subst, ◌∙◌, arith}
+use Rattle.std.proofs.Common.{◌≡◌, ℕ, ◌<◌, List, length, Option, Some, None, refl, ap, subst, ◌∙◌, arith}
 use Rattle.std.proofs.lemmas.List.{length-set}
 use Rattle.std.specs.Prelude.{slice_set}
 use Rattle.vale_state_spec.specs.State.{State, gives, name_of}
 use Rattle.vale_code.specs.Instructions.{leading, moved}
-use Rattle.vale_code.specs.Registers.{as_frozen, put, read}
+use Rattle.vale_code.specs.Registers.{as_frozen, put}
 use Rattle.vale_heap.specs.HeapState.{HeapState}
 use Rattle.vale_heap.specs.declared.body.Cell.{Cell}
 use Rattle.vale_heap.specs.declared.body.Cell.TheVariants.{Int, Truth, Text, Own, Ref, Iso}
 use Rattle.vale_heap.specs.declared.body.Place.{Place}
 use Rattle.vale_object_cells.specs.Cells.{held, kept_cells, place_in}
-use Rattle.vale_object_cells.specs.Names.{AllKnown, Knows, value_in, value_of, values_in}
+use Rattle.vale_object_cells.specs.Names.{Knows, value_in, value_of, values_in}
 use Rattle.vale_object_cells.proofs.Naming.{known_put, put_values, read_values}
 use Rattle.vale_object_steps.specs.Doing.{freezes, given, moves, on_value, widens}
 use Rattle.vale_object_steps.specs.Views.{Agrees, CanDo, Follows, IsRight, View}
 use Rattle.vale_object_steps.specs.declared.effect.Effect.TheVariants as effect
-use Rattle.vale_object_steps.proofs.Registers.{Written, held_within, kept_from, kept_size, on_there, written_to}
+use Rattle.vale_object_steps.proofs.Registers.{held_within, kept_from, kept_size, written_to}
 use Rattle.vale_object_steps.proofs.FieldLaws.{same_names}
 
 -- a cell that is given on, and what it leads to

@@ -1,9 +1,9 @@
 -- What steps read of registers, and what they write.
 use Rattle.std.proofs.Common.{◌≡◌, ℕ, zero, suc, ◌<◌, ℤ, List, [], ◌∷◌, length, Option, Some, None, refl, sym, ap, subst, ◌∙◌, arith}
 use Rattle.std.specs.Prelude.{slice_set}
-use Rattle.vale_state_spec.specs.State.{State, Answer}
+use Rattle.vale_state_spec.specs.State.{Answer}
 use Rattle.vale_state_spec.specs.World.{Value}
-use Rattle.vale_code.specs.Registers.{Registers, after_keeping, kept, put, read}
+use Rattle.vale_code.specs.Registers.{Registers, after_keeping, put, read}
 use Rattle.vale_heap.specs.HeapState.{HeapState}
 use Rattle.vale_registers.specs.Passing.{from_base}
 use Rattle.vale_registers.specs.Texts.{text_at}

@@ -1,12 +1,10 @@
 -- What instructions on objects do within their function: a step of the state, and where its value goes.
-use Rattle.std.specs.Prelude.{ℕ, List, [], ◌∷◌, Option, Some, None}
+use Rattle.std.specs.Prelude.{ℕ, List, Option, Some, None}
 use Rattle.vale_base.specs.declared.name.Kind.{Kind}
 use Rattle.vale_state_spec.specs.State.{State, Answer, gives, traps, fails, dies, load, make, swap, element, swap_element, push, pop, name_of, object_of}
 use Rattle.vale_state_spec.specs.World.{Object, Value, Own}
-use Rattle.vale_code.specs.Instructions.{array_length, borrowed, leading, moved, of_living}
+use Rattle.vale_code.specs.Instructions.{array_length, borrowed, leading, moved}
 use Rattle.vale_code.specs.Registers.{Read, Registers, after_keeping, as_frozen, put, put_all, read, read_all}
-use Rattle.vale_code.specs.declared.instr.Instr.{Instr}
-use Rattle.vale_code.specs.declared.instr.Instr.TheVariants as i
 
 -- the step's answer, the registers after what it keeps was taken, and the register for its value
 pub record Doing : Type 0 where

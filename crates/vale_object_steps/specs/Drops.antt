@@ -1,5 +1,5 @@
 -- What an object held that has died: its owners and isolates are dropped one after another.
-use Rattle.std.specs.Prelude.{◌≡◌, ℕ, List, [], ◌∷◌, map, Option, Some, None}
+use Rattle.std.specs.Prelude.{◌≡◌, List, [], ◌∷◌, map, Option, Some, None}
 use Rattle.std.specs.List.{AllByRecursion}
 use Rattle.vale_base.specs.declared.name.Kind.{Kind}
 use Rattle.vale_state_spec.specs.State.{dies}

@@ -1,5 +1,5 @@
 -- Cells that are taken from registers, and cells that go to them.
-use Rattle.std.specs.Prelude.{◌≡◌, ◌<◌, ℕ, List, [], ◌∷◌, ◌++◌, length, slice_index, slice_set, Option, Some, None}
+use Rattle.std.specs.Prelude.{◌<◌, ℕ, List, [], ◌∷◌, ◌++◌, length, slice_index, slice_set, Option, Some, None}
 use Rattle.vale_heap.specs.declared.body.Cell.{Cell}
 use Rattle.vale_object_cells.specs.Cells.{held, kept_cells}
 

@@ -1,6 +1,6 @@
 use Rattle.std.proofs.lemmas.Int.{to_z-of_z}
 use mir.Syntax.{w64}
-use Rattle.std.proofs.Common.{◌<◌, ◌∙◌, Some, ap, get_or, length, refl, rules, subst, sym}
+use Rattle.std.proofs.Common.{◌∙◌, Some, ap, get_or, length, rules, sym}
 use Rattle.vale_registers.specs.Passing.{from_base}
 use Rattle.vale_registers.specs.Texts.{text_at}
 use Rattle.vale_object_cells.specs.Cells.{cells_from}

@@ -1,4 +1,4 @@
-use Rattle.std.proofs.Common.{◌<◌, ◌≤◌, length, refl, subst, sym}
+use Rattle.std.proofs.Common.{◌<◌, ◌≤◌, refl, subst, sym}
 use Rattle.vale_base.specs.Limits.{width_limit}
 use Rattle.vale_registers.specs.Passing.{from_base}
 use Rattle.vale_registers.specs.Texts.{text_at}

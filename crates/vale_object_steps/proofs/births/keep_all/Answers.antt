@@ -1,6 +1,6 @@
-use Rattle.std.proofs.Common.{◌<◌, ◌∙◌, arith, length}
+use Rattle.std.proofs.Common.{◌<◌, arith, length}
 use Rattle.vale_object_cells.specs.Cells.{cells_from}
-use Rattle.vale_object_steps.proofs.BirthLaws.{keep_end, keep_here, keep_more}
+use Rattle.vale_object_steps.proofs.BirthLaws.{keep_here}
 use Rattle.vale_object_steps.proofs.Registers.{holds_cell}
 use Rattle.vale_object_steps.proofs.births.keep_all.Goals as goal
 

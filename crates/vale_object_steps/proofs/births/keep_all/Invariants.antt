@@ -1,5 +1,4 @@
 use Rattle.std.proofs.Common.{◌≡◌, [], drop, length}
-use Rattle.std.specs.Prelude.{IsSome}
 use Rattle.vale_object_cells.specs.Cells.{cells_from}
 use Rattle.vale_object_steps.specs.Keeping.{keep_from}
 use Rattle.vale_object_steps.proofs.births.keep_all.Given as goal

@@ -1,4 +1,3 @@
-use Rattle.std.proofs.Common.{◌∙◌, Some, ap, length}
 use Rattle.vale_registers.specs.Passing.{from_base}
 use Rattle.vale_registers.specs.Texts.{text_at}
 use Rattle.vale_object_cells.specs.Cells.{cells_from}

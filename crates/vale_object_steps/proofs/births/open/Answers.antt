@@ -1,11 +1,11 @@
-use Rattle.std.proofs.Common.{◌∙◌, length, arith}
+use Rattle.std.proofs.Common.{arith}
 use Rattle.vale_registers.specs.Passing.{from_base}
 use Rattle.vale_registers.specs.Texts.{text_at}
 use Rattle.vale_object_cells.specs.Cells.{cells_from}
 use Rattle.vale_object_cells.proofs.Holding.{as_many, place_within}
 use Rattle.vale_object_steps.proofs.BirthLaws.{on_ok, open_found, open_lives, open_many, open_place}
 use Rattle.vale_object_steps.proofs.Objects.{slot_of}
-use Rattle.vale_object_steps.proofs.Registers.{cells_many, holds_place}
+use Rattle.vale_object_steps.proofs.Registers.{holds_place}
 use Rattle.vale_object_steps.proofs.births.open.Goals as goal
 
 pub place_at-place-requires : goal.place_at-place-requires
