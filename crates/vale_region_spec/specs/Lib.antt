@@ -1,0 +1,4 @@
+pub mod Found
+pub mod Isolated
+pub mod RegionRules
+pub mod Regions
