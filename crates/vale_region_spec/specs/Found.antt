@@ -1,5 +1,5 @@
--- The first fault of a part.
-use Rattle.std.specs.Prelude.{ℕ, Option, Some, None}
+-- The first fault of a part, and what is answered by it.
+use Rattle.std.specs.Prelude.{ℕ, Option, Some, None, Result, Ok, Err}
 use Rattle.vale_base.specs.declared.spot.Spot.{Spot}
 use Rattle.vale_syntax.specs.declared.fault.Fault.{Fault}
 
@@ -7,3 +7,7 @@ use Rattle.vale_syntax.specs.declared.fault.Fault.{Fault}
 abbrev pub found_at : Spot → Option ℕ → Option Fault
 found_at at None = None
 found_at at (Some code) = Some (record { code = code; at = at })
+
+abbrev pub verdict : Option Fault → Result (Unit {0}) Fault
+verdict None = Ok tt
+verdict (Some fault) = Err fault

@@ -1,7 +1,7 @@
-// The first fault of a part.
+// The first fault of a part, and what is answered by it.
 ghost use Rattle.std.specs.Prelude.{◌≡◌};
 ghost use Rattle.std.specs.Option.{option_or};
-ghost use Rattle.vale_region_spec.specs.Found.{found_at};
+ghost use Rattle.vale_region_spec.specs.Found.{found_at, verdict};
 
 use vale_base::Spot;
 use vale_syntax::Fault;
@@ -23,5 +23,15 @@ pub fn earlier(first: Option<Fault>, second: Option<Fault>) -> Option<Fault>
     match first {
         Some(fault) => Some(fault),
         None => second,
+    }
+}
+
+/// What a phase answers, where this is the first fault.
+pub fn verdict(fault: Option<Fault>) -> Result<(), Fault>
+    ensures { result ≡ verdict fault }
+{
+    match fault {
+        Some(fault) => Err(fault),
+        None => Ok(()),
     }
 }

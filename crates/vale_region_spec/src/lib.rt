@@ -7,5 +7,5 @@ mod found;
 mod laws;
 
 pub use around::Around;
-pub use found::{earlier, found_at};
+pub use found::{earlier, found_at, verdict};
 pub use laws::loops_give;

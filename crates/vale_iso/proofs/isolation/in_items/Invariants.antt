@@ -1,0 +1,9 @@
+use Rattle.std.proofs.Common.{◌≡◌, map, drop}
+use Rattle.vale_rules_spec.specs.Judged.{first_of}
+use Rattle.vale_core.specs.View.{view_item}
+use Rattle.vale_region_spec.specs.Isolated.{items_faults}
+use Rattle.vale_iso.proofs.isolation.in_items.Given as goal
+
+-- the first fault is that of those that are left
+abbrev pub invariant-loop-item : goal.invariant-loop-item
+invariant-loop-item l = first_of (items_faults (map view_item (drop l.item-index l.items))) ≡ first_of (items_faults (map view_item l.items))
