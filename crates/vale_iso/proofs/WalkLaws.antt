@@ -4,6 +4,7 @@ use Rattle.std.specs.Prelude.{Bool, Option, Some, None, map, option_map}
 use Rattle.std.specs.Option.{option_or}
 use Rattle.vale_syntax.specs.declared.fault.Fault.{Fault}
 use Rattle.vale_rules_spec.specs.Judged.{first_of}
+use Rattle.vale_rules_spec.specs.Types.{is_void}
 use Rattle.vale_rules_spec.specs.Typed as t
 use Rattle.vale_syntax.specs.View.{listed}
 use Rattle.vale_core.specs.declared.tree.Expr.{Expr, out-Expr}
@@ -16,7 +17,7 @@ use Rattle.vale_core.proofs.PartLaws.{of_out_expr, of_out_link, of_out_block, of
 use Rattle.vale_region_spec.specs.Isolated.{expr_faults, node_faults, link_faults, else_if_faults, elses_faults, block_faults, stmt_faults, stmts_faults}
 use Rattle.vale_region_spec.proofs.FoundLaws.{first_append, first_own, or_or}
 
-pub expr_by_parts : (e : Expr) → expr_faults (view_expr e) ≡ node_faults (view_seen (out-Expr e).seen).value (view_node (out-Expr e).node)
+pub expr_by_parts : (e : Expr) → expr_faults (view_expr e) ≡ node_faults (is_void (view_seen (out-Expr e).seen).value) (view_node (out-Expr e).node)
 expr_by_parts e = ap expr_faults (of_out_expr e)
 
 pub link_by_parts : (l : Link) → link_faults (view_link l) ≡ expr_faults (view_expr (out-Link l).operand)

@@ -48,10 +48,10 @@ pub fn unary_fault(op: UnaryOp, operand: &Seen) -> Option<u8>
 }
 
 /// A parallel loop, by whether it gives nothing and the type of its body.
-pub fn parallel_fault(gives: &Ty, ty: &Ty) -> Option<u8>
-    ensures { result ≡ broken (parallel_rules (view_ty gives.now) (view_ty ty.now)) }
+pub fn parallel_fault(gives_nothing: bool, ty: &Ty) -> Option<u8>
+    ensures { result ≡ broken (parallel_rules gives_nothing (view_ty ty.now)) }
 {
-    if !ty.is_void() && gives.is_void() {
+    if !ty.is_void() && gives_nothing {
         return Some(51);
     }
     None

@@ -1,12 +1,12 @@
 // The first fault of a body, in one walk over it.
 ghost use Rattle.std.specs.Prelude.{◌≡◌, None, map, option_map};
 ghost use Rattle.vale_rules_spec.specs.Judged.{first_of};
-ghost use Rattle.vale_core.specs.View.{view_ty, view_expr, view_seen, view_node, view_form, view_step, view_stmt, view_block, view_link, view_else_if, exprs_of, links_of, steps_of, elses_of, else_end, stmts_of, last_end};
+ghost use Rattle.vale_core.specs.View.{view_expr, view_seen, view_node, view_form, view_step, view_stmt, view_block, view_link, view_else_if, exprs_of, links_of, steps_of, elses_of, else_end, stmts_of, last_end};
 ghost use Rattle.vale_region_spec.specs.Isolated as i;
 
 use crate::rules::{parallel_fault, step_fault, unary_fault};
 use sqlite_items::{Boxed, Items};
-use vale_core::{Block, ElseIf, Expr, Form, Link, Node, Seen, Step, Stmt, Ty};
+use vale_core::{Block, ElseIf, Expr, Form, Link, Node, Seen, Step, Stmt};
 use vale_region_spec::{earlier, found_at};
 use vale_seen::{block_type, seen_of, step_seen};
 use vale_syntax::Fault;
@@ -16,13 +16,14 @@ use vale_syntax::Fault;
 fn in_expr(expr: &Expr) -> Option<Fault>
     ensures { result ≡ first_of (i.expr_faults (view_expr expr.now)) }
 {
-    in_node(&expr.seen.value, &expr.node)
+    in_node(expr.seen.value.is_void(), &expr.node)
 }
 
+// With whether it gives nothing.
 #[cycle(walk)]
 #[tactic(auto, using(crate::proofs::WalkLaws::nodes))]
-fn in_node(gives: &Ty, node: &Node) -> Option<Fault>
-    ensures { result ≡ first_of (i.node_faults (view_ty gives.now) (view_node node.now)) }
+fn in_node(gives_nothing: bool, node: &Node) -> Option<Fault>
+    ensures { result ≡ first_of (i.node_faults gives_nothing (view_node node.now)) }
 {
     match node {
         Node::Set(_, place, value) => earlier(in_expr(place.get()), in_expr(value.get())),
@@ -40,7 +41,7 @@ fn in_node(gives: &Ty, node: &Node) -> Option<Fault>
         Node::Paren(_, inner) => in_expr(inner.get()),
         Node::Array(_, _, args) => in_exprs(args),
         Node::Iso(_, block) => in_block(block),
-        Node::Form(form) => in_form(gives, form.get()),
+        Node::Form(form) => in_form(gives_nothing, form.get()),
     }
 }
 
@@ -115,11 +116,11 @@ fn in_steps(base: &Seen, steps: &Items<Step>) -> Option<Fault>
     None
 }
 
-// With the type of its value.
+// With whether it gives nothing.
 #[cycle(walk)]
 #[tactic(auto, using(crate::proofs::WalkLaws::forms))]
-fn in_form(gives: &Ty, form: &Form) -> Option<Fault>
-    ensures { result ≡ first_of (i.form_faults (view_ty gives.now) (view_form form.now)) }
+fn in_form(gives_nothing: bool, form: &Form) -> Option<Fault>
+    ensures { result ≡ first_of (i.form_faults gives_nothing (view_form form.now)) }
 {
     match form {
         Form::If(_, condition, block, else_ifs, otherwise) => {
@@ -129,12 +130,12 @@ fn in_form(gives: &Ty, form: &Form) -> Option<Fault>
         }
         Form::Pure(_, block) => in_block(block),
         Form::ParallelRange(at, _, from, to, block) => {
-            let own = found_at(*at, parallel_fault(gives, block_type(block)));
+            let own = found_at(*at, parallel_fault(gives_nothing, block_type(block)));
             let body = earlier(in_block(block), own);
             earlier(in_expr(from), earlier(in_expr(to), body))
         }
         Form::ParallelEach(at, _, over, block) => {
-            let own = found_at(*at, parallel_fault(gives, block_type(block)));
+            let own = found_at(*at, parallel_fault(gives_nothing, block_type(block)));
             let body = earlier(in_block(block), own);
             earlier(in_expr(over), body)
         }
@@ -221,7 +222,7 @@ fn in_stmt(stmt: &Stmt) -> Option<Fault>
             let body = in_block(block);
             earlier(in_expr(from), earlier(in_expr(to), body))
         }
-        Stmt::Form(form) => in_form(&Ty::Void, form),
+        Stmt::Form(form) => in_form(true, form),
         Stmt::Express(value) => in_expr(value),
     }
 }

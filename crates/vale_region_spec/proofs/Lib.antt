@@ -1,2 +1,3 @@
+mod RegionTexts
 pub mod FoundLaws
 pub mod GivenLaws

@@ -5,7 +5,7 @@ use Rattle.vale_syntax.specs.declared.fault.Fault.{Fault}
 use Rattle.vale_syntax.specs.declared.tree.UnaryOp.{UnaryOp}
 use Rattle.vale_syntax.specs.declared.tree.UnaryOp.TheVariants as u
 use Rattle.vale_rules_spec.specs.Judged.{Judged, Rules, own, unless}
-use Rattle.vale_rules_spec.specs.Types.{Ty, void, is_void, is_frozen, Seen}
+use Rattle.vale_rules_spec.specs.Types.{Ty, is_void, is_frozen, Seen}
 use Rattle.vale_rules_spec.specs.TypeRules.{is_iso}
 use Rattle.vale_rules_spec.specs.Typed.{Expr, expr, Node, set, chain, unary, steps, number, quote, truth, name, call, paren, array, iso, form, Exprs, no_exprs, more_exprs, Link, link, Links, no_links, more_links, Step, field, method, index, Steps, no_steps, more_steps, Form, branch, pure, parallel_range, parallel_each, ElseIf, else_if, Elses, no_else, otherwise, more_elses, Block, block, Stmt, declare, destructure, return_nothing, return_value, while, foreach, form_stmt, express, Stmts, no_stmts, last, more_stmts, Function, function_body, Item, struct_item, interface_item, impl_item, function_item, Typed, typed, seen, step_seen, block_type}
 
@@ -24,31 +24,31 @@ abbrev pub unary_rules : UnaryOp → Seen → Rules
 unary_rules u.Borrow s = (50, not (is_open s)) ∷ []
 unary_rules _ s = []
 
--- a parallel loop, by what it gives and the type of its body: it gives nothing for a body whose values it can't give
-abbrev pub parallel_rules : Ty → Ty → Rules
-parallel_rules gives t = (51, is_void t || not (is_void gives)) ∷ []
+-- a parallel loop, by whether it gives nothing and the type of its body: it gives nothing for a body whose values it can't give
+abbrev pub parallel_rules : Bool → Ty → Rules
+parallel_rules gives_nothing t = (51, is_void t || not gives_nothing) ∷ []
 
 -- ---- parts
 
 abbrev mutual
   pub expr_faults : Expr → List Fault
-  expr_faults (expr s node) = node_faults s.value node
+  expr_faults (expr s node) = node_faults (is_void s.value) node
 
-  -- with the type of its value
-  pub node_faults : Ty → Node → List Fault
-  node_faults t (set at p e) = expr_faults p ++ expr_faults e
-  node_faults t (chain e ls) = expr_faults e ++ links_faults ls
-  node_faults t (unary at op e) = expr_faults e ++ own at (unary_rules op (seen e))
-  node_faults t (steps e ss) = expr_faults e ++ steps_faults (seen e) ss
-  node_faults t (number at n) = []
-  node_faults t (quote at text) = []
-  node_faults t (truth at b) = []
-  node_faults t (name n is_outer is_moved) = []
-  node_faults t (call n f es) = exprs_faults es
-  node_faults t (paren at e) = expr_faults e
-  node_faults t (array at x es) = exprs_faults es
-  node_faults t (iso at b) = block_faults b
-  node_faults t (form f) = form_faults t f
+  -- with whether it gives nothing
+  pub node_faults : Bool → Node → List Fault
+  node_faults gives_nothing (set at p e) = expr_faults p ++ expr_faults e
+  node_faults gives_nothing (chain e ls) = expr_faults e ++ links_faults ls
+  node_faults gives_nothing (unary at op e) = expr_faults e ++ own at (unary_rules op (seen e))
+  node_faults gives_nothing (steps e ss) = expr_faults e ++ steps_faults (seen e) ss
+  node_faults gives_nothing (number at n) = []
+  node_faults gives_nothing (quote at text) = []
+  node_faults gives_nothing (truth at b) = []
+  node_faults gives_nothing (name n is_outer is_moved) = []
+  node_faults gives_nothing (call n f es) = exprs_faults es
+  node_faults gives_nothing (paren at e) = expr_faults e
+  node_faults gives_nothing (array at x es) = exprs_faults es
+  node_faults gives_nothing (iso at b) = block_faults b
+  node_faults gives_nothing (form f) = form_faults gives_nothing f
 
   pub exprs_faults : Exprs → List Fault
   exprs_faults no_exprs = []
@@ -71,12 +71,12 @@ abbrev mutual
   steps_faults base no_steps = []
   steps_faults base (more_steps s ss) = step_faults base s ++ steps_faults (step_seen s) ss
 
-  -- with the type of its value
-  pub form_faults : Ty → Form → List Fault
-  form_faults t (branch at c b es) = expr_faults c ++ (block_faults b ++ elses_faults es)
-  form_faults t (pure at b) = block_faults b
-  form_faults t (parallel_range at n a e b) = expr_faults a ++ (expr_faults e ++ (block_faults b ++ own at (parallel_rules t (block_type b))))
-  form_faults t (parallel_each at n e b) = expr_faults e ++ (block_faults b ++ own at (parallel_rules t (block_type b)))
+  -- with whether it gives nothing
+  pub form_faults : Bool → Form → List Fault
+  form_faults gives_nothing (branch at c b es) = expr_faults c ++ (block_faults b ++ elses_faults es)
+  form_faults gives_nothing (pure at b) = block_faults b
+  form_faults gives_nothing (parallel_range at n a e b) = expr_faults a ++ (expr_faults e ++ (block_faults b ++ own at (parallel_rules gives_nothing (block_type b))))
+  form_faults gives_nothing (parallel_each at n e b) = expr_faults e ++ (block_faults b ++ own at (parallel_rules gives_nothing (block_type b)))
 
   pub else_if_faults : ElseIf → List Fault
   else_if_faults (else_if at c b) = expr_faults c ++ block_faults b
@@ -102,7 +102,7 @@ abbrev mutual
   stmt_faults (return_value at e) = expr_faults e
   stmt_faults (while at c b) = expr_faults c ++ block_faults b
   stmt_faults (foreach at n a e b) = expr_faults a ++ (expr_faults e ++ block_faults b)
-  stmt_faults (form_stmt f) = form_faults void f
+  stmt_faults (form_stmt f) = form_faults true f
   stmt_faults (express e) = expr_faults e
 
 -- ---- items

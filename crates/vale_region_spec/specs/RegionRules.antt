@@ -6,12 +6,12 @@ use Rattle.std.specs.Option.{option_and_then, option_map_or}
 use Rattle.vale_syntax.specs.declared.built_in.BuiltIn.{BuiltIn}
 use Rattle.vale_syntax.specs.declared.built_in.BuiltIn.TheVariants as b
 use Rattle.vale_syntax.specs.declared.tree.NameAt.{NameAt}
-use Rattle.vale_syntax.specs.Tree.{Param, param, Head, head, TypeExpr}
+use Rattle.vale_syntax.specs.Tree.{Param, Head, head, TypeExpr}
 use Rattle.vale_rules_spec.specs.Judged.{Rules}
 use Rattle.vale_region_spec.specs.declared.around.Around.{Around}
 use Rattle.vale_rules_spec.specs.Declarations.{head_name, head_params, param_type}
-use Rattle.vale_rules_spec.specs.Types.{Ty, ref, imm, type_of, result_of, is_copy, View, seen_object, is_frozen, Seen, method_named}
-use Rattle.vale_rules_spec.specs.Typed.{Expr, expr, name, steps, Callee, built_in, Step, field, method, index, Steps, no_steps, more_steps, Item, struct_item, interface_item, impl_item, function_item, function_body, seen, type}
+use Rattle.vale_rules_spec.specs.Types.{Ty, ref, type_of, result_of, is_copy, View, seen_object, is_frozen, Seen, method_named}
+use Rattle.vale_rules_spec.specs.Typed.{Expr, expr, name, steps, Callee, built_in, Step, field, method, index, Steps, no_steps, more_steps, Item, struct_item, interface_item, impl_item, function_item, function_body, seen}
 use Rattle.vale_rules_spec.specs.TypeRules.{is_imm, is_iso, is_owned_place, popped, field_types, param_types, method_takes, kind_in_view}
 
 abbrev pub is_ref : Ty → Bool

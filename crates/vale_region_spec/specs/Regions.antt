@@ -1,5 +1,5 @@
 -- Where the rules of freezes are broken, in post-order.
-use Rattle.std.specs.Prelude.{ℕ, Bool, true, false, List, [], ◌∷◌, ◌++◌, if◌then◌else◌}
+use Rattle.std.specs.Prelude.{Bool, true, false, List, [], ◌∷◌, ◌++◌, if◌then◌else◌}
 use Rattle.vale_syntax.specs.declared.fault.Fault.{Fault}
 use Rattle.vale_syntax.specs.Tree.{Param, param, Head, head}
 use Rattle.vale_rules_spec.specs.Judged.{Judged, own, unless}
