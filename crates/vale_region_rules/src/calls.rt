@@ -7,7 +7,7 @@ ghost use Rattle.vale_rules_spec.specs.Types.{method_named};
 ghost use Rattle.vale_rules_spec.specs.Typed.{types};
 ghost use Rattle.vale_rules_spec.specs.TypeRules.{param_types, field_types, method_takes};
 ghost use Rattle.vale_core.specs.View.{view_ty, view_view, view_callee, view_expr, exprs_of};
-ghost use Rattle.vale_region_spec.specs.RegionRules.{any_thaws, changes_frozen, built_in_thaws, call_thaws, call_rules, method_called, receiver_thaws, method_thaws, method_rules, thaws, array_rules};
+ghost use Rattle.vale_region_spec.specs.RegionRules.{any_thaws, changes_frozen, built_in_thaws, takes_of, item_named, call_thaws, call_rules, method_called, receiver_thaws, method_thaws, method_rules, thaws, array_rules};
 ghost use Rattle.vale_region_rules.specs.Items.{items_of};
 
 use crate::signatures::Signatures;
@@ -81,22 +81,26 @@ fn built_in_thaws(function: BuiltIn, args: &[Expr]) -> bool
     }
 }
 
-/// Whether an argument is an `&imm X` where an `&X` is asked for.
-fn call_thaws(
-    signatures: &Signatures<'_>,
-    name: NameAt,
-    callee: Callee,
-    args: &[Expr],
-) -> bool
-    ensures { result ≡ call_thaws (items_of signatures.now) name (view_callee callee) (types (exprs_of (map view_expr args.now))) }
+/// Whether an argument of a constructor or a function is an `&imm X` where an `&X` is asked for.
+#[tactic(auto, using(crate::proofs::CallLaws::none_asked))]
+fn item_thaws(signatures: &Signatures<'_>, name: Name, args: &[Expr]) -> bool
+    ensures { result ≡ any_thaws (types (exprs_of (map view_expr args.now))) (takes_of (item_named (items_of signatures.now) name.0)) }
 {
-    if let Callee::BuiltIn(function) = callee {
-        return built_in_thaws(function, args);
-    }
-    match signatures.named(name.name) {
+    match signatures.named(name) {
         Some(Item::Struct(_, fields)) => fields_thaw(args, fields.as_slice()),
         Some(Item::Function(function)) => params_thaw(args, function.head.params.as_slice()),
-        _ => false,
+        Some(Item::Interface(..) | Item::Impl(..)) => false,
+        None => false,
+    }
+}
+
+/// Whether an argument is an `&imm X` where an `&X` is asked for.
+fn call_thaws(signatures: &Signatures<'_>, name: NameAt, callee: Callee, args: &[Expr]) -> bool
+    ensures { result ≡ call_thaws (items_of signatures.now) name (view_callee callee) (types (exprs_of (map view_expr args.now))) }
+{
+    match callee {
+        Callee::BuiltIn(function) => built_in_thaws(function, args),
+        Callee::Constructor | Callee::Function(_) => item_thaws(signatures, name.name, args),
     }
 }
 
@@ -158,11 +162,12 @@ fn receiver_thaws(base: &View, head: &Head) -> bool
 }
 
 /// Whether an argument of the method is an `&imm X` where an `&X` is asked for.
+#[tactic(auto, using(crate::proofs::CallLaws::none_asked))]
 fn arguments_thaw(head: &Head, args: &[Expr]) -> bool
     ensures { result ≡ any_thaws (types (exprs_of (map view_expr args.now))) (method_takes (view_head head.now)) }
 {
     match head.params.as_slice() {
-        [] => params_thaw(args, &[]),
+        [] => false,
         [_receiver, takes @ ..] => params_thaw(args, takes),
     }
 }

@@ -52,7 +52,8 @@ fn name_of(item: &Item) -> Option<u32>
     ensures { result ≡ name_of (view_item item.now) }
 {
     match item {
-        Item::Struct(name, _) | Item::Interface(name, _) => Some(name.name.0),
+        Item::Struct(name, _) => Some(name.name.0),
+        Item::Interface(name, _) => Some(name.name.0),
         Item::Impl(..) => None,
         Item::Function(function) => Some(function.head.name.name.0),
     }

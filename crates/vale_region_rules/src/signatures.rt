@@ -1,5 +1,6 @@
 // The items of a program, by their names.
-ghost use Rattle.std.specs.Prelude.{◌≡◌, map, IfOk};
+ghost use Rattle.std.specs.Prelude.{◌≡◌, map, option_map, IfOk};
+ghost use Rattle.std.specs.List.{slice_get};
 ghost use Rattle.vale_core.specs.View.{view_item};
 ghost use Rattle.vale_region_rules.specs.Places.{HasPlaces};
 
@@ -7,6 +8,12 @@ use crate::index::{FirstPlaces, places_of};
 use std::alloc::Global;
 use vale_base::{Memory, Name};
 use vale_core::Item;
+
+fn item_at(items: &[Item], at: usize) -> Option<&Item>
+    ensures { option_map (λ x. view_item x.now) result ≡ slice_get (map view_item items.now) at }
+{
+    items.get(at)
+}
 
 /// The items of a program, ready for look-ups by name.
 #[derive(Drop)]
@@ -17,7 +24,6 @@ pub struct Signatures<'a> {
 }
 
 impl<'a> Signatures<'a> {
-    ghost use Rattle.std.specs.Prelude.{option_map};
     ghost use Rattle.vale_region_rules.specs.Items.{items_of};
     ghost use Rattle.vale_region_spec.specs.RegionRules.{item_named};
 
@@ -36,7 +42,7 @@ impl<'a> Signatures<'a> {
     {
         match self.places.of(name) {
             None => None,
-            Some(at) => self.items.get(at),
+            Some(at) => item_at(self.items, at),
         }
     }
 }

@@ -9,5 +9,4 @@ ghost use Rattle.vale_syntax.specs.Tree.{Item};
 #[tactic(auto, using(crate::proofs::GivenLaws::what_is_given))]
 pub fn loops_give()
     ensures { (items : List Item) (t : Ty) → not (is_void (parallel_gives items t)) ≡ (is_iso t || (is_copy t || may_be_isolated items t)) }
-{
-}
+{}
