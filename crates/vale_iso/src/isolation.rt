@@ -1,6 +1,6 @@
 // Functions, items and the whole program.
-ghost use Rattle.std.specs.Prelude.{◌≡◌, map};
-ghost use Rattle.vale_rules_spec.specs.Judged.{first, first_of};
+ghost use Rattle.std.specs.Prelude.{◌≡◌, map, OnOk, IfErr};
+ghost use Rattle.vale_rules_spec.specs.Judged.{first, first_of, IsFine, IsFirstFault};
 ghost use Rattle.vale_core.specs.View.{view_function, view_item, view_core};
 ghost use Rattle.vale_region_spec.specs.Isolated.{functions_faults, item_faults, items_faults, isolated};
 
@@ -43,15 +43,24 @@ fn in_items(items: &[Item]) -> Option<Fault>
     None
 }
 
+#[tactic(auto, using(vale_region_spec::proofs::FoundLaws::verdict_is, vale_rules_spec::proofs::JudgedLaws::first_unless))]
+fn judge(core: &Core) -> Result<(), Fault>
+    ensures { result ≡ first (isolated (view_core core.now)) }
+{
+    verdict(in_items(core.items.as_slice()))
+}
+
 /// Whether the typed tree of a program keeps the rules of isolates.
 ///
 /// Where a node of the tree breaks one of them (docs/LANGUAGE.md, "Freezes and isolates"), it answers the code and the spot
 /// of the first such node in post-order, 50 or 51. It takes no memory.
-#[tactic(auto, using(vale_region_spec::proofs::FoundLaws::verdict_is, vale_rules_spec::proofs::JudgedLaws::first_unless))]
+#[tactic(auto, using(crate::proofs::AnswerLaws::ok_is_fine, crate::proofs::AnswerLaws::fault_is_first))]
 pub fn isolates(core: &Core) -> Result<(), IsoFault>
-    ensures { result ≡ first (isolated (view_core core.now)) }
+    ensures answer { result ≡ first (isolated (view_core core.now)) }
+    ensures isolated { OnOk result (IsFine (isolated (view_core core.now)) tt) }
+    ensures fault { IfErr result (λ f. IsFirstFault (isolated (view_core core.now)) f) }
 {
-    verdict(in_items(core.items.as_slice()))
+    judge(core)
 }
 
 /// Why a tree is refused: the code of a rule of isolates, and where it is broken.
