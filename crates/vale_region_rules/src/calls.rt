@@ -1,6 +1,7 @@
 // Calls, by their arguments.
-ghost use Rattle.std.specs.Prelude.{◌≡◌, map, option_map};
+ghost use Rattle.std.specs.Prelude.{◌≡◌, ◌∷◌, map, option_map};
 ghost use Rattle.std.specs.List.{list_any};
+ghost use Rattle.vale_syntax.specs.declared.built_in.BuiltIn.TheVariants as b;
 ghost use Rattle.vale_rules_spec.specs.Judged.{broken};
 ghost use Rattle.vale_syntax.specs.View.{view_type, view_param, view_field, view_head};
 ghost use Rattle.vale_rules_spec.specs.Types.{method_named};
@@ -68,14 +69,24 @@ fn changes_frozen(callee: Callee, args: &[Expr]) -> bool
     }
 }
 
+/// Whether the first of these is an `&imm X` where the elements of the array are `&X`.
+fn push_thaws(array: &Ty, args: &[Expr]) -> bool
+    ensures { result ≡ built_in_thaws b.Push (view_ty array.now ∷ types (exprs_of (map view_expr args.now))) }
+{
+    match args {
+        [] => false,
+        [value, _more @ ..] => is_imm(type_in(value)) && holds_refs(array),
+    }
+}
+
 /// Whether an `&imm X` is pushed where the elements are `&X`.
 fn built_in_thaws(function: BuiltIn, args: &[Expr]) -> bool
     ensures { result ≡ built_in_thaws function (types (exprs_of (map view_expr args.now))) }
 {
     match function {
         BuiltIn::Push => match args {
-            [array, value] => is_imm(type_in(value)) && holds_refs(type_in(array)),
-            _ => false,
+            [] => false,
+            [array, more @ ..] => push_thaws(type_in(array), more),
         },
         _ => false,
     }
@@ -161,15 +172,22 @@ fn receiver_thaws(base: &View, head: &Head) -> bool
     }
 }
 
+/// What the method takes after its object.
+fn method_takes(head: &Head) -> &[Param]
+    ensures { param_types (map view_param result.now) ≡ method_takes (view_head head.now) }
+{
+    let params = head.params.as_slice();
+    match params {
+        [] => params,
+        [_receiver, takes @ ..] => takes,
+    }
+}
+
 /// Whether an argument of the method is an `&imm X` where an `&X` is asked for.
-#[tactic(auto, using(crate::proofs::CallLaws::none_asked))]
 fn arguments_thaw(head: &Head, args: &[Expr]) -> bool
     ensures { result ≡ any_thaws (types (exprs_of (map view_expr args.now))) (method_takes (view_head head.now)) }
 {
-    match head.params.as_slice() {
-        [] => false,
-        [_receiver, takes @ ..] => params_thaw(args, takes),
-    }
+    params_thaw(args, method_takes(head))
 }
 
 /// `.m(args)`, by how the step sees its base.

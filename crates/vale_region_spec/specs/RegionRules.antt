@@ -73,7 +73,7 @@ changes_frozen _ _ = false
 
 -- what is pushed becomes an element
 abbrev pub built_in_thaws : BuiltIn → List Ty → Bool
-built_in_thaws b.Push (t ∷ u ∷ []) = thaws u (popped t)
+built_in_thaws b.Push (t ∷ u ∷ ts) = thaws u (popped t)
 built_in_thaws _ _ = false
 
 abbrev pub call_thaws : List Item → NameAt → Callee → List Ty → Bool
