@@ -2,19 +2,25 @@
 ghost use Rattle.std.specs.Prelude.{◌≡◌, map, OnOk, IfErr};
 ghost use Rattle.vale_rules_spec.specs.Judged.{first, first_of, IsFine, IsFirstFault};
 ghost use Rattle.vale_core.specs.View.{view_function, view_item, view_core};
-ghost use Rattle.vale_region_spec.specs.Isolated.{functions_faults, item_faults, items_faults, isolated};
+ghost use Rattle.vale_region_spec.specs.Isolated.{function_faults, functions_faults, item_faults, items_faults, isolated};
 
 use crate::walk::in_block;
 use vale_core::{Core, Function, Item};
 use vale_region_spec::verdict;
 use vale_syntax::Fault;
 
+fn in_function(function: &Function) -> Option<Fault>
+    ensures { result ≡ first_of (function_faults (view_function function.now)) }
+{
+    in_block(&function.body)
+}
+
 #[tactic(auto, using(crate::proofs::WalkLaws::lists))]
 fn in_functions(functions: &[Function]) -> Option<Fault>
     ensures { result ≡ first_of (functions_faults (map view_function functions.now)) }
 {
     for function in functions {
-        if let Some(fault) = in_block(&function.body) {
+        if let Some(fault) = in_function(function) {
             return Some(fault);
         }
     }
@@ -27,7 +33,7 @@ fn in_item(item: &Item) -> Option<Fault>
     match item {
         Item::Struct(..) | Item::Interface(..) => None,
         Item::Impl(_, _, _, functions) => in_functions(functions.as_slice()),
-        Item::Function(function) => in_block(&function.body),
+        Item::Function(function) => in_function(function),
     }
 }
 

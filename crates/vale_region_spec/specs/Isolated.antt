@@ -107,15 +107,18 @@ abbrev mutual
 
 -- ---- items
 
+abbrev pub function_faults : Function → List Fault
+function_faults (function_body h b) = block_faults b
+
 abbrev pub functions_faults : List Function → List Fault
 functions_faults [] = []
-functions_faults (function_body h b ∷ fs) = block_faults b ++ functions_faults fs
+functions_faults (f ∷ fs) = function_faults f ++ functions_faults fs
 
 abbrev pub item_faults : Item → List Fault
 item_faults (struct_item n fs) = []
 item_faults (interface_item n hs) = []
 item_faults (impl_item at i s fs) = functions_faults fs
-item_faults (function_item (function_body h b)) = block_faults b
+item_faults (function_item f) = function_faults f
 
 abbrev pub items_faults : List Item → List Fault
 items_faults [] = []
