@@ -5,7 +5,7 @@ ghost use Rattle.vale_rules_spec.specs.Judged.{first, first_of, Gives, IsFine, I
 ghost use Rattle.vale_syntax.specs.View.{view_param, view_head};
 ghost use Rattle.vale_syntax.specs.declared.fault.Fault.{Fault};
 ghost use Rattle.vale_core.specs.View.{view_function, view_item, view_core};
-ghost use Rattle.vale_region_spec.specs.Regions.{params_faults, head_faults, heads_faults, function_faults, functions_faults, item_faults, items_faults, framed};
+ghost use Rattle.vale_region_spec.specs.Regions.{param_faults, params_faults, head_faults, heads_faults, function_faults, functions_faults, item_faults, items_faults, framed};
 ghost use Rattle.vale_region_rules.specs.Items.{items_of};
 
 use crate::walk::block_fault;
@@ -17,11 +17,17 @@ use vale_region_spec::{earlier, found_at, verdict};
 use vale_syntax::{Fault, Head, Param};
 
 #[tactic(auto, using(crate::proofs::WalkLaws::rows))]
+fn fault_of_param(param: &Param) -> Option<Fault>
+    ensures { result ≡ first_of (param_faults (view_param param.now)) }
+{
+    found_at(param.name.at, param_fault(param))
+}
+
 fn params_fault(params: &[Param]) -> Option<Fault>
     ensures { result ≡ first_of (params_faults (map view_param params.now)) }
 {
     for param in params {
-        if let Some(fault) = found_at(param.name.at, param_fault(param)) {
+        if let Some(fault) = fault_of_param(param) {
             return Some(fault);
         }
     }
@@ -41,7 +47,6 @@ fn head_fault(head: &Head) -> Option<Fault>
     }
 }
 
-#[tactic(auto, using(crate::proofs::WalkLaws::rows))]
 fn heads_fault(heads: &[Head]) -> Option<Fault>
     ensures { result ≡ first_of (heads_faults (map view_head heads.now)) }
 {
@@ -61,7 +66,6 @@ fn function_fault(signatures: &Signatures<'_>, function: &Function) -> Option<Fa
     earlier(head_fault(&function.head), body)
 }
 
-#[tactic(auto, using(crate::proofs::WalkLaws::rows))]
 fn functions_fault(signatures: &Signatures<'_>, functions: &[Function]) -> Option<Fault>
     ensures { result ≡ first_of (functions_faults (items_of signatures.now) (map view_function functions.now)) }
 {

@@ -1,3 +1,4 @@
 mod RegionTexts
 pub mod FoundLaws
 pub mod GivenLaws
+pub mod ListLaws
