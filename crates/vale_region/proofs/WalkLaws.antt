@@ -64,6 +64,6 @@ pub ruleset else_ifs = (else_if_by_parts, first_append)
 
 pub ruleset blocks = (block_by_parts)
 
-pub ruleset stmts = (first_append, first_own, v.of_declare, v.of_destructure, v.of_return, v.of_return_nothing, v.of_return_value, v.of_while, v.of_foreach, v.of_form_stmt, v.of_express)
+pub ruleset stmts = (first_append, first_own, v.of_declare, v.of_destructure, v.of_return, v.of_while, v.of_foreach, v.of_form_stmt, v.of_express)
 
 pub ruleset rows = (first_append, first_own)

@@ -1,11 +1,12 @@
 // The first fault of a body, in one walk over it.
 ghost use Rattle.std.specs.Prelude.{◌≡◌, None, map, option_map};
 ghost use Rattle.vale_rules_spec.specs.Judged.{first_of};
-ghost use Rattle.vale_core.specs.View.{view_expr, view_seen, view_node, view_form, view_step, view_stmt, view_block, view_link, view_else_if, exprs_of, links_of, steps_of, elses_of, else_end, stmts_of, last_end};
+ghost use Rattle.vale_core.specs.View.{view_expr, view_seen, view_node, view_form, view_step, view_stmt, view_block, view_link, view_else_if, exprs_of, links_of, steps_of, elses_of, else_end, stmts_of, last_end, return_of};
 ghost use Rattle.vale_region_spec.specs.Regions as f;
 ghost use Rattle.vale_region_rules.specs.Items.{items_of};
 
 use sqlite_items::{Boxed, Items};
+use vale_base::Spot;
 use vale_core::{Block, ElseIf, Expr, Form, Link, Node, Seen, Step, Stmt};
 use vale_region_rules::{
     Signatures, array_fault, call_fault, is_value_under, method_fault, name_fault, pure_fault,
@@ -269,6 +270,25 @@ fn last_fault(
 }
 
 #[cycle(walk)]
+#[tactic(auto, using(crate::proofs::WalkLaws::rows))]
+fn returned_fault(
+    signatures: &Signatures<'_>,
+    around: Around,
+    at: Spot,
+    value: &Option<Boxed<Expr>>,
+) -> Option<Fault>
+    ensures { result ≡ first_of (f.stmt_faults (items_of signatures.now) around (return_of at (option_map view_expr value.now))) }
+{
+    match value {
+        Some(value) => {
+            let own = found_at(at, return_fault(around, type_in(value.get())));
+            earlier(expr_fault(signatures, around, true, value.get()), own)
+        }
+        None => found_at(at, return_nothing_fault(around)),
+    }
+}
+
+#[cycle(walk)]
 #[tactic(auto, using(crate::proofs::WalkLaws::stmts))]
 fn stmt_fault(signatures: &Signatures<'_>, around: Around, stmt: &Stmt) -> Option<Fault>
     ensures { result ≡ first_of (f.stmt_faults (items_of signatures.now) around (view_stmt stmt.now)) }
@@ -277,11 +297,7 @@ fn stmt_fault(signatures: &Signatures<'_>, around: Around, stmt: &Stmt) -> Optio
         Stmt::Declare(_, _, value) | Stmt::Destructure(_, _, _, value) => {
             expr_fault(signatures, around, true, value)
         }
-        Stmt::Return(at, None) => found_at(*at, return_nothing_fault(around)),
-        Stmt::Return(at, Some(value)) => {
-            let own = found_at(*at, return_fault(around, type_in(value.get())));
-            earlier(expr_fault(signatures, around, true, value.get()), own)
-        }
+        Stmt::Return(at, value) => returned_fault(signatures, around, *at, value),
         Stmt::While(_, condition, block) => {
             let body = block_fault(signatures, around, block);
             earlier(expr_fault(signatures, around, true, condition), body)
