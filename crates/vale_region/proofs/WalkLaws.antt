@@ -24,8 +24,10 @@ module _ (items : List t.Item) (r : Around) where
   pub link_by_parts : (l : Link) → link_faults items r (view_link l) ≡ expr_faults items r true (view_expr (out-Link l).operand)
   link_by_parts l = ap (link_faults items r) (of_out_link l)
 
-  pub else_if_by_parts : (e : ElseIf) → else_if_faults items r (view_else_if e) ≡ expr_faults items r true (view_expr (out-ElseIf e).condition) ++ block_faults items r (view_block (out-ElseIf e).block)
-  else_if_by_parts e = ap (else_if_faults items r) (of_out_else_if e)
+  pub else_if_by_parts : (e : ElseIf) → first_of (else_if_faults items r (view_else_if e)) ≡ option_or (first_of (expr_faults items r true (view_expr (out-ElseIf e).condition))) (first_of (block_faults items r (view_block (out-ElseIf e).block)))
+  else_if_by_parts e =
+      ap (λ z. first_of (else_if_faults items r z)) (of_out_else_if e)
+      ∙ first_append (expr_faults items r true (view_expr (out-ElseIf e).condition)) (block_faults items r (view_block (out-ElseIf e).block))
 
   pub elses_by_parts : (es : List t.ElseIf) (end : t.Elses) → first_of (elses_faults items r (listed t.more_elses es end)) ≡ option_or (first_of (elses_faults items r (listed t.more_elses es t.no_else))) (first_of (elses_faults items r end))
   elses_by_parts [] end = refl
