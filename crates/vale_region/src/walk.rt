@@ -63,7 +63,10 @@ fn node_fault(
         }
         Node::Call(name, callee, args) => {
             let own = call_fault(signatures, *name, *callee, args.as_slice());
-            earlier(exprs_fault(signatures, around, args), found_at(name.at, own))
+            earlier(
+                exprs_fault(signatures, around, args),
+                found_at(name.at, own),
+            )
         }
         Node::Paren(_, inner) => expr_fault(signatures, around, true, inner.get()),
         Node::Array(at, element, args) => {
@@ -77,11 +80,7 @@ fn node_fault(
 
 #[cycle(walk)]
 #[tactic(auto, using(crate::proofs::WalkLaws::lists))]
-fn exprs_fault(
-    signatures: &Signatures<'_>,
-    around: Around,
-    exprs: &Items<Expr>,
-) -> Option<Fault>
+fn exprs_fault(signatures: &Signatures<'_>, around: Around, exprs: &Items<Expr>) -> Option<Fault>
     ensures { result ≡ first_of (f.exprs_faults (items_of signatures.now) around (exprs_of (map view_expr exprs.now))) }
 {
     let slice = exprs.as_slice();
@@ -103,11 +102,7 @@ fn link_fault(signatures: &Signatures<'_>, around: Around, link: &Link) -> Optio
 
 #[cycle(walk)]
 #[tactic(auto, using(crate::proofs::WalkLaws::lists))]
-fn links_fault(
-    signatures: &Signatures<'_>,
-    around: Around,
-    links: &Items<Link>,
-) -> Option<Fault>
+fn links_fault(signatures: &Signatures<'_>, around: Around, links: &Items<Link>) -> Option<Fault>
     ensures { result ≡ first_of (f.links_faults (items_of signatures.now) around (links_of (map view_link links.now))) }
 {
     let slice = links.as_slice();
@@ -136,11 +131,7 @@ fn step_fault(signatures: &Signatures<'_>, around: Around, step: &Step) -> Optio
 
 #[cycle(walk)]
 #[tactic(auto, using(crate::proofs::WalkLaws::lists))]
-fn steps_fault(
-    signatures: &Signatures<'_>,
-    around: Around,
-    steps: &Items<Step>,
-) -> Option<Fault>
+fn steps_fault(signatures: &Signatures<'_>, around: Around, steps: &Items<Step>) -> Option<Fault>
     ensures { result ≡ first_of (f.steps_faults (items_of signatures.now) around (steps_of (map view_step steps.now))) }
 {
     let slice = steps.as_slice();
@@ -184,15 +175,14 @@ fn form_fault(signatures: &Signatures<'_>, around: Around, form: &Form) -> Optio
 
 #[cycle(walk)]
 #[tactic(auto, using(crate::proofs::WalkLaws::else_ifs))]
-fn else_if_fault(
-    signatures: &Signatures<'_>,
-    around: Around,
-    else_if: &ElseIf,
-) -> Option<Fault>
+fn else_if_fault(signatures: &Signatures<'_>, around: Around, else_if: &ElseIf) -> Option<Fault>
     ensures { result ≡ first_of (f.else_if_faults (items_of signatures.now) around (view_else_if else_if.now)) }
 {
     let block = block_fault(signatures, around, &else_if.block);
-    earlier(expr_fault(signatures, around, true, &else_if.condition), block)
+    earlier(
+        expr_fault(signatures, around, true, &else_if.condition),
+        block,
+    )
 }
 
 #[cycle(walk)]
@@ -239,11 +229,7 @@ pub fn block_fault(signatures: &Signatures<'_>, around: Around, block: &Block) -
 
 #[cycle(walk)]
 #[tactic(auto, using(crate::proofs::WalkLaws::lists))]
-fn stmts_fault(
-    signatures: &Signatures<'_>,
-    around: Around,
-    stmts: &Items<Stmt>,
-) -> Option<Fault>
+fn stmts_fault(signatures: &Signatures<'_>, around: Around, stmts: &Items<Stmt>) -> Option<Fault>
     ensures { result ≡ first_of (f.stmts_faults (items_of signatures.now) around (stmts_of (map view_stmt stmts.now) None)) }
 {
     let slice = stmts.as_slice();

@@ -146,11 +146,7 @@ fn method_named(heads: &[Head], name: Name) -> Option<&Head>
 
 /// The method that a step calls.
 #[tactic(auto, using(vale_seen::proofs::TyLaws::types))]
-fn method_called<'a>(
-    signatures: &'a Signatures<'_>,
-    base: &View,
-    name: Name,
-) -> Option<&'a Head>
+fn method_called<'a>(signatures: &'a Signatures<'_>, base: &View, name: Name) -> Option<&'a Head>
     ensures { option_map (λ h. view_head h.now) result ≡ method_called (items_of signatures.now) (view_view base.now) name.0 }
 {
     match seen_object(base) {
