@@ -10,7 +10,7 @@ use crate::level::{Level, Rank};
 use sqlite_items::{Boxed, Items};
 use vale_held::Held;
 use vale_reading::{
-    Found, Parser, Statements, Stop, Turn, begins, begins_word, many, parallel, read, sign, word,
+    Found, Growing, Parser, Statements, Stop, Turn, begins, begins_word, many, parallel, read, sign, word,
 };
 use vale_syntax::{Block, ElseIf, Expr, Form, Sign, Token, TokenKind, Word};
 
@@ -78,7 +78,7 @@ impl<
     {
         many(
             |rest| self.else_if(rest),
-            Items::new(self.parser.alloc),
+            Growing::new(self.parser.alloc),
             tokens,
         )
     }

@@ -13,7 +13,7 @@ use sqlite_items::Items;
 use vale_base::Text;
 use vale_held::Held;
 use vale_reading::{
-    Found, Parser, Statements, Stop, Turn, begins, read, several, sign, stepped, word,
+    Found, Growing, Parser, Statements, Stop, Turn, begins, read, several, sign, stepped, word,
 };
 use vale_syntax::{Expr, Sign, Step, Token, TokenKind, Word};
 
@@ -39,7 +39,7 @@ impl<
     fn more_args<'t>(
         &self,
         depth: usize,
-        args: Items<Expr>,
+        args: Growing<Expr>,
         tokens: &'t [Token],
     ) -> Found<'t, Items<Expr>>
         requires exprs { ReadsExprs self.now.depth (F.pre self.now.expr) (F.post self.now.expr) }
@@ -59,7 +59,7 @@ impl<
             return Ok((Items::new(self.parser.alloc), tokens));
         }
         let (first, rest) = read!(self.expr_below(depth, Rank::Whole, tokens));
-        let mut args = Items::new(self.parser.alloc);
+        let mut args = Growing::new(self.parser.alloc);
         args.push(first)?;
         self.more_args(depth, args, rest)
     }
@@ -213,7 +213,7 @@ impl<
         requires stmts { ReadsStmts self.now.depth (G.pre self.now.stmts) (G.post self.now.stmts) }
         ensures { Gives (λ x. (steps_of (map view_step x.0), x.1.now)) result (r.steps_at self.now.parser.now.names.now (r.within self.now.parser.now.names.now self.now.depth) tokens.now) }
     {
-        let none = Items::new(self.parser.alloc);
+        let none = Growing::new(self.parser.alloc);
         several(|rest| self.step(rest), none, tokens)
     }
 

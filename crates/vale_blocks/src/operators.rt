@@ -12,7 +12,7 @@ use crate::level::{Level, Rank};
 use sqlite_items::Items;
 use vale_held::Held;
 use vale_reading::{
-    Found, Parser, Statements, Stop, Turn, begins_word, chained, link_op, most_links, read, sign,
+    Found, Growing, Parser, Statements, Stop, Turn, begins_word, chained, link_op, most_links, read, sign,
     unary_op, word,
 };
 use vale_syntax::{Expr, Link, Sign, Token, Word};
@@ -66,7 +66,7 @@ impl<
         requires high { 0 < height }
         ensures { Gives (λ x. (links_of (map view_link x.0), x.1.now)) result (turns_at (r.link_turn (r.level_at self.now.parser.now.names.now (r.within self.now.parser.now.names.now self.now.depth) (height - 1)) height) t.more_links (λ _. t.no_links) r.no_more most tokens.now) }
     {
-        let mut items = Items::new(self.parser.alloc);
+        let mut items = Growing::new(self.parser.alloc);
         let mut rest = tokens;
         for _ in 0..most {
             let (turn, after) = self.link(height, rest)?;
@@ -75,10 +75,10 @@ impl<
                     items.push(item)?;
                     rest = after;
                 }
-                Turn::End(()) => return Ok((items, after)),
+                Turn::End(()) => return Ok((items.into_items(), after)),
             }
         }
-        Ok((items, rest))
+        Ok((items.into_items(), rest))
     }
 
     /// An expression without `set` of operators of at most this height.

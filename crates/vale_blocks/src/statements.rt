@@ -10,7 +10,7 @@ use crate::level::{Level, Rank};
 use sqlite_items::{Boxed, Items};
 use vale_held::Held;
 use vale_reading::{
-    Found, Parser, Statements, Stop, Turn, after_form, after_plain, begins, begins_declaration,
+    Found, Growing, Parser, Statements, Stop, Turn, after_form, after_plain, begins, begins_declaration,
     begins_destructuring, many, read, sign, word,
 };
 use vale_syntax::{Expr, Sign, Stmt, Token, TokenKind, Word};
@@ -154,7 +154,7 @@ impl<
     {
         many(
             |rest| self.stmt(rest),
-            Items::new(self.parser.alloc),
+            Growing::new(self.parser.alloc),
             tokens,
         )
     }

@@ -11,7 +11,7 @@ ghost use Rattle.vale_syntax.specs.declared.token.Sign.TheVariants as s;
 use sqlite_items::Items;
 use vale_blocks::block;
 use vale_held::Held;
-use vale_reading::{Parser, Stop, Turn, bang, begins, purity, read, several, sign, word};
+use vale_reading::{Growing, Parser, Stop, Turn, bang, begins, purity, read, several, sign, word};
 use vale_syntax::{FieldDecl, Function, Head, Item, Param, Sign, Token, TokenKind, TypeExpr, Word};
 
 #[tactic(auto, unfolding(vale_reading::specs::ItemReading::param_at))]
@@ -47,7 +47,7 @@ fn another_param<'t>(
 fn more_params<'t>(
     parser: &Parser<'_>,
     depth: usize,
-    params: Items<Param>,
+    params: Growing<Param>,
     tokens: &'t [Token],
 ) -> Result<(Items<Param>, &'t [Token]), Stop<'t>>
     ensures { Gives (λ x. (listed (λ p ps. p ∷ ps) (map view_param x.0) [], x.1.now)) result (with_front (listed (λ p ps. p ∷ ps) (map view_param params)) (r.others_at (i.param_at parser.now.names.now depth) (λ p ps. p ∷ ps) [] tokens.now)) }
@@ -68,7 +68,7 @@ fn params<'t>(
         return Ok((Items::new(parser.alloc), tokens));
     }
     let (first, rest) = read!(param(parser, depth, tokens));
-    let mut params = Items::new(parser.alloc);
+    let mut params = Growing::new(parser.alloc);
     params.push(first)?;
     more_params(parser, depth, params, rest)
 }
@@ -187,7 +187,7 @@ fn fields<'t>(
 ) -> Result<(Items<FieldDecl>, &'t [Token]), Stop<'t>>
     ensures { Gives (λ x. (map view_field x.0, x.1.now)) result (i.all_until (begins s.CloseBrace) (i.field_at parser.now.names.now depth) tokens.now) }
 {
-    let none = Items::new(parser.alloc);
+    let none = Growing::new(parser.alloc);
     several(|rest| field_turn(parser, depth, rest), none, tokens)
 }
 
@@ -213,7 +213,7 @@ fn signatures<'t>(
 ) -> Result<(Items<Head>, &'t [Token]), Stop<'t>>
     ensures { Gives (λ x. (map view_head x.0, x.1.now)) result (i.all_until (begins s.CloseBrace) (i.signature_at parser.now.names.now depth) tokens.now) }
 {
-    let none = Items::new(parser.alloc);
+    let none = Growing::new(parser.alloc);
     several(|rest| signature_turn(parser, depth, rest), none, tokens)
 }
 
@@ -239,7 +239,7 @@ fn functions<'t>(
 ) -> Result<(Items<Function>, &'t [Token]), Stop<'t>>
     ensures { Gives (λ x. (map view_function x.0, x.1.now)) result (i.all_until (begins s.CloseBrace) (i.function_at parser.now.names.now depth) tokens.now) }
 {
-    let none = Items::new(parser.alloc);
+    let none = Growing::new(parser.alloc);
     several(|rest| function_turn(parser, depth, rest), none, tokens)
 }
 
@@ -343,6 +343,6 @@ pub fn items<'t>(
 ) -> Result<(Items<Item>, &'t [Token]), Stop<'t>>
     ensures { Gives (λ x. (map view_item x.0, x.1.now)) result (i.all_until i.ended (i.item_at parser.now.names.now depth) tokens.now) }
 {
-    let none = Items::new(parser.alloc);
+    let none = Growing::new(parser.alloc);
     several(|rest| item_turn(parser, depth, rest), none, tokens)
 }

@@ -4,6 +4,7 @@
 
 mod basic;
 mod build;
+mod growing;
 mod lists;
 mod names;
 mod stop;
@@ -14,6 +15,7 @@ pub use basic::{
     purity, sign, unary_op, word,
 };
 pub use build::{after_form, after_plain, chained, parallel, stepped};
+pub use growing::Growing;
 pub use lists::{many, several};
 pub use names::Names;
 pub use stop::{Found, Statements, Stop, Turn};

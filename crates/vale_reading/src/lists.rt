@@ -9,6 +9,7 @@ ghost use Rattle.vale_reading.specs.Gives.{Gives};
 ghost use Rattle.vale_reading.specs.Turns.{Turns, TurnsAlone};
 
 use crate::basic::{begins, sign};
+use crate::growing::Growing;
 use crate::stop::{Found, Stop, Turn};
 use crate::types::Parser;
 use sqlite_items::Items;
@@ -18,7 +19,7 @@ use vale_syntax::{NameAt, Sign, Token};
 /// token, there are never more turns than tokens and one.
 pub fn many<'t, X: Drop, E: Drop, F: Fn(&'t [Token]) -> Found<'t, Turn<X, E>>>(
     turn: F,
-    items: Items<X>,
+    items: Growing<X>,
     tokens: &'t [Token],
 ) -> Found<'t, (Items<X>, E)>
     requires { F.IsAlwaysCallable turn }
@@ -33,7 +34,7 @@ pub fn many<'t, X: Drop, E: Drop, F: Fn(&'t [Token]) -> Found<'t, Turn<X, E>>>(
                 items.push(item)?;
                 rest = after;
             }
-            Turn::End(end) => return Ok(((items, end), after)),
+            Turn::End(end) => return Ok(((items.into_items(), end), after)),
         }
     }
     Err(Stop::Unexpected(rest))
@@ -42,7 +43,7 @@ pub fn many<'t, X: Drop, E: Drop, F: Fn(&'t [Token]) -> Found<'t, Turn<X, E>>>(
 /// The same of a list that nothing but its end ends.
 pub fn several<'t, X: Drop, F: Fn(&'t [Token]) -> Found<'t, Turn<X, ()>>>(
     turn: F,
-    items: Items<X>,
+    items: Growing<X>,
     tokens: &'t [Token],
 ) -> Found<'t, Items<X>>
     requires { F.IsAlwaysCallable turn }
@@ -73,7 +74,7 @@ impl Parser<'_> {
     /// The names after these.
     fn more_names<'t>(
         &self,
-        names: Items<NameAt>,
+        names: Growing<NameAt>,
         tokens: &'t [Token],
     ) -> Result<(Items<NameAt>, &'t [Token]), Stop<'t>>
         ensures { Gives (λ x. (listed (λ n ns. n ∷ ns) (map (λ n. n) x.0) [], x.1.now)) result (with_front (listed (λ n ns. n ∷ ns) (map (λ n. n) names)) (r.others_at (name_at self.now.names.now) (λ n ns. n ∷ ns) [] tokens.now)) }
@@ -89,11 +90,11 @@ impl Parser<'_> {
     ) -> Result<(Items<NameAt>, &'t [Token]), Stop<'t>>
         ensures { Gives (λ x. (x.0, x.1.now)) result (r.names_at self.now.names.now tokens.now) }
     {
-        let mut names = Items::new(self.alloc);
         if begins(Sign::CloseBracket, tokens) {
-            return Ok((names, tokens));
+            return Ok((Items::new(self.alloc), tokens));
         }
         let (first, rest) = self.name(tokens)?;
+        let mut names = Growing::new(self.alloc);
         names.push(first)?;
         self.more_names(names, rest)
     }

@@ -67,7 +67,7 @@ impl<'t> Names<'t> {
         ensures { IfOk result (λ texts. texts ≡ self.now) }
     {
         let slices = self.texts.as_slice();
-        let mut texts = Items::new(alloc);
+        let mut texts = Items::from_vec(Vec::with_capacity(alloc, slices.len())?);
         for text in slices {
             texts.push(Text::from_slice(alloc, text)?)?;
         }
