@@ -158,20 +158,26 @@ impl Expr {
 
     /// `[]T(args)`.
     #[tactic(auto, using(crate::proofs::ViewLaws::of_expr, crate::proofs::ViewLaws::of_elements))]
-    pub fn array(seen: Seen, at: Spot, element: Ty, args: Items<Expr>) -> Self
-        ensures { view_expr result ≡ t.expr (view_seen seen) (t.array at (view_ty element) (exprs_of (map view_expr args))) }
+    pub fn array(
+        alloc: Global,
+        seen: Seen,
+        at: Spot,
+        element: Ty,
+        args: Items<Expr>,
+    ) -> Result<Self, Memory>
+        ensures { IfOk result (λ e. view_expr e ≡ t.expr (view_seen seen) (t.array at (view_ty element) (exprs_of (map view_expr args)))) }
     {
-        let node = Node::Array(at, element, args);
-        Expr { seen, node }
+        let node = Node::Array(at, Boxed::new(alloc, element)?, args);
+        Ok(Expr { seen, node })
     }
 
     /// `iso { }`.
     #[tactic(auto, using(crate::proofs::ViewLaws::of_expr, crate::proofs::ViewLaws::of_isolate))]
-    pub fn iso(seen: Seen, at: Spot, block: Block) -> Self
-        ensures { view_expr result ≡ t.expr (view_seen seen) (t.iso at (view_block block)) }
+    pub fn iso(alloc: Global, seen: Seen, at: Spot, block: Block) -> Result<Self, Memory>
+        ensures { IfOk result (λ e. view_expr e ≡ t.expr (view_seen seen) (t.iso at (view_block block))) }
     {
-        let node = Node::Iso(at, block);
-        Expr { seen, node }
+        let node = Node::Iso(at, Boxed::new(alloc, block)?);
+        Ok(Expr { seen, node })
     }
 
     #[tactic(auto, using(crate::proofs::ViewLaws::of_expr, crate::proofs::ViewLaws::of_form))]
@@ -216,10 +222,16 @@ impl Step {
 
     /// `[e]`.
     #[tactic(auto, using(crate::proofs::ViewLaws::of_index))]
-    pub fn index(seen: Seen, base: View, at: Spot, index: Expr) -> Self
-        ensures { view_step result ≡ t.index (view_seen seen) (view_view base) at (view_expr index) }
+    pub fn index(
+        alloc: Global,
+        seen: Seen,
+        base: View,
+        at: Spot,
+        index: Expr,
+    ) -> Result<Self, Memory>
+        ensures { IfOk result (λ s. view_step s ≡ t.index (view_seen seen) (view_view base) at (view_expr index)) }
     {
-        Step::Index(seen, base, at, index)
+        Ok(Step::Index(seen, base, at, Boxed::new(alloc, index)?))
     }
 }
 

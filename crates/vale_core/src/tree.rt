@@ -129,9 +129,9 @@ pub enum Node {
     /// `(e)`.
     Paren(Spot, Boxed<Expr>),
     /// `[]T(args)`: the type T of the elements, and the elements.
-    Array(Spot, Ty, Items<Expr>),
+    Array(Spot, Boxed<Ty>, Items<Expr>),
     /// `iso { }`.
-    Iso(Spot, Block),
+    Iso(Spot, Boxed<Block>),
     Form(Boxed<Form>),
 }
 
@@ -154,5 +154,5 @@ pub enum Step {
     /// `.m(args)`.
     Method(Seen, View, Spot, Name, Items<Expr>),
     /// `[e]`.
-    Index(Seen, View, Spot, Expr),
+    Index(Seen, View, Spot, Boxed<Expr>),
 }

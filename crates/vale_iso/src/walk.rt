@@ -40,7 +40,7 @@ fn in_node(gives_nothing: bool, node: &Node) -> Option<Fault>
         Node::Call(_, _, args) => in_exprs(args),
         Node::Paren(_, inner) => in_expr(inner.get()),
         Node::Array(_, _, args) => in_exprs(args),
-        Node::Iso(_, block) => in_block(block),
+        Node::Iso(_, block) => in_block(block.get()),
         Node::Form(form) => in_form(gives_nothing, form.get()),
     }
 }
@@ -95,7 +95,7 @@ fn in_step(base: &Seen, step: &Step) -> Option<Fault>
         }
         Step::Index(_, _, at, index) => {
             let own = found_at(*at, step_fault(base));
-            earlier(in_expr(index), own)
+            earlier(in_expr(index.get()), own)
         }
     }
 }

@@ -53,7 +53,7 @@ fn node_moves(node: &Node, local: Name) -> bool
         Node::Call(_, _, args) => exprs_move(args, local),
         Node::Paren(_, inner) => expr_moves(inner.get(), local),
         Node::Array(_, _, elements) => exprs_move(elements, local),
-        Node::Iso(_, block) => block_moves(block, local),
+        Node::Iso(_, block) => block_moves(block.get(), local),
         Node::Form(form) => form_moves(form.get(), local),
     }
 }
@@ -102,7 +102,7 @@ fn step_moves(step: &Step, local: Name) -> bool
     match step {
         Step::Field(..) => false,
         Step::Method(_, _, _, _, args) => exprs_move(args, local),
-        Step::Index(_, _, _, index) => expr_moves(index, local),
+        Step::Index(_, _, _, index) => expr_moves(index.get(), local),
     }
 }
 

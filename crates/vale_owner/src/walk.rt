@@ -51,7 +51,7 @@ fn walk_node(alloc: Global, node: &Node, flow_state: &mut FlowState) -> Result<(
         Node::Call(_, _, args) => walk_exprs(alloc, args.as_slice(), flow_state),
         Node::Paren(_, inner) => walk_expr(alloc, inner.get(), flow_state),
         Node::Array(_, _, elements) => walk_exprs(alloc, elements.as_slice(), flow_state),
-        Node::Iso(_, block) => walk_block(alloc, block, flow_state),
+        Node::Iso(_, block) => walk_block(alloc, block.get(), flow_state),
         Node::Form(form) => walk_form(alloc, form.get(), flow_state),
     }
 }
@@ -102,7 +102,7 @@ fn walk_step(alloc: Global, step: &Step, flow_state: &mut FlowState) -> Result<(
     match step {
         Step::Field(..) => Ok(()),
         Step::Method(_, _, _, _, args) => walk_exprs(alloc, args.as_slice(), flow_state),
-        Step::Index(_, _, _, index) => walk_expr(alloc, index, flow_state),
+        Step::Index(_, _, _, index) => walk_expr(alloc, index.get(), flow_state),
     }
 }
 

@@ -83,8 +83,8 @@ pub fn index(
         return Err(Fail::Is(Fault { code, at }));
     }
     let seen = element_gives(alloc, &base.view)?;
-    let index = index.into_inner();
-    Ok(Held::new(Step::index(seen, view.into_inner(), at, index)))
+    let (view, index) = (view.into_inner(), index.into_inner());
+    Ok(Held::new(Step::index(alloc, seen, view, at, index)?))
 }
 
 /// An operator and the operand after it, after an operand of which this is known.

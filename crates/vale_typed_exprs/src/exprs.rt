@@ -83,7 +83,7 @@ pub fn iso(
     }
     let ty = Ty::isolate(alloc, block_type(block.get()).copy(alloc)?)?;
     let seen = a_value(alloc, ty)?;
-    Ok(Held::new(Expr::iso(seen, at, block.into_inner())))
+    Ok(Held::new(Expr::iso(alloc, seen, at, block.into_inner())?))
 }
 
 /// `[]T(args)`.
@@ -104,7 +104,8 @@ pub fn array(
     }
     let ty = Ty::array(alloc, element.get().copy(alloc)?)?;
     let seen = a_value(alloc, ty)?;
-    Ok(Held::new(Expr::array(seen, at, element.into_inner(), args)))
+    let element = element.into_inner();
+    Ok(Held::new(Expr::array(alloc, seen, at, element, args)?))
 }
 
 /// An operator before its operand.
