@@ -300,10 +300,17 @@ impl Stmt {
 
     /// `[x, y] = e;`, with the types of the names.
     #[tactic(auto, using(crate::proofs::ViewLaws::of_destructure))]
-    pub fn destructure(at: Spot, names: Items<NameAt>, types: Items<Ty>, value: Expr) -> Self
-        ensures { view_stmt result ≡ t.destructure at names (map view_ty types) (view_expr value) }
+    pub fn destructure(
+        alloc: Global,
+        at: Spot,
+        names: Items<NameAt>,
+        types: Items<Ty>,
+        value: Expr,
+    ) -> Result<Self, Memory>
+        ensures { IfOk result (λ m. view_stmt m ≡ t.destructure at names (map view_ty types) (view_expr value)) }
     {
-        Stmt::Destructure(at, names, types, value)
+        let value = Boxed::new(alloc, value)?;
+        Ok(Stmt::Destructure(at, names, types, value))
     }
 
     /// `return;`.
@@ -324,26 +331,42 @@ impl Stmt {
 
     /// `while e { }`.
     #[tactic(auto, using(crate::proofs::ViewLaws::of_while))]
-    pub fn while_loop(at: Spot, condition: Expr, block: Block) -> Self
-        ensures { view_stmt result ≡ t.while at (view_expr condition) (view_block block) }
+    pub fn while_loop(
+        alloc: Global,
+        at: Spot,
+        condition: Expr,
+        block: Block,
+    ) -> Result<Self, Memory>
+        ensures { IfOk result (λ m. view_stmt m ≡ t.while at (view_expr condition) (view_block block)) }
     {
-        Stmt::While(at, condition, block)
+        let block = Boxed::new(alloc, block)?;
+        Ok(Stmt::While(at, condition, block))
     }
 
     /// `foreach i in a..b { }`.
     #[tactic(auto, using(crate::proofs::ViewLaws::of_foreach))]
-    pub fn foreach(at: Spot, name: NameAt, from: Expr, to: Expr, block: Block) -> Self
-        ensures { view_stmt result ≡ t.foreach at name (view_expr from) (view_expr to) (view_block block) }
+    pub fn foreach(
+        alloc: Global,
+        at: Spot,
+        name: NameAt,
+        from: Expr,
+        to: Expr,
+        block: Block,
+    ) -> Result<Self, Memory>
+        ensures { IfOk result (λ m. view_stmt m ≡ t.foreach at name (view_expr from) (view_expr to) (view_block block)) }
     {
-        Stmt::Foreach(at, name, from, to, block)
+        let from = Boxed::new(alloc, from)?;
+        let to = Boxed::new(alloc, to)?;
+        let block = Boxed::new(alloc, block)?;
+        Ok(Stmt::Foreach(at, name, from, to, block))
     }
 
     /// A form with no `;` after it.
     #[tactic(auto, using(crate::proofs::ViewLaws::of_form_stmt))]
-    pub fn form(form: Form) -> Self
-        ensures { view_stmt result ≡ t.form_stmt (view_form form) }
+    pub fn form(alloc: Global, form: Form) -> Result<Self, Memory>
+        ensures { IfOk result (λ m. view_stmt m ≡ t.form_stmt (view_form form)) }
     {
-        Stmt::Form(form)
+        Ok(Stmt::Form(Boxed::new(alloc, form)?))
     }
 
     /// `e;`.

@@ -49,7 +49,7 @@ pub fn stmt_returns(stmt: &Stmt) -> bool
     match stmt {
         Stmt::Return(_, None) => true,
         Stmt::Return(_, Some(_)) => true,
-        Stmt::Form(form) => form_returns(form),
+        Stmt::Form(form) => form_returns(form.get()),
         Stmt::Express(value) => expr_returns(value),
         Stmt::Declare(..) | Stmt::Destructure(..) | Stmt::While(..) | Stmt::Foreach(..) => false,
     }

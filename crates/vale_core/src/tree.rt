@@ -59,15 +59,15 @@ pub enum Stmt {
     /// `x = e;`, with the type of the name.
     Declare(NameAt, Ty, Expr),
     /// `[x, y] = e;`, with the types of the names.
-    Destructure(Spot, Items<NameAt>, Items<Ty>, Expr),
+    Destructure(Spot, Items<NameAt>, Items<Ty>, Boxed<Expr>),
     /// `return;` or `return e;`.
     Return(Spot, Option<Boxed<Expr>>),
     /// `while e { }`.
-    While(Spot, Expr, Block),
+    While(Spot, Expr, Boxed<Block>),
     /// `foreach i in a..b { }`.
-    Foreach(Spot, NameAt, Expr, Expr, Block),
+    Foreach(Spot, NameAt, Boxed<Expr>, Boxed<Expr>, Boxed<Block>),
     /// A form with no `;` after it, where the block goes on.
-    Form(Form),
+    Form(Boxed<Form>),
     /// `e;`.
     Express(Expr),
 }

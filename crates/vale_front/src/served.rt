@@ -211,12 +211,14 @@ fn stmt_is_served(stmt: &Stmt) -> bool
         Stmt::Destructure(..) => false,
         Stmt::Return(_, None) => true,
         Stmt::Return(_, Some(value)) => expr_is_served(value.get()),
-        Stmt::While(_, condition, block) => both(expr_is_served(condition), block_is_served(block)),
-        Stmt::Foreach(_, _, from, to, block) => {
-            let bounds = both(expr_is_served(from), expr_is_served(to));
-            both(bounds, block_is_served(block))
+        Stmt::While(_, condition, block) => {
+            both(expr_is_served(condition), block_is_served(block.get()))
         }
-        Stmt::Form(form) => form_is_served(form),
+        Stmt::Foreach(_, _, from, to, block) => {
+            let bounds = both(expr_is_served(from.get()), expr_is_served(to.get()));
+            both(bounds, block_is_served(block.get()))
+        }
+        Stmt::Form(form) => form_is_served(form.get()),
         Stmt::Express(value) => expr_is_served(value),
     }
 }

@@ -214,15 +214,16 @@ fn in_stmt(stmt: &Stmt) -> Option<Fault>
     ensures { result ≡ first_of (i.stmt_faults (view_stmt stmt.now)) }
 {
     match stmt {
-        Stmt::Declare(_, _, value) | Stmt::Destructure(_, _, _, value) => in_expr(value),
+        Stmt::Declare(_, _, value) => in_expr(value),
+        Stmt::Destructure(_, _, _, value) => in_expr(value.get()),
         Stmt::Return(_, None) => None,
         Stmt::Return(_, Some(value)) => in_expr(value.get()),
-        Stmt::While(_, condition, block) => earlier(in_expr(condition), in_block(block)),
+        Stmt::While(_, condition, block) => earlier(in_expr(condition), in_block(block.get())),
         Stmt::Foreach(_, _, from, to, block) => {
-            let body = in_block(block);
-            earlier(in_expr(from), earlier(in_expr(to), body))
+            let body = in_block(block.get());
+            earlier(in_expr(from.get()), earlier(in_expr(to.get()), body))
         }
-        Stmt::Form(form) => in_form(true, form),
+        Stmt::Form(form) => in_form(true, form.get()),
         Stmt::Express(value) => in_expr(value),
     }
 }

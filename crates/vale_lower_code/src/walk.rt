@@ -481,7 +481,7 @@ fn emit_stmt(
             let inner = Standing { next, ..*here };
             let start = buffer.hold()?;
             buffer.put(Instr::Tick)?;
-            emit_block(alloc, block, false, here.next, &inner, buffer)?;
+            emit_block(alloc, block.get(), false, here.next, &inner, buffer)?;
             let test = buffer.place()?;
             emit_value(alloc, condition, here, buffer)?;
             buffer.end_loop(start, test, here.next)
@@ -490,12 +490,12 @@ fn emit_stmt(
             let bound = above(here.next)?;
             let turn = above(bound)?;
             let next = above(turn)?;
-            emit_value(alloc, from, here, buffer)?;
+            emit_value(alloc, from.get(), here, buffer)?;
             let bounded = Standing {
                 next: bound,
                 ..*here
             };
-            emit_value(alloc, to, &bounded, buffer)?;
+            emit_value(alloc, to.get(), &bounded, buffer)?;
             let start = buffer.begin_count(here.next, turn, *at)?;
             let local = [Local {
                 name: name.name,
@@ -507,10 +507,10 @@ fn emit_stmt(
                 scope: &inner,
                 ..*here
             };
-            emit_block(alloc, block, false, here.next, &turned, buffer)?;
+            emit_block(alloc, block.get(), false, here.next, &turned, buffer)?;
             buffer.end_count(start, here.next, bound, turn, *at)
         }
-        Stmt::Form(form) => emit_form(alloc, form, false, here, buffer),
+        Stmt::Form(form) => emit_form(alloc, form.get(), false, here, buffer),
         Stmt::Express(value) => emit_unused(alloc, value, here, buffer),
     }
 }

@@ -177,14 +177,14 @@ fn add_stmt(alloc: Global, stmt: &Stmt, texts: &mut Sequence<Text>) -> Result<()
         Stmt::Return(_, Some(value)) => add_expr(alloc, value.get(), texts),
         Stmt::While(_, condition, block) => {
             add_expr(alloc, condition, texts)?;
-            add_block(alloc, block, texts)
+            add_block(alloc, block.get(), texts)
         }
         Stmt::Foreach(_, _, from, to, block) => {
-            add_expr(alloc, from, texts)?;
-            add_expr(alloc, to, texts)?;
-            add_block(alloc, block, texts)
+            add_expr(alloc, from.get(), texts)?;
+            add_expr(alloc, to.get(), texts)?;
+            add_block(alloc, block.get(), texts)
         }
-        Stmt::Form(form) => add_form(alloc, form, texts),
+        Stmt::Form(form) => add_form(alloc, form.get(), texts),
         Stmt::Express(value) => add_expr(alloc, value, texts),
     }
 }

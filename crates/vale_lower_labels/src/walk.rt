@@ -493,7 +493,7 @@ fn walk_stmt(alloc: Global, stmt: &Stmt, here: &Standing, labels: &mut Labels) -
             let next = above(here.next)?;
             let inner = Standing { next, ..*here };
             begin_loop(alloc, here, labels)?;
-            walk_block(alloc, block, false, &inner, labels)?;
+            walk_block(alloc, block.get(), false, &inner, labels)?;
             labels.set_due(true);
             walk_value(alloc, condition, here, labels)?;
             end_loop(alloc, &condition.seen.value, here, labels)
@@ -501,6 +501,7 @@ fn walk_stmt(alloc: Global, stmt: &Stmt, here: &Standing, labels: &mut Labels) -
         Stmt::Foreach(_, name, from, to, block) => {
             let bound = above(here.next)?;
             let turn = above(bound)?;
+            let (from, to) = (from.get(), to.get());
             walk_value(alloc, from, here, labels)?;
             let counter = Slots::Holds(here.next, &from.seen.value, &*here.slots);
             let bounded = Standing {
@@ -515,9 +516,9 @@ fn walk_stmt(alloc: Global, stmt: &Stmt, here: &Standing, labels: &mut Labels) -
                 slots: &counted,
                 ..*here
             };
-            walk_turns(alloc, block, name.name, &turned, labels)
+            walk_turns(alloc, block.get(), name.name, &turned, labels)
         }
-        Stmt::Form(form) => walk_form(alloc, form, false, here, labels),
+        Stmt::Form(form) => walk_form(alloc, form.get(), false, here, labels),
         Stmt::Express(value) => walk_unused(alloc, value, here, labels),
     }
 }

@@ -215,15 +215,19 @@ fn stmt_moves(stmt: &Stmt, local: Name) -> bool
 {
     match stmt {
         Stmt::Declare(_, _, value) => expr_moves(value, local),
-        Stmt::Destructure(_, _, _, value) => !is_self(value, local) && expr_moves(value, local),
+        Stmt::Destructure(_, _, _, value) => {
+            !is_self(value.get(), local) && expr_moves(value.get(), local)
+        }
         Stmt::Return(_, value) => last_moves(value, local),
         Stmt::While(_, condition, block) => {
-            expr_moves(condition, local) || block_moves(block, local)
+            expr_moves(condition, local) || block_moves(block.get(), local)
         }
         Stmt::Foreach(_, _, from, to, block) => {
-            expr_moves(from, local) || expr_moves(to, local) || block_moves(block, local)
+            expr_moves(from.get(), local)
+                || expr_moves(to.get(), local)
+                || block_moves(block.get(), local)
         }
-        Stmt::Form(form) => form_moves(form, local),
+        Stmt::Form(form) => form_moves(form.get(), local),
         Stmt::Express(value) => expr_moves(value, local),
     }
 }

@@ -313,7 +313,7 @@ fn walk_stmt(alloc: Global, stmt: &Stmt, flow_state: &mut FlowState) -> Result<(
             flow_state.declare(*name)
         }
         Stmt::Destructure(_, names, _, value) => {
-            walk_expr(alloc, value, flow_state)?;
+            walk_expr(alloc, value.get(), flow_state)?;
             flow_state.declare_all(names.as_slice())
         }
         Stmt::Return(_, value) => walk_last(alloc, value, flow_state),
@@ -322,19 +322,19 @@ fn walk_stmt(alloc: Global, stmt: &Stmt, flow_state: &mut FlowState) -> Result<(
             walk_expr(alloc, condition, flow_state)?;
             let stays = flow_state.is_as(&before);
             let start = flow_state.copy(alloc)?;
-            walk_block(alloc, block, flow_state)?;
-            flow_state.end_loop(*at, stays, start, block_returns(block));
+            walk_block(alloc, block.get(), flow_state)?;
+            flow_state.end_loop(*at, stays, start, block_returns(block.get()));
             Ok(())
         }
         Stmt::Foreach(at, name, from, to, block) => {
-            walk_expr(alloc, from, flow_state)?;
-            walk_expr(alloc, to, flow_state)?;
+            walk_expr(alloc, from.get(), flow_state)?;
+            walk_expr(alloc, to.get(), flow_state)?;
             let start = flow_state.copy(alloc)?;
-            walk_body(alloc, *name, block, flow_state)?;
-            flow_state.end_loop(*at, true, start, block_returns(block));
+            walk_body(alloc, *name, block.get(), flow_state)?;
+            flow_state.end_loop(*at, true, start, block_returns(block.get()));
             Ok(())
         }
-        Stmt::Form(form) => walk_form(alloc, form, flow_state),
+        Stmt::Form(form) => walk_form(alloc, form.get(), flow_state),
         Stmt::Express(value) => walk_expr(alloc, value, flow_state),
     }
 }

@@ -72,7 +72,7 @@ pub fn destructure(
     }
     let types = types_of(alloc, fields)?;
     let value = value.into_inner();
-    Ok(Held::new(Stmt::destructure(at, names, types, value)))
+    Ok(Held::new(Stmt::destructure(alloc, at, names, types, value)?))
 }
 
 /// `return;` in a function that gives this.
@@ -106,6 +106,7 @@ pub fn return_value(
 /// `while e { }`.
 #[tactic(auto, using(vale_rules_spec::proofs::JudgedLaws::first_leaf))]
 pub fn while_loop(
+    alloc: Global,
     at: Spot,
     condition: Held<Expr>,
     block: Held<Block>,
@@ -116,12 +117,13 @@ pub fn while_loop(
         return Err(Fail::Is(Fault { code, at }));
     }
     let (condition, block) = (condition.into_inner(), block.into_inner());
-    Ok(Held::new(Stmt::while_loop(at, condition, block)))
+    Ok(Held::new(Stmt::while_loop(alloc, at, condition, block)?))
 }
 
 /// `foreach i in a..b { }`.
 #[tactic(auto, using(vale_rules_spec::proofs::JudgedLaws::first_leaf))]
 pub fn foreach(
+    alloc: Global,
     at: Spot,
     name: NameAt,
     from: Held<Expr>,
@@ -133,8 +135,8 @@ pub fn foreach(
     if let Some(code) = bounds_fault(type_in(from.get()), type_in(to.get())) {
         return Err(Fail::Is(Fault { code, at }));
     }
-    let (from, to) = (from.into_inner(), to.into_inner());
-    Ok(Held::new(Stmt::foreach(at, name, from, to, block.into_inner())))
+    let (from, to, block) = (from.into_inner(), to.into_inner(), block.into_inner());
+    Ok(Held::new(Stmt::foreach(alloc, at, name, from, to, block)?))
 }
 
 /// The spot of a form.
@@ -150,14 +152,18 @@ fn form_spot(form: &source::Form) -> Spot
 
 /// A form that is a statement.
 #[tactic(auto, using(vale_rules_spec::proofs::JudgedLaws::first_leaf))]
-pub fn form_stmt(of: &source::Form, form: Held<Valued>) -> Result<Held<Stmt>, Fail<Fault>>
+pub fn form_stmt(
+    alloc: Global,
+    of: &source::Form,
+    form: Held<Valued>,
+) -> Result<Held<Stmt>, Fail<Fault>>
     ensures { Gives view_stmt result (first (leaf (form_spot (view_form of.now)) (void_rules (view_valued form).0) (t.form_stmt (view_valued form).1))) }
 {
     if let Some(code) = void_fault(&form.get().ty) {
         let at = form_spot(of);
         return Err(Fail::Is(Fault { code, at }));
     }
-    Ok(Held::new(Stmt::form(form.into_inner().form)))
+    Ok(Held::new(Stmt::form(alloc, form.into_inner().form)?))
 }
 
 /// `e;`.

@@ -469,18 +469,18 @@ fn type_stmt(
         Stmt::While(at, condition, block) => {
             let condition = type_expr(alloc, table, condition, gives, depth, scope, true)?;
             let body = type_void_block(alloc, table, block, gives, depth, scope)?;
-            vale_typed_stmts::while_loop(*at, condition, body)
+            vale_typed_stmts::while_loop(alloc, *at, condition, body)
         }
         Stmt::Foreach(at, name, from, to, block) => {
             new_name(scope, *name)?;
             let from = type_expr(alloc, table, from, gives, depth, scope, true)?;
             let to = type_expr(alloc, table, to, gives, depth, scope, true)?;
             let body = type_void_loop(alloc, table, block, gives, depth, scope, *name, Ty::Int)?;
-            vale_typed_stmts::foreach(*at, *name, from, to, body)
+            vale_typed_stmts::foreach(alloc, *at, *name, from, to, body)
         }
         Stmt::Form(form) => {
             let valued = type_form(alloc, table, form, gives, depth, scope)?;
-            vale_typed_stmts::form_stmt(form, valued)
+            vale_typed_stmts::form_stmt(alloc, form, valued)
         }
         Stmt::Express(value) => {
             let value = type_expr(alloc, table, value, gives, depth, scope, true)?;
