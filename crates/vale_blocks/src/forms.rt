@@ -10,7 +10,8 @@ use crate::level::{Level, Rank};
 use sqlite_items::{Boxed, Items};
 use vale_held::Held;
 use vale_reading::{
-    Found, Growing, Parser, Statements, Stop, Turn, begins, begins_word, many, parallel, read, sign, word,
+    Found, Growing, Parser, Statements, Stop, Turn, begins, begins_word, many, parallel, read,
+    sign, word,
 };
 use vale_syntax::{Block, ElseIf, Expr, Form, Sign, Token, TokenKind, Word};
 

@@ -12,8 +12,8 @@ use crate::level::{Level, Rank};
 use sqlite_items::Items;
 use vale_held::Held;
 use vale_reading::{
-    Found, Growing, Parser, Statements, Stop, Turn, begins_word, chained, link_op, most_links, read, sign,
-    unary_op, word,
+    Found, Growing, Parser, Statements, Stop, Turn, begins_word, chained, link_op, most_links,
+    read, sign, unary_op, word,
 };
 use vale_syntax::{Expr, Link, Sign, Token, Word};
 

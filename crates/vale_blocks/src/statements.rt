@@ -10,8 +10,8 @@ use crate::level::{Level, Rank};
 use sqlite_items::{Boxed, Items};
 use vale_held::Held;
 use vale_reading::{
-    Found, Growing, Parser, Statements, Stop, Turn, after_form, after_plain, begins, begins_declaration,
-    begins_destructuring, many, read, sign, word,
+    Found, Growing, Parser, Statements, Stop, Turn, after_form, after_plain, begins,
+    begins_declaration, begins_destructuring, many, read, sign, word,
 };
 use vale_syntax::{Expr, Sign, Stmt, Token, TokenKind, Word};
 
