@@ -21,7 +21,7 @@ returns-in_err-push-in-More g c =
     rw (p.1, p.2) (after_full (FnReturnsAt g.F.Fn c.args.turn) (length c.args.tokens.now + 1) c.loop.counter c.loop.items c.loop.rest.now _ c.loop.invariant c.in-More.item c.in_ok-found.after c.loop-test.true (record { shown = c.loop.rest; shows = refl; says = record { met = rw c.in-More.is at c.in_ok-found.ensures } }))
 
 pub returns-in-End : goal.returns-in-End
-returns-in-End g c = after_end (FnReturnsAt g.F.Fn c.args.turn) (length c.args.tokens.now + 1) c.loop.counter c.loop.items c.loop.rest.now _ c.loop.invariant c.in-End.end c.in_ok-found.after c.loop-test.true (record { shown = c.loop.rest; shows = refl; says = record { met = rw c.in-End.is at c.in_ok-found.ensures } })
+returns-in-End g c = rw c.into_items.ensures (after_end (FnReturnsAt g.F.Fn c.args.turn) (length c.args.tokens.now + 1) c.loop.counter c.loop.items c.loop.rest.now _ c.loop.invariant c.in-End.end c.in_ok-found.after c.loop-test.true (record { shown = c.loop.rest; shows = refl; says = record { met = rw c.in-End.is at c.in_ok-found.ensures } }))
 
 pub returns : goal.returns
 returns g c = after_all (FnReturnsAt g.F.Fn c.args.turn) (length c.args.tokens.now + 1) c.loop.counter c.loop.items c.loop.rest.now _ c.loop.invariant c.loop.rest c.loop-test.false refl

@@ -18,10 +18,10 @@ pub links-loop-preserved : goal.links-loop-preserved
 links-loop-preserved g m c = rw c.in_ok-push-in-More.ensures.ok (turn_more (link_turn (level_at c.args.self.now.parser.now.names.now (within c.args.self.now.parser.now.names.now c.args.self.now.depth) (c.args.height - 1)) c.args.height) (λ x xs. more_links x xs) (λ _. no_links) (no_more) (view_link) c.loop.items (c.args.most) c.loop.counter c.loop.rest.now (turns_at (link_turn (level_at c.args.self.now.parser.now.names.now (within c.args.self.now.parser.now.names.now c.args.self.now.depth) (c.args.height - 1)) c.args.height) (λ x xs. more_links x xs) (λ _. no_links) (no_more) (c.args.most) c.args.tokens.now) c.loop.invariant c.in-More.item c.in_ok-turn.after.now c.loop-test.true (rw c.in-More.is at c.in_ok-turn.ensures))
 
 pub links-returns-in-End : goal.links-returns-in-End
-links-returns-in-End g m c = turn_end (link_turn (level_at c.args.self.now.parser.now.names.now (within c.args.self.now.parser.now.names.now c.args.self.now.depth) (c.args.height - 1)) c.args.height) (λ x xs. more_links x xs) (λ _. no_links) (no_more) (view_link) c.loop.items (c.args.most) c.loop.counter c.loop.rest.now (turns_at (link_turn (level_at c.args.self.now.parser.now.names.now (within c.args.self.now.parser.now.names.now c.args.self.now.depth) (c.args.height - 1)) c.args.height) (λ x xs. more_links x xs) (λ _. no_links) (no_more) (c.args.most) c.args.tokens.now) c.loop.invariant (tt) c.in_ok-turn.after.now c.loop-test.true (rw c.in-End.is at c.in_ok-turn.ensures)
+links-returns-in-End g m c = rw c.into_items.ensures (turn_end (link_turn (level_at c.args.self.now.parser.now.names.now (within c.args.self.now.parser.now.names.now c.args.self.now.depth) (c.args.height - 1)) c.args.height) (λ x xs. more_links x xs) (λ _. no_links) (no_more) (view_link) c.loop.items (c.args.most) c.loop.counter c.loop.rest.now (turns_at (link_turn (level_at c.args.self.now.parser.now.names.now (within c.args.self.now.parser.now.names.now c.args.self.now.depth) (c.args.height - 1)) c.args.height) (λ x xs. more_links x xs) (λ _. no_links) (no_more) (c.args.most) c.args.tokens.now) c.loop.invariant (tt) c.in_ok-turn.after.now c.loop-test.true (rw c.in-End.is at c.in_ok-turn.ensures))
 
 pub links-returns : goal.links-returns
-links-returns g m c = turns_over (link_turn (level_at c.args.self.now.parser.now.names.now (within c.args.self.now.parser.now.names.now c.args.self.now.depth) (c.args.height - 1)) c.args.height) (λ x xs. more_links x xs) (λ _. no_links) (no_more) (view_link) c.loop.items (c.args.most) c.loop.counter c.loop.rest.now (turns_at (link_turn (level_at c.args.self.now.parser.now.names.now (within c.args.self.now.parser.now.names.now c.args.self.now.depth) (c.args.height - 1)) c.args.height) (λ x xs. more_links x xs) (λ _. no_links) (no_more) (c.args.most) c.args.tokens.now) c.loop.invariant (no_links) c.loop.rest.now c.loop-test.false refl
+links-returns g m c = rw c.into_items-2.ensures (turns_over (link_turn (level_at c.args.self.now.parser.now.names.now (within c.args.self.now.parser.now.names.now c.args.self.now.depth) (c.args.height - 1)) c.args.height) (λ x xs. more_links x xs) (λ _. no_links) (no_more) (view_link) c.loop.items (c.args.most) c.loop.counter c.loop.rest.now (turns_at (link_turn (level_at c.args.self.now.parser.now.names.now (within c.args.self.now.parser.now.names.now c.args.self.now.depth) (c.args.height - 1)) c.args.height) (λ x xs. more_links x xs) (λ _. no_links) (no_more) (c.args.most) c.args.tokens.now) c.loop.invariant (no_links) c.loop.rest.now c.loop-test.false refl)
 
 pub level-returns-in_err-links : goal.level-returns-in_err-links
 level-returns-in_err-links g m c =
