@@ -85,11 +85,11 @@ emit_form-returns-in_ok-emit_else-in-If t c = on_ok_weaker c.end_sides.result (�
 pub emit_stmt-returns-in_ok-emit_value-in-While : goal.emit_stmt-returns-in_ok-emit_value-in-While
 emit_stmt-returns-in_ok-emit_value-in-While t c = on_ok_weaker c.end_loop.result (λ e.
     by_while (view_around c.args.here.now.around.now) c.args.here.now.next (entries c.args.here.now.scope.now) c.args.buffer.now.code.items c.args.stmt.now _ _ _ _ _ _ _ _ _ _ _
-    c.in-While.is c.in_ok-next-in-While.ensures c.in_ok-start-in-While.ensures.place c.in_ok-start-in-While.ensures.held c.in_ok-put-in-While.ensures c.in_ok-emit_block-in-While.ensures
+    c.in-While.is c.in_ok-next-in-While.ensures c.in_ok-start-in-While.ensures.place c.in_ok-start-in-While.ensures.held c.in_ok-put-in-While.ensures (rw c.get-in-While.ensures at c.in_ok-emit_block-in-While.ensures)
     c.in_ok-test-in-While.ensures c.in_ok-emit_value-in-While.ensures e) c.end_loop.ensures
 
 pub emit_stmt-returns-in_ok-emit_block-in-Foreach : goal.emit_stmt-returns-in_ok-emit_block-in-Foreach
 emit_stmt-returns-in_ok-emit_block-in-Foreach t c = on_ok_weaker c.end_count.result (λ e.
     by_foreach (view_around c.args.here.now.around.now) c.args.here.now.next (entries c.args.here.now.scope.now) c.args.buffer.now.code.items c.args.stmt.now _ _ _ _ _ _ _ _ _ _ _ _ _ _ _
-    c.in-Foreach.is c.in_ok-bound-in-Foreach.ensures c.in_ok-turn-in-Foreach.ensures c.in_ok-next-in-Foreach.ensures c.in_ok-emit_value-in-Foreach.ensures c.in_ok-emit_value-in-Foreach-2.ensures
-    c.in_ok-start-in-Foreach.ensures.place c.in_ok-start-in-Foreach.ensures.code refl c.in_ok-emit_block-in-Foreach.ensures e) c.end_count.ensures
+    c.in-Foreach.is c.in_ok-bound-in-Foreach.ensures c.in_ok-turn-in-Foreach.ensures c.in_ok-next-in-Foreach.ensures (rw c.get-in-Foreach.ensures at c.in_ok-emit_value-in-Foreach.ensures) (rw c.get-in-Foreach-2.ensures at c.in_ok-emit_value-in-Foreach-2.ensures)
+    c.in_ok-start-in-Foreach.ensures.place c.in_ok-start-in-Foreach.ensures.code refl (rw c.get-in-Foreach-3.ensures at c.in_ok-emit_block-in-Foreach.ensures) e) c.end_count.ensures
