@@ -4,6 +4,8 @@ use Rattle.vale_base.specs.Limits.{program_limit}
 use Rattle.vale_base.specs.declared.spot.Spot.{Spot}
 use Rattle.vale_front.specs.Interfaces.{has_interfaces}
 use Rattle.vale_served_spec.specs.Served.{is_served}
+use Rattle.vale_region_spec.specs.Isolated.{isolated}
+use Rattle.vale_region_spec.specs.Regions.{framed}
 use Rattle.vale_rules_spec.specs.Owned.{owned}
 use Rattle.vale_reading.specs.ItemReading.{all_of}
 use Rattle.vale_parser.specs.Refusal.{IsRefusal}
@@ -43,8 +45,17 @@ pub data Unsound (tree : Tree) (code : ℕ) (at : Spot) : Type 0 where
   ill_owned : has_interfaces tree ≡ false → (decls : Decls) (program : Typed) → IsFine (declared tree) decls
       → IsFine (typed tree) program → (f : Fault) → IsFirstFault (owned program) f → code ≡ f.code → at ≡ f.at
       → Unsound tree code at
+  ill_framed : has_interfaces tree ≡ false → (decls : Decls) (program : Typed) → IsFine (declared tree) decls
+      → IsFine (typed tree) program → IsFine (owned program) program
+      → (f : Fault) → IsFirstFault (framed program) f → code ≡ f.code → at ≡ f.at
+      → Unsound tree code at
+  ill_isolated : has_interfaces tree ≡ false → (decls : Decls) (program : Typed) → IsFine (declared tree) decls
+      → IsFine (typed tree) program → IsFine (owned program) program → IsFine (framed program) tt
+      → (f : Fault) → IsFirstFault (isolated program) f → code ≡ f.code → at ≡ f.at
+      → Unsound tree code at
   not_served : has_interfaces tree ≡ false → (decls : Decls) (program : Typed) → IsFine (declared tree) decls
-      → IsFine (typed tree) program → IsFine (owned program) program → is_served program ≡ false → code ≡ 5 → at ≡ start
+      → IsFine (typed tree) program → IsFine (owned program) program → IsFine (framed program) tt
+      → IsFine (isolated program) tt → is_served program ≡ false → code ≡ 5 → at ≡ start
       → Unsound tree code at
 
 -- the tree breaks no rule, has this typed tree, and all of it is served
@@ -53,6 +64,8 @@ pub record Serves (tree : Tree) (decls : Decls) (program : Typed) : Type 0 where
   pub declares : IsFine (declared tree) decls
   pub types : IsFine (typed tree) program
   pub owns : IsFine (owned program) program
+  pub frames : IsFine (framed program) tt
+  pub isolates : IsFine (isolated program) tt
   pub served : is_served program ≡ true
 
 -- the text is refused with this code at this spot

@@ -14,9 +14,9 @@ use std::alloc::Global;
 use vale_base::Fail;
 use vale_core::Sound;
 
-/// The typed tree of a program, or why it is refused: reading, declarations, types and ownership, in this order
-/// (docs/LANGUAGE.md). `Fail::Is` comes where the text is no well-formed program, and where the program has something
-/// that isn't served yet, as code 5 at 1:1; `Fail::Memory` may always come.
+/// The typed tree of a program, or why it is refused: reading, declarations, types, ownership, freezes and isolates, in
+/// this order (docs/LANGUAGE.md). `Fail::Is` comes where the text is no well-formed program, and where the program has
+/// something that isn't served yet, as code 5 at 1:1; `Fail::Memory` may always come.
 pub fn front(alloc: Global, text: &[u8]) -> Result<Sound, Fail<Refusal>>
     // what is answered is the text's
     ensures found { IfOk result (λ sound. (tree : t.Tree) × (decls : Decls) × Accepts text.now tree decls (view_core sound.core)) }

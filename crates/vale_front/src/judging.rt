@@ -16,7 +16,9 @@ use crate::served::is_served;
 use std::alloc::Global;
 use vale_base::{Fail, Spot};
 use vale_core::Sound;
+use vale_iso::isolates;
 use vale_owner::own;
+use vale_region::regions;
 use vale_syntax::Tree;
 use vale_types::declare;
 use vale_typing::type_all;
@@ -26,9 +28,9 @@ const NOT_SERVED: Refusal = Refusal {
     at: Spot { line: 1, col: 1 },
 };
 
-// The typed tree of a text's tree, or why it is refused (docs/LANGUAGE.md, "Declarations", "Types" and "Ownership").
-// `Fail::Is` comes where a node breaks a rule, with the first such node of the first phase that finds one, and where the
-// program has something that isn't served yet; `Fail::Memory` may always come.
+// The typed tree of a text's tree, or why it is refused (docs/LANGUAGE.md, "Declarations", "Types", "Ownership" and
+// "Freezes and isolates"). `Fail::Is` comes where a node breaks a rule, with the first such node of the first phase that
+// finds one, and where the program has something that isn't served yet; `Fail::Memory` may always come.
 pub fn judge(alloc: Global, tree: Tree) -> Result<Sound, Fail<Refusal>>
     // some text of bytes is read as the tree
     requires { (text : List ℕ) × (list_all is_byte text ≡ true) × Reads text (view_tree tree) }
@@ -57,6 +59,14 @@ pub fn judge(alloc: Global, tree: Tree) -> Result<Sound, Fail<Refusal>>
         Err(Fail::Is(fault)) => return Err(Fail::Is(Refusal::of(fault))),
         Err(Fail::Memory) => return Err(Fail::Memory),
     };
+    match regions(alloc, &core) {
+        Ok(()) => {}
+        Err(Fail::Is(fault)) => return Err(Fail::Is(Refusal::of(fault))),
+        Err(Fail::Memory) => return Err(Fail::Memory),
+    }
+    if let Err(fault) = isolates(&core) {
+        return Err(Fail::Is(Refusal::of(fault)));
+    }
     if !is_served(&core) {
         return Err(Fail::Is(NOT_SERVED));
     }

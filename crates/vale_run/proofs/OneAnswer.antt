@@ -4,7 +4,7 @@ use Rattle.std.specs.Prelude.{Bool, IsSome, Ok, Err, Result, if◌then◌else◌
 use Rattle.vale_base.specs.declared.spot.Spot.{Spot}
 use Rattle.vale_deliver.specs.Outside.{Outside}
 use Rattle.vale_deliver.specs.declared.answer.Answer.{Answer}
-use Rattle.vale_front.specs.Front.{Unread, too_long, no_tokens, no_tree, Unsound, with_interfaces, ill_declared, ill_typed, ill_owned, not_served as not_compiled, Serves as IsServed, Refused, unread, unsound, Accepts}
+use Rattle.vale_front.specs.Front.{Unread, too_long, no_tokens, no_tree, Unsound, with_interfaces, ill_declared, ill_typed, ill_owned, ill_framed, ill_isolated, not_served as not_compiled, Serves as IsServed, Refused, unread, unsound, Accepts}
 use Rattle.vale_front.specs.Interfaces.{has_interfaces}
 use Rattle.vale_served_spec.specs.Served.{is_served}
 use Rattle.vale_cert.specs.declared.facts.FuncFacts.{FuncFacts}
@@ -28,6 +28,8 @@ use Rattle.vale_reading.specs.ItemReading.{all_of}
 use Rattle.vale_reading.specs.Steps.{Fault as ReadingFault}
 use Rattle.vale_rules_spec.specs.DeclFaults.{declared}
 use Rattle.vale_rules_spec.specs.Judged.{Judged, fine, faulty, IsFine, IsFirstFault}
+use Rattle.vale_region_spec.specs.Isolated.{isolated}
+use Rattle.vale_region_spec.specs.Regions.{framed}
 use Rattle.vale_rules_spec.specs.Owned.{owned}
 use Rattle.vale_rules_spec.specs.Sites.{sites}
 use Rattle.vale_rules_spec.specs.Typed.{Typed}
@@ -113,9 +115,13 @@ unless_set : Bool → Option Fault
 unless_set true = None
 unless_set false = Some (record { code = 5; at = start })
 
+-- why a program that keeps the rules of ownership is refused, where it is
+of_owned : Typed → Option Fault
+of_owned program = stage (framed program) (λ kept. stage (isolated program) (λ alone. unless_set (is_served program)))
+
 -- why a tree is refused, where it is
 verdict : Tree → Option Fault
-verdict x = where_set (has_interfaces x) (stage (declared x) (λ decls. stage (typed x) (λ program. stage (owned program) (λ same. unless_set (is_served program)))))
+verdict x = where_set (has_interfaces x) (stage (declared x) (λ decls. stage (typed x) (λ program. stage (owned program) (λ same. of_owned program))))
 
 passes : {A : Type 0} (phase : Judged A) (a : A) (k : A → Option Fault) → IsFine phase a → stage phase k ≡ k a
 unfolding stage
@@ -147,20 +153,33 @@ unless_off true is = absurd (cc is)
 unless_off false is = refl
 
 module _ (x : Tree) (plain : has_interfaces x ≡ false) where
-  after_interfaces : verdict x ≡ stage (declared x) (λ decls. stage (typed x) (λ program. stage (owned program) (λ same. unless_set (is_served program))))
+  after_interfaces : verdict x ≡ stage (declared x) (λ decls. stage (typed x) (λ program. stage (owned program) (λ same. of_owned program)))
   unfolding verdict
   after_interfaces = where_off (has_interfaces x) _ plain
 
   module _ (decls : Decls) (declares : IsFine (declared x) decls) where
-    after_declared : verdict x ≡ stage (typed x) (λ program. stage (owned program) (λ same. unless_set (is_served program)))
+    after_declared : verdict x ≡ stage (typed x) (λ program. stage (owned program) (λ same. of_owned program))
     after_declared = after_interfaces ∙ passes (declared x) decls _ declares
 
     module _ (program : Typed) (types : IsFine (typed x) program) where
-      after_typed : verdict x ≡ stage (owned program) (λ same. unless_set (is_served program))
+      after_typed : verdict x ≡ stage (owned program) (λ same. of_owned program)
       after_typed = after_declared ∙ passes (typed x) program _ types
 
-      after_owned : IsFine (owned program) program → verdict x ≡ unless_set (is_served program)
+      after_owned : IsFine (owned program) program → verdict x ≡ of_owned program
       after_owned owns = after_typed ∙ passes (owned program) program _ owns
+
+after_framed : (program : Typed) → IsFine (framed program) tt
+    → of_owned program ≡ stage (isolated program) (λ alone. unless_set (is_served program))
+unfolding of_owned
+after_framed program frames = passes (framed program) tt _ frames
+
+after_isolated : (program : Typed) → IsFine (framed program) tt → IsFine (isolated program) tt
+    → of_owned program ≡ unless_set (is_served program)
+after_isolated program frames alone = after_framed program frames ∙ passes (isolated program) tt _ alone
+
+framed_fault : (program : Typed) (f : Fault) → IsFirstFault (framed program) f → of_owned program ≡ Some f
+unfolding of_owned
+framed_fault program f is = stops (framed program) f _ is
 
 fault_parts : (f : Fault) (c : ℕ) (a : Spot) → c ≡ f.code → a ≡ f.at → f ≡ fault_at c a
 fault_parts f c a e s = ap (λ (n : ℕ). fault_at n f.at) (sym e) ∙ ap (λ (z : Spot). fault_at c z) (sym s)
@@ -174,13 +193,20 @@ verdict_of x c a (ill_typed plain decls declares f is e s) =
     after_declared x plain decls declares ∙ stops (typed x) f _ is ∙ ap Some (fault_parts f c a e s)
 verdict_of x c a (ill_owned plain decls program declares types f is e s) =
     after_typed x plain decls declares program types ∙ stops (owned program) f _ is ∙ ap Some (fault_parts f c a e s)
-verdict_of x c a (not_compiled plain decls program declares types owns unserved e s) =
-    after_owned x plain decls declares program types owns ∙ unless_off (is_served program) unserved
+verdict_of x c a (ill_framed plain decls program declares types owns f is e s) =
+    after_owned x plain decls declares program types owns ∙ framed_fault program f is ∙ ap Some (fault_parts f c a e s)
+verdict_of x c a (ill_isolated plain decls program declares types owns frames f is e s) =
+    after_owned x plain decls declares program types owns ∙ after_framed program frames ∙ stops (isolated program) f _ is
+    ∙ ap Some (fault_parts f c a e s)
+verdict_of x c a (not_compiled plain decls program declares types owns frames alone unserved e s) =
+    after_owned x plain decls declares program types owns ∙ after_isolated program frames alone
+    ∙ unless_off (is_served program) unserved
     ∙ ap Some (fault_parts (fault_at 5 start) c a e s)
 
 served_verdict : (x : Tree) (decls : Decls) (program : Typed) → IsServed x decls program → verdict x ≡ None
 served_verdict x decls program s =
-    after_owned x s.plain decls s.declares program s.types s.owns ∙ unless_on (is_served program) s.served
+    after_owned x s.plain decls s.declares program s.types s.owns ∙ after_isolated program s.frames s.isolates
+    ∙ unless_on (is_served program) s.served
 
 -- ---- refused or accepted
 

@@ -2,7 +2,7 @@ use Rattle.std.proofs.Common.{sym, ap, ◌∙◌, refl}
 use Rattle.std.specs.Prelude.{map}
 use Rattle.std.proofs.lemmas.Bool.{false≢true}
 use Rattle.vale_core.specs.View.{view_core}
-use Rattle.vale_front.specs.Front.{ill_declared, ill_typed, ill_owned, not_served}
+use Rattle.vale_front.specs.Front.{ill_declared, ill_typed, ill_owned, ill_framed, ill_isolated, not_served}
 use Rattle.vale_front.proofs.InterfaceLaws.{plain_without}
 use Rattle.vale_served_spec.specs.Served.{is_served}
 use Rattle.vale_syntax.specs.View.{view_item, view_tree}
@@ -37,11 +37,31 @@ returns-in-Err-Is-own-clause-refused c =
     ill_owned judged c.in-Ok.decls (view_core c.in-Ok-type_all.core) c.in-Ok.ensures.declared c.in-Ok-type_all.ensures.typed c.in-Err-Is-own.fault why
     c.of-in-Err-Is-own.ensures.code c.of-in-Err-Is-own.ensures.at
 
+pub returns-in-Err-Is-regions-clause-refused : goal.returns-in-Err-Is-regions-clause-refused
+returns-in-Err-Is-regions-clause-refused c =
+    let judged = sym c.has_interfaces.ensures ∙ c.if-has_interfaces.false in
+    let owns = rw c.in-Ok-own.ensures.same at c.in-Ok-own.ensures.owned in
+    let why = rw c.in-Ok-own.ensures.same at (rw c.in-Err-Is-regions.field-0-is at c.in-Err-Is-regions.ensures.fault) in
+    ill_framed judged c.in-Ok.decls (view_core c.in-Ok-type_all.core) c.in-Ok.ensures.declared c.in-Ok-type_all.ensures.typed owns c.in-Err-Is-regions.fault why
+    c.of-in-Err-Is-regions.ensures.code c.of-in-Err-Is-regions.ensures.at
+
+pub returns-in-Err-isolates-clause-refused : goal.returns-in-Err-isolates-clause-refused
+returns-in-Err-isolates-clause-refused c =
+    let judged = sym c.has_interfaces.ensures ∙ c.if-has_interfaces.false in
+    let owns = rw c.in-Ok-own.ensures.same at c.in-Ok-own.ensures.owned in
+    let frames = rw c.in-Ok-own.ensures.same at c.in-Ok-regions.ensures.framed in
+    let why = rw c.in-Ok-own.ensures.same at c.in-Err-isolates.ensures.fault in
+    ill_isolated judged c.in-Ok.decls (view_core c.in-Ok-type_all.core) c.in-Ok.ensures.declared c.in-Ok-type_all.ensures.typed owns frames c.in-Err-isolates.fault why
+    c.of-in-Err-isolates.ensures.code c.of-in-Err-isolates.ensures.at
+
 pub returns-then-not-is_served-clause-refused : goal.returns-then-not-is_served-clause-refused
 returns-then-not-is_served-clause-refused c =
     let judged = sym c.has_interfaces.ensures ∙ c.if-has_interfaces.false in
+    let owns = rw c.in-Ok-own.ensures.same at c.in-Ok-own.ensures.owned in
+    let frames = rw c.in-Ok-own.ensures.same at c.in-Ok-regions.ensures.framed in
+    let alone = rw c.in-Ok-own.ensures.same at c.isolates.ensures.isolated in
     let unserved = rw c.in-Ok-own.ensures.same at (sym c.is_served.ensures ∙ c.if-not-is_served.true) in
-    not_served judged c.in-Ok.decls (view_core c.in-Ok-type_all.core) c.in-Ok.ensures.declared c.in-Ok-type_all.ensures.typed (rw c.in-Ok-own.ensures.same at c.in-Ok-own.ensures.owned) unserved refl refl
+    not_served judged c.in-Ok.decls (view_core c.in-Ok-type_all.core) c.in-Ok.ensures.declared c.in-Ok-type_all.ensures.typed owns frames alone unserved refl refl
 
 pub returns-then-not-is_served-clause-complete : goal.returns-then-not-is_served-clause-complete
 returns-then-not-is_served-clause-complete c = λ decls program s.
