@@ -182,6 +182,55 @@ const TEXTS: &[(&str, Answer)] = &[
         Refused("E33 at 1:19\n"),
     ),
     (
+        "struct S { a! int; } func main() { s = S(1); pure { set s.a = 2; } }",
+        Refused("E40 at 1:53\n"),
+    ),
+    (
+        "func main() { a = []int(); pure { push(&a, 1); } }",
+        Refused("E40 at 1:35\n"),
+    ),
+    (
+        "struct S { } struct R { s &S; } func main() { a = S(); pure { r = R(&a); } }",
+        Refused("E41 at 1:67\n"),
+    ),
+    (
+        "struct S { } func main() { a = S(); pure { &a }; }",
+        Refused("E41 at 1:37\n"),
+    ),
+    (
+        "func main() { x = 1; pure { set x = 2; } }",
+        Refused("E42 at 1:29\n"),
+    ),
+    (
+        "struct S { } func main() { a = S(); pure { b = a; } }",
+        Refused("E42 at 1:48\n"),
+    ),
+    (
+        "struct S { } pure func f(s &S) { } func main() { }",
+        Refused("E43 at 1:26\n"),
+    ),
+    (
+        "struct S { } pure func f(s &imm S) &imm S { return s; } func main() { }",
+        Refused("E43 at 1:24\n"),
+    ),
+    ("func main() { pure { return; } }", Refused("E44 at 1:22\n")),
+    (
+        "struct S { a int; } func main() { x = iso { S(1) }; println(x.a); }",
+        Refused("E50 at 1:62\n"),
+    ),
+    (
+        "struct S { } func f(s &S) { parallel foreach i in 0..1 { s } } func main() { }",
+        Refused("E51 at 1:29\n"),
+    ),
+    (
+        "struct S { a int; } func main() { x = iso { S(1) }; println(x.a); pure { return; } }",
+        Refused("E44 at 1:74\n"),
+    ),
+    (
+        "struct S { } func main() { pure { return; } a = S(); drop(a); drop(a); }",
+        Refused("E30 at 1:68\n"),
+    ),
+    (
         "struct S { } func main() { a = S(); if true { drop(a); } else { drop(a); } }",
         NotServed,
     ),
@@ -195,6 +244,14 @@ const TEXTS: &[(&str, Answer)] = &[
     ),
     (
         "pure func f(n int) int { return n; } func main() { println(f(1)); }",
+        NotServed,
+    ),
+    (
+        "struct S { a int; } func main() { s = S(1); x = pure { s.a }; println(x); }",
+        NotServed,
+    ),
+    (
+        "struct S { a int; } func main() { x = iso { S(1) }; println(pure { x.a }); }",
         NotServed,
     ),
     (
