@@ -17,6 +17,25 @@ inside r = record { gives_ref = r.gives_ref; is_inside = true }
 abbrev pub entry : Head → Around
 entry h = record { gives_ref = is_ref (head_gives h); is_inside = false }
 
+-- ---- heads
+
+abbrev pub param_faults : Param → List Fault
+param_faults (param n x) = own n.at (param_rules (param n x))
+
+abbrev pub params_faults : List Param → List Fault
+params_faults [] = []
+params_faults (p ∷ ps) = param_faults p ++ params_faults ps
+
+-- a pure function's, or a pure method's
+abbrev pub head_faults : Head → List Fault
+head_faults (head is_pure n ps x) = if is_pure then params_faults ps ++ own n.at (result_rules x) else []
+
+abbrev pub heads_faults : List Head → List Fault
+heads_faults [] = []
+heads_faults (h ∷ hs) = head_faults h ++ heads_faults hs
+
+-- ---- bodies
+
 module _ (items : List Item) where
   abbrev mutual
     -- with whether it is used as a value: what steps start from, the place of `set` and what stands under `&` aren't
@@ -91,18 +110,6 @@ module _ (items : List Item) where
     stmt_faults r (express e) = expr_faults r true e
 
   -- ---- items
-
-  abbrev pub params_faults : List Param → List Fault
-  params_faults [] = []
-  params_faults (param n x ∷ ps) = own n.at (param_rules (param n x)) ++ params_faults ps
-
-  -- a pure function's, or a pure method's
-  abbrev pub head_faults : Head → List Fault
-  head_faults (head is_pure n ps x) = if is_pure then params_faults ps ++ own n.at (result_rules x) else []
-
-  abbrev pub heads_faults : List Head → List Fault
-  heads_faults [] = []
-  heads_faults (h ∷ hs) = head_faults h ++ heads_faults hs
 
   abbrev pub function_faults : Function → List Fault
   function_faults (function_body h b) = head_faults h ++ block_faults (entry h) b
