@@ -1,21 +1,20 @@
 -- The ways between kinds: what leads rises with the marks, and as many rounds as there are kinds find all that leads anywhere.
-use Rattle.std.proofs.Common.{◌≡◌, ◌≢◌, ℕ, zero, suc, ◌+◌, ◌<◌, ◌≤◌, List, [], ◌∷◌, length, get_or, replicate, drop, Bool, true, false, ◌||◌, ◌&&◌, Option, Some, None, refl, sym, ap, ap₂, subst, ◌∙◌, ⊎_elim, arith, get_or-set_other, get_or-set_same, inl, inr, ◌⊎◌}
+use Rattle.std.proofs.Common.{◌≡◌, ◌≢◌, ℕ, zero, suc, ◌+◌, ◌<◌, ◌≤◌, List, [], ◌∷◌, length, get_or, replicate, Bool, true, false, ◌||◌, ◌&&◌, Option, Some, None, refl, sym, ap, subst, ◌∙◌, ⊎_elim, arith, get_or-set_other, get_or-set_same, ◌⊎◌}
 use Rattle.std.proofs.Math.ListN.{set}
 use Rattle.std.proofs.Math.Path.{fun_ext}
 use Rattle.std.proofs.lemmas.Bool.{cases_lt, false≢true}
 use Rattle.std.proofs.lemmas.Option.{slice_get_past, slice_get-get_or}
 use Rattle.std.specs.List.{list_any}
 use Rattle.std.specs.Prelude.{slice_get, ◌==◌}
-use Rattle.vale_code.specs.Kinds.{kind_of}
 use Rattle.vale_code.specs.Parts.{Parts}
 use Rattle.vale_code.specs.declared.func.Impl.{Impl}
-use Rattle.vale_code.specs.declared.kind.Field.{Field}
 use Rattle.vale_code.specs.declared.kind.KindInfo.{KindInfo}
 use Rattle.vale_code.specs.declared.kind.KindInfo.TheVariants as k
 use Rattle.vale_code.specs.declared.ty.Ty.{Ty}
 use Rattle.vale_code.specs.declared.ty.Ty.TheVariants as t
-use Rattle.vale_cert.specs.Types.{marked, or_false, type_reaches, field_reaches, impl_reaches, kind_reaches, reaches_within, reaches_isolate, is_isolate, item_test, array_test, isolates_under}
+use Rattle.vale_cert.specs.Types.{marked, or_false, type_reaches, field_reaches, impl_reaches, kind_reaches, reaches_within, reaches_isolate, item_test, isolates_under}
 use Rattle.vale_marks.specs.Ways.{type_leads, info_leads, has_leads, impls_lead, interface_leads, leads, leads_within, leads_to_isolate, AreSound, IsEdge}
+use Rattle.vale_marks.specs.declared.edges.Edge.{Edge}
 use Rattle.vale_marks.specs.declared.way.Way.{Way}
 use Rattle.vale_marks.specs.declared.way.Way.TheVariants.{Any, Arrays}
 use Rattle.vale_marks.proofs.ReachLaws as reach
@@ -191,6 +190,18 @@ module _ (way : Way) (code : Parts) where
 
   pub all_rounds : (a : ℕ → Bool) → reach.Within a (leads_to_isolate way code) → reach.Within (leads_to_isolate way code) a → (n : ℕ) → a n ≡ leads_to_isolate way code n
   all_rounds a = reach.all_rounds (leads way code) (length code.kinds) (leads_rises way code) (leads_past way code) (leads_within way code) (λ n. refl) (λ m n. refl) a
+
+  -- what leads to a kind that leads to an isolate is marked next
+  pub marked_next : (old new : List Bool) (edge : Edge) (kind : ℕ) → AreSound way code old → IsEdge way code edge → edge.to ≡ kind → leads_to_isolate way code kind ≡ true
+      → ((k : ℕ) → marked new k ≡ true → (marked old k ≡ true) ⊎ (k ≡ edge.from)) → AreSound way code new
+  marked_next old new edge kind sound is_edge to leads_on added n is =
+      let reached = leads_to_isolate way code in
+      let source : reached edge.from ≡ true = stays_sound reached (λ k h. h) edge.from (is_edge reached (ap reached to ∙ leads_on)) in
+      ⊎_elim (λ before. sound n before) (λ same. ap reached same ∙ source) (added n is)
+
+  -- the first turn finds no more than a round does
+  pub first_sound : (none marks : List Bool) → ((n : ℕ) → marked none n ≡ false) → ((n : ℕ) → marked marks n ≡ leads way code (marked none) n) → AreSound way code marks
+  first_sound none marks empty turn n is = stays_sound (marked none) (λ k h. absurd (false≢true (sym (empty k) ∙ h))) n (sym (turn n) ∙ is)
 
 -- ---- what the rounds find, by the certificates' own definitions
 

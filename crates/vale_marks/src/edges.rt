@@ -1,7 +1,7 @@
 // The edges between kinds: from which kinds each is led to at once.
 ghost use Rattle.std.specs.Prelude.{◌≡◌, ◌<◌, ◌^◌, ℕ, Some, Bool, true, OnOk, IfOk, IfSome, length, slice_get};
 ghost use Rattle.std.specs.List.{All};
-ghost use Rattle.vale_code.specs.declared.kind.Field.{Field as AnyField};
+ghost use Rattle.vale_marks.specs.declared.way.Way.TheVariants.{Any};
 ghost use Rattle.vale_marks.specs.Ways.{type_leads, leads, IsEdge, StandsIn, FieldsStandIn, ImplStandsIn};
 
 use crate::way::Way;
@@ -44,8 +44,8 @@ fn add_type(way: Way, code: &Code, from: u32, ty: Ty, edges: &mut Vec<Edge>) -> 
 
 fn add_fields(code: &Code, from: u32, fields: &[Field], edges: &mut Vec<Edge>) -> Result<(), Memory>
     requires stand { FieldsStandIn code.now from fields.now }
-    requires edges { All (IsEdge way.Any code.now) edges.old.items }
-    ensures { OnOk result (All (IsEdge way.Any code.now) edges.new.items) }
+    requires edges { All (IsEdge Any code.now) edges.old.items }
+    ensures { OnOk result (All (IsEdge Any code.now) edges.new.items) }
 {
     for field in fields {
         add_type(Way::Any, code, from, field.ty, edges)?;
@@ -78,8 +78,8 @@ fn add_kind(
 /// Adds the edge from an interface to a struct that implements it.
 fn add_impl(code: &Code, item: &Impl, edges: &mut Vec<Edge>) -> Result<(), Memory>
     requires stands { ImplStandsIn code.now item.now }
-    requires edges { All (IsEdge way.Any code.now) edges.old.items }
-    ensures { OnOk result (All (IsEdge way.Any code.now) edges.new.items) }
+    requires edges { All (IsEdge Any code.now) edges.old.items }
+    ensures { OnOk result (All (IsEdge Any code.now) edges.new.items) }
 {
     if let Some(KindInfo::Interface { .. }) = code.kinds.as_slice().get(item.interface.0 as usize) {
         edges.push(Edge {
@@ -91,8 +91,8 @@ fn add_impl(code: &Code, item: &Impl, edges: &mut Vec<Edge>) -> Result<(), Memor
 }
 
 fn add_impls(code: &Code, edges: &mut Vec<Edge>) -> Result<(), Memory>
-    requires edges { All (IsEdge way.Any code.now) edges.old.items }
-    ensures { OnOk result (All (IsEdge way.Any code.now) edges.new.items) }
+    requires edges { All (IsEdge Any code.now) edges.old.items }
+    ensures { OnOk result (All (IsEdge Any code.now) edges.new.items) }
 {
     for item in code.impls.as_slice() {
         add_impl(code, item, edges)?;

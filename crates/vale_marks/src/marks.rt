@@ -8,9 +8,9 @@ ghost use Rattle.vale_marks.specs.Ways.{leads, leads_to_isolate, AreSound, IsEdg
 
 use crate::edges::{Edge, edges_of};
 use crate::way::Way;
-use crate::ways::{is_marked, turn};
+use crate::ways::{has_mark, turn};
 use std::alloc::Global;
-use vale_base::{Kind, Memory};
+use vale_base::Memory;
 use vale_code::Code;
 
 fn same_marks(marks: &[bool], next: &[bool]) -> bool
@@ -37,17 +37,40 @@ fn last_turn(way: Way, code: &Code, marks: &[bool], next: &mut [bool]) -> bool
 }
 
 /// Marks a kind, where it isn't yet, and notes it.
-fn mark(n: u32, marks: &mut [bool], found: &mut Vec<u32>) -> Result<(), Memory>
+fn mark(n: usize, marks: &mut [bool], found: &mut Vec<usize>) -> Result<(), Memory>
     ensures { (k : ℕ) → marked marks.new k ≡ true → (marked marks.old k ≡ true) ⊎ (k ≡ n) }
 {
-    match marks.get(n as usize) {
+    match marks.get(n) {
         Some(false) => {
             found.push(n)?;
-            marks[n as usize] = true;
+            marks[n] = true;
             Ok(())
         }
         _ => Ok(()),
     }
+}
+
+/// Marks those that lead to this kind by the edges to it, which stand first among these.
+fn spread_along(
+    way: Way,
+    code: &Code,
+    edges: &[Edge],
+    kind: usize,
+    marks: &mut [bool],
+    found: &mut Vec<usize>,
+) -> Result<(), Memory>
+    requires edges { All (IsEdge way code.now) edges.now }
+    requires sound { AreSound way code.now marks.old }
+    requires leads { leads_to_isolate way code.now kind ≡ true }
+    ensures { AreSound way code.now marks.new }
+{
+    for edge in edges {
+        if edge.to as usize != kind {
+            return Ok(());
+        }
+        mark(edge.from as usize, marks, found)?;
+    }
+    Ok(())
 }
 
 /// Marks the kinds that lead to this one at once.
@@ -55,31 +78,25 @@ fn spread_from(
     way: Way,
     code: &Code,
     edges: &[Edge],
-    kind: u32,
+    kind: usize,
     marks: &mut [bool],
-    found: &mut Vec<u32>,
+    found: &mut Vec<usize>,
 ) -> Result<(), Memory>
     requires edges { All (IsEdge way code.now) edges.now }
     requires sound { AreSound way code.now marks.old }
-    requires marked { leads_to_isolate way code.now kind ≡ true }
+    requires leads { leads_to_isolate way code.now kind ≡ true }
     ensures { AreSound way code.now marks.new }
 {
-    let first = edges.partition_point(|edge| edge.to < kind);
-    for edge in &edges[first..] {
-        if edge.to != kind {
-            return Ok(());
-        }
-        mark(edge.from, marks, found)?;
-    }
-    Ok(())
+    let first = edges.partition_point(|edge| (edge.to as usize) < kind);
+    spread_along(way, code, &edges[first..], kind, marks, found)
 }
 
 /// The numbers of the marked kinds.
-fn marked_of(alloc: Global, marks: &[bool]) -> Result<Vec<u32>, Memory> {
+fn marked_of(alloc: Global, marks: &[bool]) -> Result<Vec<usize>, Memory> {
     let mut found = Vec::new(alloc);
     for (n, mark) in marks.iter().enumerate() {
         if *mark {
-            found.push(n as u32)?;
+            found.push(n)?;
         }
     }
     Ok(found)
@@ -102,7 +119,7 @@ fn spread(
         let Some(kind) = found.as_slice().get(n).copied() else {
             return Ok(());
         };
-        if is_marked(marks, Kind(kind)) {
+        if has_mark(marks, kind) {
             spread_from(way, code, edges, kind, marks, &mut found)?;
         }
     }

@@ -8,14 +8,21 @@ use crate::way::Way;
 use vale_base::Kind;
 use vale_code::{Code, Field, Impl, KindInfo, Ty};
 
+/// Whether kind n is marked.
+pub fn has_mark(marks: &[bool], n: usize) -> bool
+    ensures { result ≡ marked marks.now n }
+{
+    match marks.get(n) {
+        None => false,
+        Some(mark) => *mark,
+    }
+}
+
 /// Whether a kind is marked.
 pub fn is_marked(marks: &[bool], kind: Kind) -> bool
     ensures { result ≡ marked marks.now kind.0 }
 {
-    match marks.get(kind.0 as usize) {
-        None => false,
-        Some(mark) => *mark,
-    }
+    has_mark(marks, kind.0 as usize)
 }
 
 /// Whether a type is an isolate, or leads to a marked kind.
