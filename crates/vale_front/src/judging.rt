@@ -64,8 +64,9 @@ pub fn judge(alloc: Global, tree: Tree) -> Result<Sound, Fail<Refusal>>
         Err(Fail::Is(fault)) => return Err(Fail::Is(Refusal::of(fault))),
         Err(Fail::Memory) => return Err(Fail::Memory),
     }
-    if let Err(fault) = isolates(&core) {
-        return Err(Fail::Is(Refusal::of(fault)));
+    match isolates(&core) {
+        Ok(()) => {}
+        Err(fault) => return Err(Fail::Is(Refusal::of(fault))),
     }
     if !is_served(&core) {
         return Err(Fail::Is(NOT_SERVED));

@@ -1,11 +1,13 @@
 -- The first that is unlawful.
-use Rattle.std.proofs.Common.{◌≡◌, ℕ, zero, suc, ◌+◌, ◌-◌, ◌<◌, ◌≤◌, List, [], ◌∷◌, length, get_or, drop, Bool, true, false, Some, None, if◌then◌else◌, refl, sym, ap, ◌∙◌, arith, add-one, length-drop}
+use Rattle.std.proofs.Common.{◌≡◌, ℕ, zero, suc, ◌+◌, ◌<◌, ◌≤◌, List, [], ◌∷◌, length, get_or, drop, Bool, true, false, Some, None, if◌then◌else◌, refl, sym, ap, ◌∙◌, arith, add-one, length-drop}
 use Rattle.std.proofs.Math.Path.{fun_ext}
 use Rattle.std.proofs.lemmas.List.{drop_more}
 use Rattle.std.specs.Prelude.{slice_get, ◌||◌, nat_lt}
 use Rattle.vale_code.specs.Parts.{Parts}
 use Rattle.vale_code.specs.declared.func.Func.{Func}
+use Rattle.vale_base.specs.declared.name.Kind.{Kind}
 use Rattle.vale_code.specs.declared.ty.Ty.{Ty}
+use Rattle.vale_code.specs.declared.ty.Ty.TheVariants as t
 use Rattle.vale_cert.specs.Shape.{shape_fault, shape_fault_by, same_types, funcs_fault, func_is_lawful}
 use Rattle.vale_cert.specs.Types.{marked, reaches_isolate, isolates_under, is_isolate, array_test}
 use Rattle.vale_cert.specs.declared.facts.FuncFacts.{FuncFacts}
@@ -25,21 +27,24 @@ all_used (x ∷ xs) [] (suc i) lt few = all_used xs [] i (omega arith) few
 
 -- ---- isolates under arrays
 
-one_array : (code : Parts) (n : ℕ) (ty : Ty) → 0 < n → isolates_under code n ty ≡ (is_isolate ty || array_test code (isolates_under code (n - 1)) ty)
-one_array code zero ty lt = absurd (omega arith)
-one_array code (suc n) ty lt = let same : n ≡ suc n - 1 = omega arith in ap (λ (k : ℕ). is_isolate ty || array_test code (isolates_under code k) ty) same
-
-pub deeper : (code : Parts) (n : ℕ) (ty item : Ty) → 0 < n → is_isolate ty ≡ false → ((test : Ty → Bool) → array_test code test ty ≡ test item) → isolates_under code (n - 1) item ≡ isolates_under code n ty
-deeper code n ty item lt owner on =
-    sym (one_array code n ty lt ∙ ap (λ (b : Bool). b || array_test code (isolates_under code (n - 1)) ty) owner ∙ on (isolates_under code (n - 1)))
-
 or_none : (b : Bool) → b ≡ (b || false)
 or_none true = refl
 or_none false = refl
 
-pub no_deeper : (code : Parts) (n : ℕ) (ty : Ty) → 0 < n → ((test : Ty → Bool) → array_test code test ty ≡ false) → is_isolate ty ≡ isolates_under code n ty
-no_deeper code n ty lt none =
-    or_none (is_isolate ty) ∙ sym (one_array code n ty lt ∙ ap (λ (b : Bool). is_isolate ty || b) (none (isolates_under code (n - 1))))
+-- only owned arrays lead on
+no_array : (code : Parts) (n : ℕ) (ty : Ty) → ((test : Ty → Bool) → array_test code test ty ≡ false) → is_isolate ty ≡ isolates_under code n ty
+no_array code zero ty none = refl
+no_array code (suc n) ty none = or_none (is_isolate ty) ∙ sym (ap (λ (b : Bool). is_isolate ty || b) (none (isolates_under code n)))
+
+pub not_owned : (code : Parts) (n : ℕ) (ty : Ty) → ((kind : Kind) → ty ≡ t.Own kind → ⊥) → is_isolate ty ≡ isolates_under code n ty
+not_owned code n t.Void other = no_array code n t.Void (λ test. refl)
+not_owned code n t.Int other = no_array code n t.Int (λ test. refl)
+not_owned code n t.Truth other = no_array code n t.Truth (λ test. refl)
+not_owned code n t.Text other = no_array code n t.Text (λ test. refl)
+not_owned code n (t.Own kind) other = absurd (other kind refl)
+not_owned code n (t.Ref kind) other = no_array code n (t.Ref kind) (λ test. refl)
+not_owned code n (t.Frozen kind) other = no_array code n (t.Frozen kind) (λ test. refl)
+not_owned code n (t.Iso kind) other = no_array code n (t.Iso kind) (λ test. refl)
 
 -- ---- functions with their facts
 

@@ -4,12 +4,13 @@
 
 mod first;
 mod funcs;
+mod implementations;
 mod lawful;
-mod marks;
 mod numbers;
 mod shape;
 mod types;
 
 pub use first::{facts_of, shape_fault};
+pub use implementations::Implementations;
 pub use lawful::kind_of;
 pub use types::{is_copy, is_frozen, is_owned, is_void, same_type};

@@ -1,9 +1,10 @@
 // Rule 1: whether each kind, implementation and function is as it must be.
 ghost use Rattle.std.specs.Prelude.{◌≡◌, slice_get};
-ghost use Rattle.std.specs.List.{list_all, list_any};
+ghost use Rattle.std.specs.List.{list_all};
 ghost use Rattle.vale_code.specs.Kinds.{kind_of};
 ghost use Rattle.vale_cert.specs.Types.{marked};
-ghost use Rattle.vale_cert.specs.Shape.{is_pure_param, has_pure_types, takes_owner, is_destructor_of, destroys, takes_receiver, receives, same_types, same_params, implements_method, implements_each, implements, same_pair, field_is_lawful, method_is_lawful, kind_is_lawful, impl_is_lawful};
+ghost use Rattle.vale_cert.specs.Shape.{is_pure_param, has_pure_types, takes_owner, is_destructor_of, destroys, takes_receiver, receives, same_types, same_params, implements_method, implements_each, implements, field_is_lawful, method_is_lawful, kind_is_lawful};
+ghost use Rattle.vale_shape.specs.Under.{MarksArrays};
 
 use crate::lawful::{are_types, is_element, is_field, is_result, kind_of};
 use crate::numbers::is_text;
@@ -142,7 +143,8 @@ fn implements_each(funcs: &[Func], item: &Impl, methods: &[MethodInfo]) -> bool
     left.is_empty()
 }
 
-fn implements(code: &Code, item: &Impl) -> bool
+/// Whether an implementation has a function for each method, and they fit.
+pub fn implements(code: &Code, item: &Impl) -> bool
     ensures { result ≡ implements code.now.funcs item.now (kind_of code.now item.now.interface) (kind_of code.now item.now.of) }
 {
     match kind_of(code, item.interface) {
@@ -156,29 +158,12 @@ fn implements(code: &Code, item: &Impl) -> bool
     }
 }
 
-fn has_pair(item: &Impl, before: &[Impl]) -> bool
-    ensures { result ≡ list_any (same_pair item.now) before.now }
-{
-    for other in before {
-        if item.interface.0 == other.interface.0 && item.of.0 == other.of.0 {
-            return true;
-        }
-    }
-    false
-}
-
-/// Whether an implementation is as it must be, after the earlier ones.
-pub fn impl_is_lawful(code: &Code, before: &[Impl], item: &Impl) -> bool
-    ensures { result ≡ impl_is_lawful code.now before.now item.now }
-{
-    implements(code, item) && !has_pair(item, before)
-}
-
-fn fields_are_lawful(code: &Code, marks: &[bool], fields: &[Field]) -> bool
+fn fields_are_lawful(code: &Code, marks: &[bool], arrays: &[bool], fields: &[Field]) -> bool
+    requires { MarksArrays code.now arrays.now }
     ensures { result ≡ list_all (field_is_lawful code.now (marked marks.now)) fields.now }
 {
     for field in fields {
-        if !is_field(code, marks, field.ty) {
+        if !is_field(code, marks, arrays, field.ty) {
             return false;
         }
     }
@@ -208,7 +193,14 @@ fn methods_are_lawful(code: &Code, marks: &[bool], n: usize, methods: &[MethodIn
 }
 
 /// Whether kind n is as it must be.
-pub fn kind_is_lawful(code: &Code, marks: &[bool], n: usize, info: &KindInfo) -> bool
+pub fn kind_is_lawful(
+    code: &Code,
+    marks: &[bool],
+    arrays: &[bool],
+    n: usize,
+    info: &KindInfo,
+) -> bool
+    requires { MarksArrays code.now arrays.now }
     ensures { result ≡ kind_is_lawful code.now (marked marks.now) n info.now }
 {
     match info {
@@ -219,7 +211,7 @@ pub fn kind_is_lawful(code: &Code, marks: &[bool], n: usize, info: &KindInfo) ->
         } => {
             is_text(code, *name)
                 && destroys(n, code.funcs.as_slice(), *destructor)
-                && fields_are_lawful(code, marks, fields.as_slice())
+                && fields_are_lawful(code, marks, arrays, fields.as_slice())
         }
         KindInfo::Interface { name, methods } => {
             is_text(code, *name) && methods_are_lawful(code, marks, n, methods.as_slice())

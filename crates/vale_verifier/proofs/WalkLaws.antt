@@ -11,7 +11,6 @@ use Rattle.vale_cert.specs.Known.{Known, label_at, stated, may_enter}
 use Rattle.vale_cert.specs.Rules.{Row, row}
 use Rattle.vale_cert.specs.Walk.{after, broken, rules, enters, has_target, next_of, is_place, target_of, walk, goes_on, if_known, or_else, fault_of, known_after}
 use Rattle.vale_cert.specs.declared.facts.Label.{Label}
-use Rattle.vale_cert.specs.declared.facts.RegFact.{RegFact}
 use Rattle.vale_cert.specs.declared.fault.Fault.{Fault}
 use Rattle.vale_cert.specs.declared.rules.Kept.{Kept}
 use Rattle.vale_verifier.specs.Walking.{states_all}

@@ -1,14 +1,15 @@
 // What operands lead to, and what is read of objects.
 ghost use Rattle.std.specs.Prelude.{◌≡◌, ◌||◌, not, slice_get};
 ghost use Rattle.vale_cert.specs.Known.{fact_of, is_there};
-ghost use Rattle.vale_cert.specs.Objects.{types_of, field_of, item_of, cell_by, owner_kind, reference_kind, read_kind, is_through_frozen, found_alive, seen, raised, is_implemented, may_be_raised};
+ghost use Rattle.vale_cert.specs.Objects.{types_of, field_of, item_of, cell_by, owner_kind, reference_kind, read_kind, is_through_frozen, found_alive, seen, raised, may_be_raised};
+ghost use Rattle.vale_shape.specs.Known.{Knows};
 ghost use Rattle.vale_cert.specs.Rules.{is_readable, leads, finds_alive};
 
 use crate::known::{fact_of, is_there, set_fact};
 use vale_base::Kind;
 use vale_cert::{Kept, RegFact};
-use vale_code::{Code, Field, Impl, KindInfo, Ty};
-use vale_shape::{is_frozen, is_owned, kind_of};
+use vale_code::{Code, Field, KindInfo, Ty};
+use vale_shape::{Implementations, is_frozen, is_owned, kind_of};
 
 // ---- the kind that an operand leads to
 
@@ -192,24 +193,14 @@ pub fn raised(interface: Kind, ty: Ty) -> Ty
     }
 }
 
-fn is_implemented(impls: &[Impl], interface: Kind, kind: Kind) -> bool
-    ensures { result ≡ is_implemented impls.now interface kind }
-{
-    for item in impls {
-        if item.interface.0 == interface.0 && item.of.0 == kind.0 {
-            return true;
-        }
-    }
-    false
-}
-
 /// Whether it leads to a struct that implements the interface.
-pub fn may_be_raised(impls: &[Impl], interface: Kind, ty: Ty) -> bool
-    ensures { result ≡ may_be_raised impls.now interface ty }
+pub fn may_be_raised(code: &Code, known: &Implementations, interface: Kind, ty: Ty) -> bool
+    requires { Knows known.now code.now.impls }
+    ensures { result ≡ may_be_raised code.now.impls interface ty }
 {
     match ty {
         Ty::Own(kind) | Ty::Ref(kind) | Ty::Frozen(kind) | Ty::Iso(kind) => {
-            is_implemented(impls, interface, kind)
+            known.has(interface, kind)
         }
         _ => false,
     }

@@ -6,6 +6,7 @@ ghost use Rattle.vale_cert.specs.Known.{Known, label_at, may_enter};
 ghost use Rattle.vale_cert.specs.Walk.{goes_on, target_of, after, broken, rules, enters, has_target, is_place, next_of};
 ghost use Rattle.vale_cert.specs.declared.facts.Label.{Label as AnyLabel};
 ghost use Rattle.vale_cert.specs.declared.facts.RegFact.{RegFact as AnyFact};
+ghost use Rattle.vale_shape.specs.Known.{Knows};
 ghost use Rattle.vale_verifier.specs.Walking.{Ahead, known_of, has_or_none};
 
 use crate::known::may_enter;
@@ -13,6 +14,7 @@ use crate::labels::{find, front_at};
 use crate::rules::row_of;
 use vale_cert::{Kept, Label, RegFact};
 use vale_code::{Code, Func, Instr};
+use vale_shape::Implementations;
 
 /// Whether the instruction after it is a successor.
 fn goes_on(instr: &Instr) -> bool
@@ -138,6 +140,8 @@ fn lowest(kept: Kept, came: bool, enters: bool, lives: bool, leads: bool) -> Opt
 #[derive(Drop)]
 pub struct Standing<'a> {
     pub code: &'a Code,
+    /// The code's implementations.
+    pub known: &'a Implementations,
     pub func: &'a Func,
     /// The labels of the function.
     pub labels: &'a [Label],
@@ -151,6 +155,7 @@ pub struct Standing<'a> {
 
 /// The lowest rule that an instruction breaks, before which this is known; the depth and the registers are those after it.
 pub fn step(here: &Standing, depth: &mut u32, regs: &mut [RegFact], instr: &Instr) -> Option<u8>
+    requires known { Knows here.now.known.now here.now.code.now.impls }
     requires place { here.now.place < 2 ^ 32 }
     requires all { Ahead 0 here.now.labels.now }
     requires ahead { Ahead (here.now.place + 1) here.now.left.now }
@@ -158,7 +163,7 @@ pub fn step(here: &Standing, depth: &mut u32, regs: &mut [RegFact], instr: &Inst
     ensures rule { (base : ℕ) → result ≡ broken (rules here.now.code.now here.now.func.now here.now.labels.now base here.now.place here.now.came instr.now (record { depth = depth.old; regs = regs.old })) }
     ensures after { (base : ℕ) → after here.now.code.now here.now.func.now here.now.labels.now base instr.now (record { depth = depth.old; regs = regs.old }) ≡ record { depth = depth.new; regs = regs.new } }
 {
-    let row = row_of(here.code, here.func.result, *depth, regs, instr);
+    let row = row_of(here.code, here.known, here.func.result, *depth, regs, instr);
     *depth = row.depth;
     let enters = enters_labels(here.labels, here.left, here.place, row.depth, regs, instr);
     let leads = leads_on(here.func, here.labels, here.place, instr);

@@ -4,6 +4,7 @@ ghost use Rattle.vale_code.specs.Kinds.{kind_of};
 ghost use Rattle.vale_cert.specs.Known.{fact_of};
 ghost use Rattle.vale_cert.specs.Objects.{types_of, field_of, item_of, cell_by, owner_kind, reference_kind, method_of};
 ghost use Rattle.vale_cert.specs.Rules.{comes_back, calls_method, is_moved, moved_to, moves, drops, makes, fields_by, opens, lent_to, borrows, is_raised, raised_to, after_taking, upcasts, leads_as_owner, leads_as_reference, leads_to_read, reads_cell, reads_own, reads_found, measures, fills, gives_back, swaps, pushes, pops, reads, object_effect};
+ghost use Rattle.vale_shape.specs.Known.{Knows};
 
 use crate::arguments::{
     gets, if_types, is_usable, leave, pass, pass_all, put_fields, reads, take, take_fields,
@@ -16,8 +17,8 @@ use crate::cells::{
 use crate::known::{fact_of, is_free, is_there, set_fact};
 use vale_base::{Kind, WIDTH_LIMIT};
 use vale_cert::{Kept, RegFact};
-use vale_code::{Code, Field, Impl, Instr, KindInfo, MethodInfo, Ty};
-use vale_shape::{is_owned, kind_of};
+use vale_code::{Code, Field, Instr, KindInfo, MethodInfo, Ty};
+use vale_shape::{Implementations, is_owned, kind_of};
 
 // ---- methods
 
@@ -207,12 +208,13 @@ fn borrows(depth: u32, regs: &mut [RegFact], to: u32, a: u32) -> Kept
     Kept { present, ..kept }
 }
 
-fn is_raised(impls: &[Impl], interface: Kind, fact: RegFact) -> bool
-    ensures { result ≡ is_raised impls.now interface fact }
+fn is_raised(code: &Code, known: &Implementations, interface: Kind, fact: RegFact) -> bool
+    requires { Knows known.now code.now.impls }
+    ensures { result ≡ is_raised code.now.impls interface fact }
 {
     match fact {
         RegFact::Empty => true,
-        RegFact::Held { ty, .. } => may_be_raised(impls, interface, ty),
+        RegFact::Held { ty, .. } => may_be_raised(code, known, interface, ty),
     }
 }
 
@@ -238,17 +240,32 @@ fn take_out(regs: &mut [RegFact], a: u32, fact: RegFact)
     }
 }
 
-fn upcasts(impls: &[Impl], depth: u32, regs: &mut [RegFact], to: u32, a: u32, kind: Kind) -> Kept
-    ensures { upcasts impls.now depth regs.old to a kind ≡ record { kept = result; after = regs.new } }
+/// What an `upcast` takes, gives and wants.
+#[derive(Drop)]
+struct Upcast {
+    to: u32,
+    from: u32,
+    interface: Kind,
+}
+
+fn upcasts(
+    code: &Code,
+    known: &Implementations,
+    depth: u32,
+    regs: &mut [RegFact],
+    upcast: &Upcast,
+) -> Kept
+    requires { Knows known.now code.now.impls }
+    ensures { upcasts code.now.impls depth regs.old upcast.now.to upcast.now.from upcast.now.interface ≡ record { kept = result; after = regs.new } }
 {
-    let fact = fact_of(regs, a);
-    take_out(regs, a, fact);
+    let fact = fact_of(regs, upcast.from);
+    take_out(regs, upcast.from, fact);
     let kept = Kept {
-        types: is_raised(impls, kind, fact),
-        present: is_there(fact) && is_free(fact_of(regs, to)),
+        types: is_raised(code, known, upcast.interface, fact),
+        present: is_there(fact) && is_free(fact_of(regs, upcast.to)),
         depths: is_usable(depth, fact),
     };
-    set_fact(regs, to, raised_to(depth, kind, fact));
+    set_fact(regs, upcast.to, raised_to(depth, upcast.interface, fact));
     kept
 }
 
@@ -479,7 +496,14 @@ fn pop(code: &Code, depth: u32, regs: &mut [RegFact], to: u32, a: u32) -> Kept
 
 // ---- each instruction on objects
 
-pub fn object_effect(code: &Code, depth: u32, regs: &mut [RegFact], instr: &Instr) -> Kept
+pub fn object_effect(
+    code: &Code,
+    known: &Implementations,
+    depth: u32,
+    regs: &mut [RegFact],
+    instr: &Instr,
+) -> Kept
+    requires { Knows known.now code.now.impls }
     ensures { object_effect code.now depth regs.old instr.now ≡ record { kept = result; after = regs.new } }
 {
     match instr {
@@ -582,14 +606,14 @@ pub fn object_effect(code: &Code, depth: u32, regs: &mut [RegFact], instr: &Inst
         Instr::Pop { to, object, .. } => pop(code, depth, regs, *to, *object),
         Instr::Open { to, from } => opens(code, depth, regs, to.as_slice(), *from),
         Instr::Destroy { from, .. } => drops(depth, regs, *from),
-        Instr::Upcast { to, from, kind } => upcasts(
-            code.impls.as_slice(),
-            depth,
-            regs,
-            *to,
-            *from,
-            *kind,
-        ),
+        Instr::Upcast { to, from, kind } => {
+            let upcast = Upcast {
+                to: *to,
+                from: *from,
+                interface: *kind,
+            };
+            upcasts(code, known, depth, regs, &upcast)
+        }
         _ => if_types(false),
     }
 }

@@ -3,6 +3,7 @@ ghost use Rattle.std.specs.Prelude.{◌≡◌, Some, slice_get, true};
 ghost use Rattle.std.specs.List.{list_all};
 ghost use Rattle.vale_cert.specs.Known.{fact_of, is_there, has, is_free};
 ghost use Rattle.vale_cert.specs.Rules.{reads, gets, is_short, is_copied, copy_of, copies, is_ordered, is_comparable, are_alike, compares, is_printable, prints, calls, leaves, returns, control_effect, effect, row, if_types};
+ghost use Rattle.vale_shape.specs.Known.{Knows};
 
 use crate::arguments::{gets, if_types, is_usable, pass_all, reads, uses};
 use crate::known::{fact_of, has, is_free, is_there, set_fact};
@@ -10,7 +11,7 @@ use crate::objects::{come_back, object_effect};
 use vale_base::TEXT_LIMIT;
 use vale_cert::{Kept, RegFact};
 use vale_code::{Code, Func, Instr, Ty};
-use vale_shape::{is_copy, is_owned, is_void};
+use vale_shape::{Implementations, is_copy, is_owned, is_void};
 
 fn is_short(code: &Code, text: u32) -> bool
     ensures { result ≡ is_short (slice_get code.now.texts text) }
@@ -162,11 +163,13 @@ fn returns(depth: u32, regs: &mut [RegFact], a: u32, ty: Ty) -> Kept
 
 fn control_effect(
     code: &Code,
+    known: &Implementations,
     leaves_with: Ty,
     depth: u32,
     regs: &mut [RegFact],
     instr: &Instr,
 ) -> Kept
+    requires { Knows known.now code.now.impls }
     ensures { control_effect code.now leaves_with depth regs.old instr.now ≡ record { kept = result; after = regs.new } }
 {
     match instr {
@@ -176,7 +179,7 @@ fn control_effect(
         Instr::Call { to, func, args, .. } => calls(code, depth, regs, *to, *func, args.as_slice()),
         Instr::Ret { from } => returns(depth, regs, *from, leaves_with),
         Instr::RetVoid => leaves(depth, regs, if_types(is_void(leaves_with))),
-        _ => object_effect(code, depth, regs, instr),
+        _ => object_effect(code, known, depth, regs, instr),
     }
 }
 
@@ -213,7 +216,15 @@ fn bytes(depth: u32, regs: &mut [RegFact], to: u32, a: u32, x: u32) -> Kept
     gets(depth, regs, to, Ty::Int, kept)
 }
 
-fn effect(code: &Code, leaves_with: Ty, depth: u32, regs: &mut [RegFact], instr: &Instr) -> Kept
+fn effect(
+    code: &Code,
+    known: &Implementations,
+    leaves_with: Ty,
+    depth: u32,
+    regs: &mut [RegFact],
+    instr: &Instr,
+) -> Kept
+    requires { Knows known.now code.now.impls }
     ensures { effect code.now leaves_with depth regs.old instr.now ≡ record { kept = result; after = regs.new } }
 {
     match instr {
@@ -290,7 +301,7 @@ fn effect(code: &Code, leaves_with: Ty, depth: u32, regs: &mut [RegFact], instr:
         } => bytes(depth, regs, *to, *from, *index),
         Instr::TextOf { to, from } => of_one(depth, regs, *to, Ty::Text, *from, Ty::Int),
         Instr::IsNum { to, from } => of_one(depth, regs, *to, Ty::Truth, *from, Ty::Text),
-        _ => control_effect(code, leaves_with, depth, regs, instr),
+        _ => control_effect(code, known, leaves_with, depth, regs, instr),
     }
 }
 
@@ -305,10 +316,18 @@ pub struct Row {
 }
 
 /// The row of an instruction in a function with this result, and what it makes of the registers.
-pub fn row_of(code: &Code, leaves_with: Ty, depth: u32, regs: &mut [RegFact], instr: &Instr) -> Row
+pub fn row_of(
+    code: &Code,
+    known: &Implementations,
+    leaves_with: Ty,
+    depth: u32,
+    regs: &mut [RegFact],
+    instr: &Instr,
+) -> Row
+    requires { Knows known.now code.now.impls }
     ensures { row code.now leaves_with depth regs.old instr.now ≡ record { kept = result.kept; lives = result.lives; depth = result.depth; after = regs.new } }
 {
-    let kept = effect(code, leaves_with, depth, regs, instr);
+    let kept = effect(code, known, leaves_with, depth, regs, instr);
     Row {
         kept,
         lives: true,

@@ -5,6 +5,7 @@ ghost use Rattle.vale_code.specs.Sizes.{instructions};
 ghost use Rattle.vale_cert.specs.Shape.{funcs_fault, shape_fault};
 ghost use Rattle.vale_cert.specs.Types.{reaches_isolate};
 ghost use Rattle.vale_cert.specs.Walk.{walk, function_fault, functions_fault};
+ghost use Rattle.vale_shape.specs.Known.{Knows};
 ghost use Rattle.vale_verifier.specs.Walking.{Ahead, states_all, has_room};
 
 use crate::judge::{Standing, depth_after, step};
@@ -12,18 +13,20 @@ use crate::known::{enter, may_enter, state};
 use crate::labels::{behind, front_at, rise};
 use vale_cert::{Facts, Fault, FuncFacts, Label, RegFact};
 use vale_code::{Code, Func};
-use vale_shape::facts_of;
+use vale_shape::{Implementations, facts_of};
 
 /// The first rule that an instruction of a function breaks, before the first of which this is known; `came` says that the
 /// function's entry may enter the label there.
 fn walk(
     code: &Code,
+    known: &Implementations,
     func: &Func,
     labels: &[Label],
     base: u32,
     came: bool,
     regs: &mut [RegFact],
 ) -> Option<Fault>
+    requires known { Knows known.now code.now.impls }
     requires registers { length regs.old ≡ func.now.registers }
     requires labels { list_all (states_all func.now.registers) labels.now ≡ true }
     requires ahead { Ahead 0 labels.now }
@@ -37,12 +40,13 @@ fn walk(
         let at = base + place as u32;
         let label = front_at(left, place);
         left = behind(left, place);
-        let Some(known) = state(label, depth, regs) else {
+        let Some(stated) = state(label, depth, regs) else {
             return Some(Fault { rule: 7, at });
         };
-        let mut now = known;
+        let mut now = stated;
         let here = Standing {
             code,
+            known,
             func,
             labels,
             left,
@@ -62,11 +66,13 @@ fn walk(
 /// The first rule that is broken in a function, whose first instruction has this number.
 fn function_fault(
     code: &Code,
+    known: &Implementations,
     func: &Func,
     facts: &FuncFacts,
     base: u32,
     regs: &mut [RegFact],
 ) -> Option<Fault>
+    requires known { Knows known.now code.now.impls }
     requires registers { length regs.old ≡ func.now.registers }
     requires params { length func.now.params ≤ func.now.registers }
     requires labels { list_all (states_all func.now.registers) facts.now.labels ≡ true }
@@ -79,7 +85,7 @@ fn function_fault(
     }
     enter(regs, facts.live.as_slice(), func.params.as_slice());
     let came = may_enter(front_at(labels, 0), 0, regs);
-    walk(code, func, labels, base, came, regs)
+    walk(code, known, func, labels, base, came, regs)
 }
 
 fn larger(a: usize, b: usize) -> usize
@@ -102,10 +108,12 @@ pub fn most_registers(funcs: &[Func]) -> usize
 
 fn fault_among(
     code: &Code,
+    known: &Implementations,
     funcs: &[Func],
     facts: &[FuncFacts],
     regs: &mut [RegFact],
 ) -> Option<Fault>
+    requires known { Knows known.now code.now.impls }
     requires lawful { funcs_fault code.now (reaches_isolate code.now) 0 funcs.now facts.now ≡ None }
     requires room { list_all (has_room (length regs.old)) funcs.now ≡ true }
     requires small { instructions funcs.now < 2 ^ 32 }
@@ -117,7 +125,7 @@ fn fault_among(
             None => return None,
             Some(one) => {
                 let own = &mut regs[..func.registers as usize];
-                match function_fault(code, func, one, base, own) {
+                match function_fault(code, known, func, one, base, own) {
                     Some(fault) => return Some(fault),
                     None => {}
                 }
@@ -130,10 +138,22 @@ fn fault_among(
 
 /// The first rule that is broken in all functions, of a code whose shape is as it must be; `regs` has room for the registers
 /// of each.
-pub fn functions_fault(code: &Code, facts: &Facts, regs: &mut [RegFact]) -> Option<Fault>
+pub fn functions_fault(
+    code: &Code,
+    known: &Implementations,
+    facts: &Facts,
+    regs: &mut [RegFact],
+) -> Option<Fault>
+    requires known { Knows known.now code.now.impls }
     requires shape { shape_fault code.now facts.now ≡ None }
     requires room { list_all (has_room (length regs.old)) code.now.funcs ≡ true }
     ensures { result ≡ functions_fault code.now 0 code.now.funcs facts.now }
 {
-    fault_among(code, code.funcs.as_slice(), facts.funcs.as_slice(), regs)
+    fault_among(
+        code,
+        known,
+        code.funcs.as_slice(),
+        facts.funcs.as_slice(),
+        regs,
+    )
 }

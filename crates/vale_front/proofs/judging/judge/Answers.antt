@@ -35,7 +35,7 @@ returns-in-Err-Is-own-clause-refused c =
     let judged = sym c.has_interfaces.ensures ∙ c.if-has_interfaces.false in
     let why = rw c.in-Err-Is-own.field-0-is at c.in-Err-Is-own.ensures.fault in
     ill_owned judged c.in-Ok.decls (view_core c.in-Ok-type_all.core) c.in-Ok.ensures.declared c.in-Ok-type_all.ensures.typed c.in-Err-Is-own.fault why
-    c.of-in-Err-Is-own.ensures.code c.of-in-Err-Is-own.ensures.at
+    (rw c.in-Err-Is-own.field-0-is at c.of-in-Err-Is-own.ensures.code) (rw c.in-Err-Is-own.field-0-is at c.of-in-Err-Is-own.ensures.at)
 
 pub returns-in-Err-Is-regions-clause-refused : goal.returns-in-Err-Is-regions-clause-refused
 returns-in-Err-Is-regions-clause-refused c =
@@ -45,21 +45,21 @@ returns-in-Err-Is-regions-clause-refused c =
     ill_framed judged c.in-Ok.decls (view_core c.in-Ok-type_all.core) c.in-Ok.ensures.declared c.in-Ok-type_all.ensures.typed owns c.in-Err-Is-regions.fault why
     c.of-in-Err-Is-regions.ensures.code c.of-in-Err-Is-regions.ensures.at
 
-pub returns-in-Err-isolates-clause-refused : goal.returns-in-Err-isolates-clause-refused
-returns-in-Err-isolates-clause-refused c =
+pub returns-in-Err-clause-refused : goal.returns-in-Err-clause-refused
+returns-in-Err-clause-refused c =
     let judged = sym c.has_interfaces.ensures ∙ c.if-has_interfaces.false in
     let owns = rw c.in-Ok-own.ensures.same at c.in-Ok-own.ensures.owned in
     let frames = rw c.in-Ok-own.ensures.same at c.in-Ok-regions.ensures.framed in
-    let why = rw c.in-Ok-own.ensures.same at c.in-Err-isolates.ensures.fault in
-    ill_isolated judged c.in-Ok.decls (view_core c.in-Ok-type_all.core) c.in-Ok.ensures.declared c.in-Ok-type_all.ensures.typed owns frames c.in-Err-isolates.fault why
-    c.of-in-Err-isolates.ensures.code c.of-in-Err-isolates.ensures.at
+    let why = rw c.in-Ok-own.ensures.same at c.in-Err.ensures.fault in
+    ill_isolated judged c.in-Ok.decls (view_core c.in-Ok-type_all.core) c.in-Ok.ensures.declared c.in-Ok-type_all.ensures.typed owns frames c.in-Err.fault why
+    c.of-in-Err.ensures.code c.of-in-Err.ensures.at
 
 pub returns-then-not-is_served-clause-refused : goal.returns-then-not-is_served-clause-refused
 returns-then-not-is_served-clause-refused c =
     let judged = sym c.has_interfaces.ensures ∙ c.if-has_interfaces.false in
     let owns = rw c.in-Ok-own.ensures.same at c.in-Ok-own.ensures.owned in
     let frames = rw c.in-Ok-own.ensures.same at c.in-Ok-regions.ensures.framed in
-    let alone = rw c.in-Ok-own.ensures.same at c.isolates.ensures.isolated in
+    let alone = rw c.in-Ok-own.ensures.same at c.in-Ok-isolates.ensures.isolated in
     let unserved = rw c.in-Ok-own.ensures.same at (sym c.is_served.ensures ∙ c.if-not-is_served.true) in
     not_served judged c.in-Ok.decls (view_core c.in-Ok-type_all.core) c.in-Ok.ensures.declared c.in-Ok-type_all.ensures.typed owns frames alone unserved refl refl
 

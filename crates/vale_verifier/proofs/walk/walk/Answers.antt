@@ -21,7 +21,7 @@ returns-in-Some-step c =
     let labels = c.args.labels.now in
     let place = c.loop-place.place in
     let o = known_of c.loop-place.depth c.loop-place.regs in
-    let known : Known = record { depth = c.in-Some.known; regs = c.state.new.regs } in
+    let known : Known = record { depth = c.in-Some.stated; regs = c.state.new.regs } in
     let at : label_at labels place ≡ option_copied c.front_at-label.result = sym (c.front_at-label.ensures ∙ c.loop-place.invariant.same place (omega arith)) in
     let some : stated (label_at labels place) o ≡ Some known = ap (λ (l : Option Label). stated l o) at ∙ sym c.in-Some.ensures in
     let inside = subst (λ (b : List Instr). place < length b) c.as_slice-instr-items.ensures c.loop-place-test.true in
@@ -34,7 +34,7 @@ loop-place-preserved c =
     let labels = c.args.labels.now in
     let place = c.loop-place.place in
     let o = known_of c.loop-place.depth c.loop-place.regs in
-    let known : Known = record { depth = c.in-Some.known; regs = c.state.new.regs } in
+    let known : Known = record { depth = c.in-Some.stated; regs = c.state.new.regs } in
     let at : label_at labels place ≡ option_copied c.front_at-label.result = sym (c.front_at-label.ensures ∙ c.loop-place.invariant.same place (omega arith)) in
     let some : stated (label_at labels place) o ≡ Some known = ap (λ (l : Option Label). stated l o) at ∙ sym c.in-Some.ensures in
     let inside = subst (λ (b : List Instr). place < length b) c.as_slice-instr-items.ensures c.loop-place-test.true in
