@@ -1,0 +1,160 @@
+-- What blocks make, by what their statements make.
+use Rattle.std.proofs.Common.{◌≡◌, ℕ, ◌+◌, List, [], ◌∷◌, ◌++◌, length, refl, ap, sym, ◌∙◌}
+use Rattle.std.specs.Prelude.{Bool, true, false, ◌&&◌, if◌then◌else◌}
+use Rattle.vale_base.specs.declared.spot.Spot.{Spot}
+use Rattle.vale_syntax.specs.declared.tree.NameAt.{NameAt}
+use Rattle.vale_rules_spec.specs.Types as y
+use Rattle.vale_rules_spec.specs.Typed as t
+use Rattle.vale_rules_spec.specs.Typed.{type}
+use Rattle.vale_model.specs.Expressions.{numbers_of}
+use Rattle.vale_code.specs.declared.instr.Instr.{Instr}
+use Rattle.vale_code.specs.declared.instr.Instr.TheVariants as i
+use Rattle.vale_lowering.specs.Instructions.{stuck, only_if, registers_from}
+use Rattle.vale_lowering_objects.specs.Scopes.{Gives, void, gives_of, is_value, agree, Entry, entry, Scope, Gone, without, After, comes, then_after, Around}
+use Rattle.vale_lowering_objects.specs.Lowered.{all_gives, then_code, if_comes, hand, drop_entry, locals_code, locals_after, expr_code, expr_after, stmts_code, stmts_after, stmt_code, stmt_after}
+use Rattle.vale_lower_flow.specs.Closing.{dropped}
+use Rattle.vale_lower_flow.specs.Flow.{Going, emitted, put, arrived, only, mark_of, begun, ended, filled, if_there}
+use Rattle.vale_lower_flow.proofs.PartLaws.{Part, only_is, then_is, there_is, put_then, fill_then, nothing_is}
+use Rattle.vale_lower_parts.specs.Located.{Rest, Leaves, located, at_rest}
+use Rattle.vale_lower_parts.specs.Emitted.{expr_emitted, stmts_emitted, stmt_emitted, block_emitted}
+
+-- what may be done where a run comes
+there_by : (xs : List Instr) (f : Going) (k : Bool) → f.comes ≡ k → if_there (λ place g. xs) f ≡ (if k then put xs f else f)
+unfolding if_there put
+there_by xs f true e = ap (λ b. if b then record { code = f.code ++ xs; gone = f.gone; comes = true } else f) e
+there_by xs f false e = ap (λ b. if b then record { code = f.code ++ xs; gone = f.gone; comes = true } else f) e
+
+pub there_put : (xs : List Instr) (f : Going) → f.comes ≡ true → if_there (λ place g. xs) f ≡ put xs f
+there_put xs f e = there_by xs f true e
+
+pub there_not : (xs : List Instr) (f : Going) → f.comes ≡ false → if_there (λ place g. xs) f ≡ f
+there_not xs f e = there_by xs f false e
+
+-- ---- locals
+
+module _ (end : Spot) (after : Leaves) (rest : Rest) where
+  pub none_located : (h : ℕ) (s : Scope) (f : Going) → located end after rest [] [] h s f ≡ at_rest end after rest h s f
+  unfolding located at_rest
+  none_located h s f = refl
+
+  pub more_located : (n : ℕ) (ns : List ℕ) (q : Gives) (qs : List Gives) (h : ℕ) (s : Scope) (f : Going) →
+      located end after rest (n ∷ ns) (q ∷ qs) h s f ≡ only (is_value q) (length f.code) h (dropped (entry n h q) end (located end after rest ns qs (h + 1) (entry n h q ∷ s) (filled h f)))
+  unfolding located dropped
+  more_located n ns q qs h s f =
+      let inner : Scope = entry n h q ∷ s in
+      let one : Part = λ place g. locals_code ns qs end place (h + 1) inner g after rest in
+      let leaves = λ g. locals_after ns qs (h + 1) inner g after in
+      let drops : Part = λ place g. drop_entry (entry n h q) g end in
+      sym (ap (λ z. only (is_value q) (length f.code) h (if_there drops z)) (fill_then h one leaves f)
+      ∙ ap (λ z. only (is_value q) (length f.code) h z) (there_is drops (λ place g. one place (without h g)) (λ g. leaves (without h g)) f)
+      ∙ only_is (λ g. is_value q) h (λ place g. if_comes place (one place (without h g)) (leaves (without h g)) drops) (λ g. leaves (without h g)) f)
+
+  pub fewer_located : (n : ℕ) (ns : List ℕ) (h : ℕ) (s : Scope) (f : Going) → located end after rest (n ∷ ns) [] h s f ≡ only false (length f.code) h (at_rest end after rest h s f)
+  unfolding located at_rest
+  fewer_located n ns h s f = sym (only_is (λ g. false) h (λ place g. rest place h s g) (λ g. after h s g) f)
+
+  pub others_located : (q : Gives) (qs : List Gives) (h : ℕ) (s : Scope) (f : Going) → located end after rest [] (q ∷ qs) h s f ≡ only false (length f.code) h (at_rest end after rest h s f)
+  unfolding located at_rest
+  others_located q qs h s f = sym (only_is (λ g. false) h (λ place g. rest place h s g) (λ g. after h s g) f)
+
+-- ---- statements one after another
+
+module _ (a : Around) (q : Gives) (end : Spot) (to : ℕ) where
+  pub block_is : (at : Spot) (x : y.Ty) (ss : t.Stmts) (h : ℕ) (s : Scope) (f : Going) → block_emitted a q (t.block at end x ss) to h s f ≡ stmts_emitted a q end ss to h s f
+  unfolding block_emitted stmts_emitted
+  block_is at x ss h s f = refl
+
+  module _ (h : ℕ) (s : Scope) where
+    pub no_stmts_is : (f : Going) → stmts_emitted a q end t.no_stmts to h s f ≡ only (agree q void) (length f.code) h (arrived f)
+    unfolding stmts_emitted
+    no_stmts_is f =
+        sym (ap (λ z. only (agree q void) (length f.code) h z) (nothing_is f) ∙ only_is (λ g. agree q void) h (λ place g. []) (λ g. comes g) f)
+
+    pub last_is : (e : t.Expr) (f : Going) → stmts_emitted a q end (t.last e) to h s f
+        ≡ only (agree q (gives_of (type e))) (length f.code) h (if_there (λ place g. hand q to h) (expr_emitted a e h s f))
+    unfolding stmts_emitted expr_emitted
+    last_is e f =
+        let one : Part = λ place g. expr_code a e place h s g in
+        let after = λ g. expr_after e h s g in
+        let ok = agree q (gives_of (type e)) in
+        sym (ap (λ z. only ok (length f.code) h z) (there_is (λ place g. hand q to h) one after f)
+        ∙ only_is (λ g. ok) h (λ place g. if_comes place (one place g) (after g) (λ place g. hand q to h)) after f)
+
+    pub declare_is : (n : NameAt) (x : y.Ty) (e : t.Expr) (ss : t.Stmts) (f : Going) →
+        let local = entry n.name.0 h (gives_of x) in
+        let f1 = expr_emitted a e h s f in
+        stmts_emitted a q end (t.more_stmts (t.declare n x e) ss) to h s f
+        ≡ only (is_value (gives_of (type e)) && is_value (gives_of x)) (length f.code) h (ended (mark_of f1)
+        (dropped local end (stmts_emitted a q end ss to (h + 1) (local ∷ s) (filled h (begun (h + 1) f1)))))
+    unfolding stmts_emitted expr_emitted dropped
+    declare_is n x e ss f =
+        let local : Entry = entry n.name.0 h (gives_of x) in
+        let inner : Scope = local ∷ s in
+        let one : Part = λ place g. expr_code a e place h s g in
+        let leaves = λ g. expr_after e h s g in
+        let two : Part = λ place g. stmts_code a q end ss place to (h + 1) inner g in
+        let more = λ g. stmts_after ss (h + 1) inner g in
+        let drops : Part = λ place g. drop_entry local g end in
+        let ok = is_value (gives_of (type e)) && is_value (gives_of x) in
+        let f1 = emitted one leaves f in
+        let f2 = begun (h + 1) f1 in
+        let all : Part = λ place g. if_comes place (two place (without h g)) (more (without h g)) drops in
+        sym (ap (λ z. only ok (length f.code) h (ended (mark_of f1) (if_there drops z))) (fill_then h two more f2)
+        ∙ ap (λ z. only ok (length f.code) h (ended (mark_of f1) z)) (there_is drops (λ place g. two place (without h g)) (λ g. more (without h g)) f2)
+        ∙ ap (λ z. only ok (length f.code) h z) (then_is (h + 1) one all leaves (λ g. more (without h g)) f)
+        ∙ only_is (λ g. ok) h (λ place g. then_code place (h + 1) (one place g) (leaves g) all) (λ g. then_after (leaves g) (λ g. more (without h g))) f)
+
+    pub destructure_is : (at : Spot) (ns : List NameAt) (xs : List y.Ty) (e : t.Expr) (ss : t.Stmts) (f : Going) →
+        let f1 = expr_emitted a e h s f in
+        stmts_emitted a q end (t.more_stmts (t.destructure at ns xs e) ss) to h s f
+        ≡ only (is_value (gives_of (type e))) (length f.code) h (ended (mark_of f1)
+        (located end (λ h s g. stmts_after ss h s g) (λ place h s g. stmts_code a q end ss place to h s g) (numbers_of ns) (all_gives xs) h s (put (i.Open (registers_from h (length (numbers_of ns))) h ∷ []) (begun (h + 1) f1))))
+    unfolding stmts_emitted expr_emitted located
+    destructure_is at ns xs e ss f =
+        let one : Part = λ place g. expr_code a e place h s g in
+        let leaves = λ g. expr_after e h s g in
+        let opened : List Instr = i.Open (registers_from h (length (numbers_of ns))) h ∷ [] in
+        let after : Leaves = λ h s g. stmts_after ss h s g in
+        let rest : Rest = λ place h s g. stmts_code a q end ss place to h s g in
+        let two : Part = λ place g. locals_code (numbers_of ns) (all_gives xs) end place h s g after rest in
+        let more = λ g. locals_after (numbers_of ns) (all_gives xs) h s g after in
+        let ok = is_value (gives_of (type e)) in
+        let f1 = emitted one leaves f in
+        let all : Part = λ place g. opened ++ two (place + length opened) g in
+        sym (ap (λ z. only ok (length f.code) h (ended (mark_of f1) z)) (put_then opened two more (begun (h + 1) f1))
+        ∙ ap (λ z. only ok (length f.code) h z) (then_is (h + 1) one all leaves more f)
+        ∙ only_is (λ g. ok) h (λ place g. then_code place (h + 1) (one place g) (leaves g) all) (λ g. then_after (leaves g) more) f)
+
+    -- any other statement
+    abbrev pub next_stmt : t.Stmt → t.Stmts → Going → Going
+    next_stmt x ss f = ended (mark_of (stmt_emitted a x h s f)) (stmts_emitted a q end ss to h s (begun h (stmt_emitted a x h s f)))
+
+    next_by : (x : t.Stmt) (ss : t.Stmts) (f : Going) → next_stmt x ss f
+        ≡ emitted (λ place g. then_code place h (stmt_code a x place h s g) (stmt_after x h s g) (λ place g. stmts_code a q end ss place to h s g)) (λ g. then_after (stmt_after x h s g) (λ g. stmts_after ss h s g)) f
+    unfolding stmts_emitted stmt_emitted
+    next_by x ss f =
+        then_is h (λ place g. stmt_code a x place h s g) (λ place g. stmts_code a q end ss place to h s g) (λ g. stmt_after x h s g) (λ g. stmts_after ss h s g) f
+
+    pub return_nothing_next : (at : Spot) (ss : t.Stmts) (f : Going) → stmts_emitted a q end (t.more_stmts (t.return_nothing at) ss) to h s f ≡ next_stmt (t.return_nothing at) ss f
+    unfolding stmts_emitted
+    return_nothing_next at ss f = sym (next_by (t.return_nothing at) ss f)
+
+    pub return_value_next : (at : Spot) (e : t.Expr) (ss : t.Stmts) (f : Going) → stmts_emitted a q end (t.more_stmts (t.return_value at e) ss) to h s f ≡ next_stmt (t.return_value at e) ss f
+    unfolding stmts_emitted
+    return_value_next at e ss f = sym (next_by (t.return_value at e) ss f)
+
+    pub while_next : (at : Spot) (c : t.Expr) (b : t.Block) (ss : t.Stmts) (f : Going) → stmts_emitted a q end (t.more_stmts (t.while at c b) ss) to h s f ≡ next_stmt (t.while at c b) ss f
+    unfolding stmts_emitted
+    while_next at c b ss f = sym (next_by (t.while at c b) ss f)
+
+    pub foreach_next : (at : Spot) (n : NameAt) (c e : t.Expr) (b : t.Block) (ss : t.Stmts) (f : Going) → stmts_emitted a q end (t.more_stmts (t.foreach at n c e b) ss) to h s f ≡ next_stmt (t.foreach at n c e b) ss f
+    unfolding stmts_emitted
+    foreach_next at n c e b ss f = sym (next_by (t.foreach at n c e b) ss f)
+
+    pub form_next : (z : t.Form) (ss : t.Stmts) (f : Going) → stmts_emitted a q end (t.more_stmts (t.form_stmt z) ss) to h s f ≡ next_stmt (t.form_stmt z) ss f
+    unfolding stmts_emitted
+    form_next z ss f = sym (next_by (t.form_stmt z) ss f)
+
+    pub express_next : (e : t.Expr) (ss : t.Stmts) (f : Going) → stmts_emitted a q end (t.more_stmts (t.express e) ss) to h s f ≡ next_stmt (t.express e) ss f
+    unfolding stmts_emitted
+    express_next e ss f = sym (next_by (t.express e) ss f)

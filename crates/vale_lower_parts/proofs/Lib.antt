@@ -1,0 +1,5 @@
+pub mod NodeLaws
+pub mod StepLaws
+pub mod FormLaws
+pub mod BlockLaws
+pub mod StmtLaws
