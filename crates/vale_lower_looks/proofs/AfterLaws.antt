@@ -50,6 +50,14 @@ locals_come (n ∷ ns) (q ∷ qs) h s g rest b each = locals_come ns qs (h + 1) 
 locals_come [] qs h s g rest b each = each h s g
 locals_come (n ∷ ns) [] h s g rest b each = each h s g
 
+and_back : (a b c : Bool) → ((a && b) && c) ≡ (a && (b && c))
+and_back true b c = refl
+and_back false b c = refl
+
+and_true : (a : Bool) → (a && true) ≡ a
+and_true true = refl
+and_true false = refl
+
 mutual
   pub expr_comes_is : (e : Expr) (h : ℕ) (s : Scope) (g : Gone) → comes_in (expr_after e h s g) ≡ expr_comes e
   expr_comes_is (expr x node) h s g = node_is node h s g
@@ -73,10 +81,6 @@ mutual
   node_is (number at n) h s g = refl
   node_is (quote at text) h s g = refl
   node_is (truth at b) h s g = refl
-
-  and_back : (a b c : Bool) → ((a && b) && c) ≡ (a && (b && c))
-  and_back true b c = refl
-  and_back false b c = refl
 
   start_is : (e : Expr) (view : y.View) (changes : ℕ → Bool) (h : ℕ) (s : Scope) (g : Gone) (rest : ℕ → Gone → After) (b : Bool) → ((k : ℕ) (g : Gone) → comes_in (rest k g) ≡ b) → comes_in (start_after e view changes h s g rest) ≡ (expr_comes e && b)
   start_is (expr y (name n is_outer false)) view changes h s g rest b each = each (free_register (stays_of (find n.name.0 s) view (changes n.name.0)) h) g
@@ -125,10 +129,6 @@ mutual
   place_is (expr x (array at y es)) q h s g = refl
   place_is (expr x (iso at b)) q h s g = refl
   place_is (expr x (form f)) q h s g = refl
-
-  and_true : (a : Bool) → (a && true) ≡ a
-  and_true true = refl
-  and_true false = refl
 
   targets_is : (xs : Steps) (h : ℕ) (s : Scope) (g : Gone) → comes_in (targets_after xs h s g) ≡ steps_come xs
   targets_is no_steps h s g = refl

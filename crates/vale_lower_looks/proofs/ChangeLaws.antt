@@ -54,10 +54,12 @@ module _ (l : ℕ) where
       ∙ or_or (else_if_changes l e) (elses_change l (listed t.more_elses es t.no_else)) (elses_change l end)
       ∙ ap (λ z. z || elses_change l end) (sym (else_if_first e (listed t.more_elses es t.no_else)))
 
-  pub if_by_parts : (at : Spot) (c : Expr) (b : Block) (es : List ElseIf) (o : Option Block) → form_changes l (view_form (f.If at c b es o)) ≡ (expr_changes l (view_expr c) || (block_changes l (view_block b) || (elses_change l (elses_of (map view_else_if es) None) || elses_change l (else_end (option_map view_block o)))))
+  pub if_by_parts : (at : Spot) (c : Expr) (b : Block) (es : List ElseIf) (o : Option Block) → form_changes l (view_form (f.If at c b es o)) ≡ (((expr_changes l (view_expr c) || block_changes l (view_block b)) || elses_change l (elses_of (map view_else_if es) None)) || elses_change l (else_end (option_map view_block o)))
   if_by_parts at c b es o =
       ap (λ z. form_changes l z) (v.of_if at c b es o)
       ∙ ap (λ z. expr_changes l (view_expr c) || (block_changes l (view_block b) || z)) (elses_by_parts (map view_else_if es) (else_end (option_map view_block o)))
+      ∙ or_or (expr_changes l (view_expr c)) (block_changes l (view_block b)) (elses_change l (elses_of (map view_else_if es) None) || elses_change l (else_end (option_map view_block o)))
+      ∙ or_or (expr_changes l (view_expr c) || block_changes l (view_block b)) (elses_change l (elses_of (map view_else_if es) None)) (elses_change l (else_end (option_map view_block o)))
 
 pub ruleset exprs = (expr_by_parts, local_by_parts)
 

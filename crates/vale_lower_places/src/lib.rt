@@ -5,9 +5,7 @@ mod locals;
 mod places;
 mod values;
 
-pub use locals::{
-    drop_scope, drop_value, put_exchange, put_hand, put_lent, put_moved, put_store,
-};
+pub use locals::{drop_scope, drop_value, put_exchange, put_hand, put_lent, put_moved, put_store};
 pub use places::{
     Origin, is_there, origin_of, put_element, put_field, put_stuck, swap_element, swap_field,
 };

@@ -28,12 +28,7 @@ fn move_local(flow: &mut Flow, local: Local, h: u32) -> Result<(), Memory>
 
 /// The owner of a local is moved to the register, where an owner is wanted.
 #[tactic(auto, using(crate::proofs::PlaceLaws::moves), unfolding(crate::specs::Places::moved))]
-pub fn put_moved(
-    flow: &mut Flow,
-    local: Option<Local>,
-    gives: Gives,
-    h: u32,
-) -> Result<(), Memory>
+pub fn put_moved(flow: &mut Flow, local: Option<Local>, gives: Gives, h: u32) -> Result<(), Memory>
     ensures { OnOk result (going flow.new ≡ moved (option_map entry_of local) (view_gives gives) h (going flow.old)) }
 {
     let Some(local) = local else {

@@ -145,13 +145,7 @@ fn compare(choice: u8, h: u32, next: u32) -> Instr
 }
 
 /// The operator between a register and the next.
-pub fn put_operator(
-    flow: &mut Flow,
-    op: BinaryOp,
-    ty: &Ty,
-    at: Spot,
-    h: u32,
-) -> Result<(), Memory>
+pub fn put_operator(flow: &mut Flow, op: BinaryOp, ty: &Ty, at: Spot, h: u32) -> Result<(), Memory>
     ensures { OnOk result (going flow.new ≡ put (operator op (view_ty ty.now) at h ∷ []) (going flow.old)) }
 {
     let next = above(h)?;
@@ -183,12 +177,7 @@ pub fn put_unary(flow: &mut Flow, op: UnaryOp, at: Spot, h: u32) -> Result<(), M
 }
 
 /// The end of a freeze, by whether its block's type is an owner's.
-pub fn put_thaw(
-    flow: &mut Flow,
-    is_owner: bool,
-    gives: Gives,
-    h: u32,
-) -> Result<(), Memory>
+pub fn put_thaw(flow: &mut Flow, is_owner: bool, gives: Gives, h: u32) -> Result<(), Memory>
     ensures { OnOk result (going flow.new ≡ put (thaw_code is_owner (view_gives gives) h) (going flow.old)) }
 {
     if !is_owner {
