@@ -1,0 +1,48 @@
+-- Types that are added one after another, and those that stand once.
+use Rattle.std.proofs.Common.{◌≡◌, ℕ, List, [], ◌∷◌, ◌++◌, refl, ap, sym, ◌∙◌, append_assoc, append-nil}
+use Rattle.std.specs.Prelude.{Bool, true, false, ◌||◌, if◌then◌else◌}
+use Rattle.std.specs.List.{list_any}
+use Rattle.vale_rules_spec.specs.Types.{Ty, same}
+use Rattle.vale_model.specs.Kinds.{once}
+use Rattle.vale_lower_kinds.specs.Added.{put_type, added}
+
+pub added_more : (ks xs ys : List Ty) → added ks (xs ++ ys) ≡ added (added ks xs) ys
+added_more ks [] ys = refl
+added_more ks (x ∷ xs) ys = added_more (put_type ks x) xs ys
+
+pub added_one : (ks : List Ty) (x : Ty) → added ks (x ∷ []) ≡ put_type ks x
+added_one ks x = refl
+
+or_assoc : (a b c : Bool) → ((a || b) || c) ≡ (a || (b || c))
+or_assoc true b c = refl
+or_assoc false b c = refl
+
+or_swap : (a b : Bool) → (a || b) ≡ (b || a)
+or_swap true true = refl
+or_swap true false = refl
+or_swap false true = refl
+or_swap false false = refl
+
+any_last : (test : Ty → Bool) (ks : List Ty) (x : Ty) → list_any test (ks ++ x ∷ []) ≡ (test x || list_any test ks)
+any_last test [] x = refl
+any_last test (k ∷ ks) x = ap (λ b. test k || b) (any_last test ks x) ∙ sym (or_assoc (test k) (test x) (list_any test ks)) ∙ ap (λ b. b || list_any test ks) (or_swap (test k) (test x)) ∙ or_assoc (test x) (test k) (list_any test ks)
+
+abbrev AsMany : List Ty → List Ty → Type 0
+AsMany before ks = (y : Ty) → list_any (same y) before ≡ list_any (same y) ks
+
+once_by : (b : Bool) (before ks xs : List Ty) (x : Ty) → AsMany before ks
+    → ((before' ks' : List Ty) → AsMany before' ks' → ks' ++ once before' xs ≡ added ks' xs)
+    → ks ++ (if b then once before xs else x ∷ once (x ∷ before) xs) ≡ added (if b then ks else ks ++ x ∷ []) xs
+once_by true before ks xs x as rest = rest before ks as
+once_by false before ks xs x as rest =
+    sym (append_assoc ks (x ∷ []) (once (x ∷ before) xs))
+    ∙ rest (x ∷ before) (ks ++ x ∷ []) (λ y. ap (λ b. same y x || b) (as y) ∙ sym (any_last (same y) ks x))
+
+once_added : (before ks xs : List Ty) → AsMany before ks → ks ++ once before xs ≡ added ks xs
+once_added before ks [] as = append-nil ks
+once_added before ks (x ∷ xs) as =
+    once_by (list_any (same x) before) before ks xs x as (λ before' ks' more. once_added before' ks' xs more)
+    ∙ ap (λ b. added (if b then ks else ks ++ x ∷ []) xs) (as x)
+
+pub once_is : (xs : List Ty) → once [] xs ≡ added [] xs
+once_is xs = once_added [] [] xs (λ y. refl)
