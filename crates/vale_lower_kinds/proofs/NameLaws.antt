@@ -1,10 +1,12 @@
 -- Names that are found and names that are new.
-use Rattle.std.proofs.Common.{◌≡◌, ℕ, zero, suc, ◌+◌, List, [], ◌∷◌, ◌++◌, length, refl, ap, sym, ◌∙◌, arith}
+use Rattle.std.proofs.Common.{◌≡◌, ℕ, zero, suc, ◌+◌, List, [], ◌∷◌, ◌++◌, length, refl, ap, sym, ◌∙◌, arith, true≢false}
+use Rattle.std.proofs.lemmas.Bool.{eq-eqb, eqb-true}
+use Rattle.vale_base.specs.declared.name.Name.{Name}
 use Rattle.std.specs.Prelude.{Bool, true, false, ◌==◌, ◌||◌, Option, Some, None, map, if◌then◌else◌}
 use Rattle.std.specs.List.{list_any}
 use Rattle.vale_rules_spec.specs.Types.{Ty, kind, same}
 use Rattle.vale_lower_kinds.specs.Added.{put_type, added, kind_types}
-use Rattle.vale_lower_kinds.specs.Names.{name_place}
+use Rattle.vale_lower_kinds.specs.Names.{name_place, names_of}
 
 abbrev is_some : {A : Type 0} → Option A → Bool
 is_some (Some x) = true
@@ -30,9 +32,6 @@ pub put_new : (ns : List ℕ) (n : ℕ) → name_place 0 n ns ≡ None → put_t
 put_new ns n e = ap (λ b. if b then kind_types ns else kind_types ns ++ kind n ∷ []) (sym (place_any 0 n ns) ∙ ap is_some e) ∙ sym (types_last ns n)
 
 -- one name more
-last_by : (b c : Bool) (at k : ℕ) (rest : Option ℕ) → (if b then Some at else (if c then Some k else rest)) ≡ (if b then Some at else (if c then Some k else rest))
-last_by b c at k rest = refl
-
 abbrev or_else_place : Option ℕ → Option ℕ → Option ℕ
 or_else_place (Some k) other = Some k
 or_else_place None other = other
@@ -47,3 +46,51 @@ place_last at n m (k ∷ ns) =
     let e : (at + 1) + length ns ≡ at + suc (length ns) = omega arith in
     more_by (n == k) at (name_place (at + 1) n (ns ++ m ∷ [])) (if n == m then Some (at + suc (length ns)) else None) (name_place (at + 1) n ns)
     (place_last (at + 1) n m ns ∙ ap (λ j. or_else_place (name_place (at + 1) n ns) (if n == m then Some j else None)) e)
+
+flip_by : (m n : ℕ) (b c : Bool) → (m == n) ≡ b → (n == m) ≡ c → b ≡ c
+flip_by m n true true e f = refl
+flip_by m n false false e f = refl
+flip_by m n true false e f = sym (eq-eqb n m (sym (eqb-true m n e))) ∙ f
+flip_by m n false true e f = sym e ∙ eq-eqb m n (sym (eqb-true n m f))
+
+or_nothing : (p : Option ℕ) → p ≡ or_else_place p None
+or_nothing None = refl
+or_nothing (Some k) = refl
+
+after_by : (b c : Bool) (p : Option ℕ) (k : ℕ) → b ≡ c → (b ≡ true → p ≡ None) → (if b then Some k else p) ≡ or_else_place p (if c then Some k else None)
+after_by true true p k e none = sym (ap (λ z. or_else_place z (Some k)) (none refl))
+after_by false false p k e none = or_nothing p
+after_by true false p k e none = absurd (true≢false e)
+after_by false true p k e none = absurd (true≢false (sym e))
+
+-- what is found after a name got the place at the end
+pub place_after : (ns : List ℕ) (n m : ℕ) → name_place 0 m ns ≡ None → (if m == n then Some (length ns) else name_place 0 n ns) ≡ name_place 0 n (ns ++ m ∷ [])
+place_after ns n m new =
+    after_by (m == n) (n == m) (name_place 0 n ns) (length ns) (flip_by m n (m == n) (n == m) refl refl) (λ e. ap (λ k. name_place 0 k ns) (sym (eqb-true m n e)) ∙ new)
+    ∙ sym (place_last 0 n m ns)
+
+names_last : (all : List Name) (m : Name) → names_of (all ++ m ∷ []) ≡ names_of all ++ m.0 ∷ []
+names_last [] m = refl
+names_last (n ∷ all) m = ap (λ z. n.0 ∷ z) (names_last all m)
+
+names_length : (all : List Name) → length (names_of all) ≡ length all
+names_length [] = refl
+names_length (n ∷ all) = ap suc (names_length all)
+
+pub numbered_after : (all : List Name) (m : Name) (old new : ℕ → Option ℕ) (at : ℕ) → at ≡ length all → None ≡ old m.0
+    → ((n : ℕ) → old n ≡ name_place 0 n (names_of all)) → ((n : ℕ) → new n ≡ (if m.0 == n then Some at else old n))
+    → (n : ℕ) → new n ≡ name_place 0 n (names_of (all ++ m ∷ []))
+numbered_after all m old new at is none each more n =
+    more n ∙ ap (λ k. if m.0 == n then Some k else old n) (is ∙ sym (names_length all))
+    ∙ ap (λ p. if m.0 == n then Some (length (names_of all)) else p) (each n)
+    ∙ place_after (names_of all) n m.0 (sym (each m.0) ∙ sym none)
+    ∙ ap (λ ns. name_place 0 n ns) (sym (names_last all m))
+
+-- the same of what was put
+pub put_known_name : (all : List Name) (m : Name) (old : ℕ → Option ℕ) (k : ℕ) → Some k ≡ old m.0 → ((n : ℕ) → old n ≡ name_place 0 n (names_of all)) → kind_types (names_of all) ≡ put_type (kind_types (names_of all)) (kind m.0)
+put_known_name all m old k some each = sym (put_known (names_of all) m.0 k (sym (each m.0) ∙ sym some))
+
+pub put_new_name : (all : List Name) (m : Name) (old : ℕ → Option ℕ) → None ≡ old m.0 → ((n : ℕ) → old n ≡ name_place 0 n (names_of all)) → kind_types (names_of (all ++ m ∷ [])) ≡ put_type (kind_types (names_of all)) (kind m.0)
+put_new_name all m old none each = ap kind_types (names_last all m) ∙ sym (put_new (names_of all) m.0 (sym (each m.0) ∙ sym none))
+
+pub ruleset adds = (put_known_name, put_new_name, numbered_after)

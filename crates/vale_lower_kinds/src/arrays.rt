@@ -2,7 +2,8 @@
 ghost use Rattle.std.specs.Prelude.{◌≡◌, ◌++◌, None, map, option_map, OnOk};
 ghost use Rattle.vale_core.specs.View.{view_ty, view_expr, view_node, view_form, view_stmt, view_block, view_else_if, view_link, view_step, exprs_of, links_of, steps_of, elses_of, else_end, stmts_of, last_end};
 ghost use Rattle.vale_model.specs.Kinds.{expr_arrays, node_arrays, exprs_arrays, link_arrays, links_arrays, step_arrays, steps_arrays, form_arrays, else_if_arrays, elses_arrays, block_arrays, stmts_arrays, stmt_arrays};
-ghost use Rattle.vale_lower_kinds.specs.Table.{kinds_in, added};
+ghost use Rattle.vale_lower_kinds.specs.Added.{added};
+ghost use Rattle.vale_lower_kinds.specs.Held.{kinds_in};
 
 use crate::kinds::Kinds;
 use sqlite_items::{Boxed, Items};
@@ -143,11 +144,7 @@ fn add_else_if(alloc: Global, else_if: &ElseIf, kinds: &mut Kinds) -> Result<(),
 
 #[cycle(arrays)]
 #[tactic(auto, using(crate::proofs::ArrayLaws::lists))]
-fn add_else_ifs(
-    alloc: Global,
-    else_ifs: &Items<ElseIf>,
-    kinds: &mut Kinds,
-) -> Result<(), Memory>
+fn add_else_ifs(alloc: Global, else_ifs: &Items<ElseIf>, kinds: &mut Kinds) -> Result<(), Memory>
     ensures { OnOk result (kinds_in kinds.new ≡ added (kinds_in kinds.old) (elses_arrays (elses_of (map view_else_if else_ifs.now) None))) }
 {
     let slice = else_ifs.as_slice();
@@ -159,11 +156,7 @@ fn add_else_ifs(
 
 #[cycle(arrays)]
 #[tactic(auto, using(crate::proofs::ArrayLaws::lists))]
-fn add_else(
-    alloc: Global,
-    otherwise: &Option<Block>,
-    kinds: &mut Kinds,
-) -> Result<(), Memory>
+fn add_else(alloc: Global, otherwise: &Option<Block>, kinds: &mut Kinds) -> Result<(), Memory>
     ensures { OnOk result (kinds_in kinds.new ≡ added (kinds_in kinds.old) (elses_arrays (else_end (option_map view_block otherwise.now)))) }
 {
     match otherwise {
@@ -195,11 +188,7 @@ fn add_stmts(alloc: Global, stmts: &[Stmt], kinds: &mut Kinds) -> Result<(), Mem
 
 #[cycle(arrays)]
 #[tactic(auto, using(crate::proofs::ArrayLaws::lists))]
-fn add_last(
-    alloc: Global,
-    last: &Option<Boxed<Expr>>,
-    kinds: &mut Kinds,
-) -> Result<(), Memory>
+fn add_last(alloc: Global, last: &Option<Boxed<Expr>>, kinds: &mut Kinds) -> Result<(), Memory>
     ensures { OnOk result (kinds_in kinds.new ≡ added (kinds_in kinds.old) (stmts_arrays (last_end (option_map view_expr last.now)))) }
 {
     match last {
