@@ -33,16 +33,16 @@ AsMany before ks = (y : Ty) → list_any (same y) before ≡ list_any (same y) k
 once_by : (b : Bool) (before ks xs : List Ty) (x : Ty) → AsMany before ks
     → ((before' ks' : List Ty) → AsMany before' ks' → ks' ++ once before' xs ≡ added ks' xs)
     → ks ++ (if b then once before xs else x ∷ once (x ∷ before) xs) ≡ added (if b then ks else ks ++ x ∷ []) xs
-once_by true before ks xs x as rest = rest before ks as
-once_by false before ks xs x as rest =
+once_by true before ks xs x same_any rest = rest before ks same_any
+once_by false before ks xs x same_any rest =
     sym (append_assoc ks (x ∷ []) (once (x ∷ before) xs))
-    ∙ rest (x ∷ before) (ks ++ x ∷ []) (λ y. ap (λ b. same y x || b) (as y) ∙ sym (any_last (same y) ks x))
+    ∙ rest (x ∷ before) (ks ++ x ∷ []) (λ y. ap (λ b. same y x || b) (same_any y) ∙ sym (any_last (same y) ks x))
 
 once_added : (before ks xs : List Ty) → AsMany before ks → ks ++ once before xs ≡ added ks xs
-once_added before ks [] as = append-nil ks
-once_added before ks (x ∷ xs) as =
-    once_by (list_any (same x) before) before ks xs x as (λ before' ks' more. once_added before' ks' xs more)
-    ∙ ap (λ b. added (if b then ks else ks ++ x ∷ []) xs) (as x)
+once_added before ks [] same_any = append-nil ks
+once_added before ks (x ∷ xs) same_any =
+    once_by (list_any (same x) before) before ks xs x same_any (λ before' ks' more. once_added before' ks' xs more)
+    ∙ ap (λ b. added (if b then ks else ks ++ x ∷ []) xs) (same_any x)
 
 pub once_is : (xs : List Ty) → once [] xs ≡ added [] xs
 once_is xs = once_added [] [] xs (λ y. refl)
