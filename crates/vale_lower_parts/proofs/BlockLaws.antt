@@ -1,6 +1,7 @@
 -- What blocks make, by what their statements make.
-use Rattle.std.proofs.Common.{◌≡◌, ℕ, ◌+◌, List, [], ◌∷◌, ◌++◌, length, refl, ap, sym, ◌∙◌}
-use Rattle.std.specs.Prelude.{Bool, true, false, ◌&&◌, if◌then◌else◌}
+use Rattle.std.proofs.Common.{◌≡◌, ℕ, zero, suc, ◌+◌, List, [], ◌∷◌, ◌++◌, length, drop, refl, ap, sym, ◌∙◌, arith, true≢false}
+use Rattle.std.specs.Prelude.{Bool, true, false, ◌&&◌, ◌==◌, min, map, if◌then◌else◌}
+use Rattle.std.proofs.lemmas.Bool.{eq-eqb, ne_eqb, eqb-true}
 use Rattle.vale_base.specs.declared.spot.Spot.{Spot}
 use Rattle.vale_syntax.specs.declared.tree.NameAt.{NameAt}
 use Rattle.vale_rules_spec.specs.Types as y
@@ -15,6 +16,8 @@ use Rattle.vale_lowering_objects.specs.Lowered.{all_gives, then_code, if_comes, 
 use Rattle.vale_lower_flow.specs.Closing.{dropped}
 use Rattle.vale_lower_flow.specs.Flow.{Going, emitted, put, arrived, only, mark_of, begun, ended, filled, if_there}
 use Rattle.vale_lower_flow.proofs.PartLaws.{Part, only_is, then_is, there_is, put_then, fill_then, nothing_is}
+use Rattle.vale_core.specs.declared.ty.Ty.{Ty}
+use Rattle.vale_core.specs.View.{view_ty}
 use Rattle.vale_lower_parts.specs.Located.{Rest, Leaves, located, at_rest}
 use Rattle.vale_lower_parts.specs.Emitted.{expr_emitted, stmts_emitted, stmt_emitted, block_emitted}
 
@@ -56,6 +59,48 @@ module _ (end : Spot) (after : Leaves) (rest : Rest) where
   pub others_located : (q : Gives) (qs : List Gives) (h : ℕ) (s : Scope) (f : Going) → located end after rest [] (q ∷ qs) h s f ≡ only false (length f.code) h (at_rest end after rest h s f)
   unfolding located at_rest
   others_located q qs h s f = sym (only_is (λ g. false) h (λ place g. rest place h s g) (λ g. after h s g) f)
+
+-- ---- the locals of a destructuring, by their names and types as they are kept
+
+suc_eq : (a b : ℕ) → (suc a == suc b) ≡ (a == b)
+suc_eq a b = by (a == b) refl
+  where
+    by : (k : Bool) → (a == b) ≡ k → (suc a == suc b) ≡ k
+    by true e = eq-eqb (suc a) (suc b) (ap suc (eqb-true a b e))
+    by false e = ne_eqb (suc a) (suc b) (λ f. let same : a ≡ b = omega arith in true≢false (sym (eq-eqb a b same) ∙ e))
+
+only_all : (n h : ℕ) (f : Going) → only true n h f ≡ f
+unfolding only
+only_all n h f = refl
+
+module _ (end : Spot) (after : Leaves) (rest : Rest) where
+  abbrev pub kept_located : List NameAt → List Ty → ℕ → Scope → Going → Going
+  kept_located ns xs h s f = located end after rest (numbers_of ns) (all_gives (map view_ty xs)) h s f
+
+  pub located_end : (k : ℕ) (ns : List NameAt) (xs : List Ty) (h : ℕ) (s : Scope) (f : Going) → k ≡ min (length ns) (length xs) →
+      kept_located (drop k ns) (drop k xs) h s f ≡ only (length ns == length xs) (length f.code) h (at_rest end after rest h s f)
+  located_end zero [] [] h s f e = none_located end after rest h s f ∙ sym (only_all (length f.code) h (at_rest end after rest h s f))
+  located_end (suc k) [] [] h s f e = none_located end after rest h s f ∙ sym (only_all (length f.code) h (at_rest end after rest h s f))
+  located_end zero [] (x ∷ xs) h s f e =
+      others_located end after rest (gives_of (view_ty x)) (all_gives (map view_ty xs)) h s f
+      ∙ ap (λ b. only b (length f.code) h (at_rest end after rest h s f)) (sym (ne_eqb 0 (suc (length xs)) (λ q. omega arith)))
+  located_end (suc k) [] (x ∷ xs) h s f e = absurd (omega arith)
+  located_end zero (n ∷ ns) [] h s f e =
+      fewer_located end after rest n.name.0 (numbers_of ns) h s f
+      ∙ ap (λ b. only b (length f.code) h (at_rest end after rest h s f)) (sym (ne_eqb (suc (length ns)) 0 (λ q. omega arith)))
+  located_end (suc k) (n ∷ ns) [] h s f e = absurd (omega arith)
+  located_end zero (n ∷ ns) (x ∷ xs) h s f e = absurd (omega arith)
+  located_end (suc k) (n ∷ ns) (x ∷ xs) h s f e =
+      located_end k ns xs h s f (omega arith)
+      ∙ ap (λ b. only b (length f.code) h (at_rest end after rest h s f)) (sym (suc_eq (length ns) (length xs)))
+
+  pub located_next : (k : ℕ) (ns : List NameAt) (xs : List Ty) (n : NameAt) (x : Ty) (h : ℕ) (s : Scope) (f : Going) → drop k ns ≡ n ∷ drop (k + 1) ns → drop k xs ≡ x ∷ drop (k + 1) xs →
+      let local = entry n.name.0 h (gives_of (view_ty x)) in
+      kept_located (drop k ns) (drop k xs) h s f
+      ≡ only (is_value (gives_of (view_ty x))) (length f.code) h (dropped local end (kept_located (drop (k + 1) ns) (drop (k + 1) xs) (h + 1) (local ∷ s) (filled h f)))
+  located_next k ns xs n x h s f en ex =
+      ap (λ z. kept_located z (drop k xs) h s f) en ∙ ap (λ z. kept_located (n ∷ drop (k + 1) ns) z h s f) ex
+      ∙ more_located end after rest n.name.0 (numbers_of (drop (k + 1) ns)) (gives_of (view_ty x)) (all_gives (map view_ty (drop (k + 1) xs))) h s f
 
 -- ---- statements one after another
 

@@ -14,6 +14,8 @@ use Rattle.vale_lowering_objects.specs.Scopes.{Gives, void, owner, gives_of, is_
 use Rattle.vale_lowering_objects.specs.Lowered.{then_code, sides, freeze_code, thaw_code, expr_code, expr_after, block_code, block_after, elses_code, elses_after}
 use Rattle.vale_lower_flow.specs.Flow.{Going, emitted, put, arrived, only, mark_of, begun, ended, if_there, turned, joined, after_of}
 use Rattle.vale_lower_flow.proofs.PartLaws.{Part, only_is, then_is, nothing_is, sides_is, freeze_is}
+use Rattle.vale_lower_parts.specs.declared.branch.Branch.{Branch}
+use Rattle.vale_lower_parts.specs.Branches.{branch_ended, branches_ended}
 use Rattle.vale_lower_parts.specs.Emitted.{expr_emitted, node_emitted, form_emitted, elses_emitted, block_emitted}
 use Rattle.vale_lower_parts.proofs.NodeLaws.{type_by_parts, after_emitted, gone_turned, gone_put}
 
@@ -106,13 +108,20 @@ module _ (a : Around) (h : ℕ) (s : Scope) where
         let one : Part = λ place g. expr_code a c place h s g in
         let x = λ g. expr_after c h s g in
         let two : Part = λ place now. only_if (may_meet s (block_after b (h + 1) s now) (elses_after es before h s now)) h
-            (sides place h (block_after b (h + 1) s now) (λ place. block_code a q b place h (h + 1) s now) (λ place. elses_code a q es before place h s now)) in
+        (sides place h (block_after b (h + 1) s now) (λ place. block_code a q b place h (h + 1) s now) (λ place. elses_code a q es before place h s now)) in
         let y = λ now. met before (block_after b (h + 1) s now) (elses_after es before h s now) in
         let f1 = emitted one x f in
         let ok = is_value (gives_of (type c)) in
         ap (λ z. only ok (length f.code) h (ended (mark_of f1) z)) (both_is (begun (h + 1) f1))
         ∙ ap (λ z. only ok (length f.code) h z) (then_is (h + 1) one two x y f)
         ∙ only_is (λ g. ok) h (λ place g. then_code place (h + 1) (one place g) (x g) two) (λ g. then_after (x g) y) f
+
+-- one branch more
+pub branches_more : (bs : List Branch) (b : Branch) (h : ℕ) (s : Scope) (before : Gone) (f : Going) → branches_ended (bs ++ b ∷ []) h s before f ≡ branches_ended bs h s before (branch_ended b h s before f)
+branches_more [] b h s before f = refl
+branches_more (x ∷ bs) b h s before f = ap (λ z. branch_ended x h s before z) (branches_more bs b h s before f)
+
+pub ruleset ends = (branches_more)
 
 pub ruleset forms = (v.of_pure, v.of_parallel_range, v.of_parallel_each, pure_is, range_is, each_is)
 

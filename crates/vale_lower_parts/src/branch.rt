@@ -1,7 +1,6 @@
 // What is begun before a part and ended after it.
 ghost use Rattle.std.specs.Prelude.{◌≡◌, option_map, IfOk, OnOk};
 ghost use Rattle.vale_core.specs.View.{view_view};
-
 ghost use Rattle.vale_lower_flow.specs.Entries.{entry_of, entries, gone_of};
 ghost use Rattle.vale_lower_flow.specs.Flow.{going, emitted};
 ghost use Rattle.vale_lower_places.specs.Origins.{view_origin};
@@ -75,7 +74,7 @@ impl Base {
     }
 }
 
-// The same from a local: from its register where it stays there, and else from a reference to what it holds.
+/// The same from a local: from its register where it stays there, and else from a reference to what it holds.
 #[tactic(auto, using(crate::proofs::StepLaws::bases), unfolding(crate::specs::Branches::base_ended))]
 pub fn base_of_local(
     local: Option<Local>,
@@ -117,7 +116,8 @@ pub fn base_of_local(
     })
 }
 
-// The branches end, the last first.
+/// The branches end, the last first.
+#[tactic(auto, using(crate::proofs::FormLaws::ends))]
 pub fn end_branches(
     alloc: Global,
     mut branches: Vec<Branch>,

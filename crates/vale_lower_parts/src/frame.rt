@@ -57,16 +57,15 @@ impl Frame {
     ) -> Result<(), Memory>
         ensures { OnOk result ((outer : s.Scope) (after : Leaves) (rest : Rest) → closed self.new.closings (at_rest end after rest self.new.next (framed self.new.locals.items outer) (going flow.new)) ≡ closed self.old.closings (located end after rest (numbers_of names.now) (all_gives (map view_ty types.now)) self.old.next (framed self.old.locals.items outer) (going flow.old))) }
     {
-        for at in 0..names.len() {
-            if at >= types.len() {
-                break;
-            }
+        let count = names.len().min(types.len());
+        for at in 0..count {
             let gives = Gives::of(&types[at]);
             let start = flow.place()?;
             self.closings.keep(gives.is_value(), start, self.next)?;
             self.declare(names[at].name, gives, end, flow)?;
         }
         let start = flow.place()?;
-        self.closings.keep(names.len() == types.len(), start, self.next)
+        self.closings
+            .keep(names.len() == types.len(), start, self.next)
     }
 }

@@ -13,7 +13,7 @@ use vale_base::Name;
 use vale_core::{Expr, Node, Step, Ty, View};
 use vale_lower_flow::{Gives, Local};
 
-// A value that waits in the register.
+/// A value that waits in the register.
 pub fn waiting(register: u32, gives: Gives) -> Local
     ensures { entry_of result ≡ s.waiting register (view_gives gives) }
 {
@@ -24,7 +24,7 @@ pub fn waiting(register: u32, gives: Gives) -> Local
     }
 }
 
-// A local in the register.
+/// A local in the register.
 pub fn declared(name: Name, register: u32, gives: Gives) -> Local
     ensures { entry_of result ≡ s.entry name.0 register (view_gives gives) }
 {
@@ -35,7 +35,7 @@ pub fn declared(name: Name, register: u32, gives: Gives) -> Local
     }
 }
 
-// Whether the first value is a text.
+/// Whether the first value is a text.
 pub fn is_text(args: &[Expr]) -> bool
     ensures { result ≡ is_text (first_type (exprs_of (map view_expr args.now))) }
 {
@@ -45,19 +45,13 @@ pub fn is_text(args: &[Expr]) -> bool
     }
 }
 
-// The local that the expression names and doesn't move.
+/// The local that the expression names and doesn't move.
 #[tactic(auto, using(crate::proofs::NodeLaws::names))]
 pub fn unmoved_name(expr: &Expr) -> Option<Name>
     ensures { option_map (λ n. n.0) result ≡ unmoved (view_expr expr.now) }
 {
     match &expr.node {
-        Node::Name { name, is_moved, .. } => {
-            if *is_moved {
-                None
-            } else {
-                Some(name.name)
-            }
-        }
+        Node::Name { name, is_moved, .. } => { if *is_moved { None } else { Some(name.name) } }
         Node::Set(..)
         | Node::Chain(..)
         | Node::Unary(..)
@@ -73,7 +67,7 @@ pub fn unmoved_name(expr: &Expr) -> Option<Name>
     }
 }
 
-// How the step sees what it starts from.
+/// How the step sees what it starts from.
 #[tactic(auto, using(crate::proofs::StepLaws::views))]
 pub fn view_of(step: &Step) -> &View
     ensures { view_view result.now ≡ step_view (view_step step.now) }
@@ -85,12 +79,14 @@ pub fn view_of(step: &Step) -> &View
     }
 }
 
+/// Whether what is seen so is frozen.
 pub fn is_frozen(view: &View) -> bool
     ensures { result ≡ y.is_frozen (view_view view.now) }
 {
     matches!(view, View::Frozen(_))
 }
 
+/// Whether an owner is seen directly.
 pub fn is_direct(view: &View) -> bool
     ensures { result ≡ y.is_direct (view_view view.now) }
 {
