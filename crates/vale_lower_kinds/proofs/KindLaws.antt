@@ -4,6 +4,7 @@ use Rattle.std.specs.Prelude.{Bool, true, false, ◌==◌, ◌||◌, Option, Som
 use Rattle.std.specs.List.{list_any}
 use Rattle.vale_core.specs.declared.ty.Ty.{Ty as Kept}
 use Rattle.vale_core.specs.View.{view_ty}
+use Rattle.vale_core.proofs.ViewLaws as v
 use Rattle.vale_rules_spec.specs.Types.{Ty, void, int, bool, str, kind, array, ref, imm, iso, same}
 use Rattle.vale_model.specs.Kinds.{arrays_in}
 use Rattle.vale_model.specs.Parts.{place_of_kind}
@@ -104,7 +105,7 @@ number_past n ns es e = past_from 0 n ns es e
 
 pub ruleset names = (number_found, number_past)
 
-pub ruleset numbers = (number_of_array, number_of_void, number_of_int, number_of_bool, number_of_str, number_of_ref, number_of_imm, number_of_iso)
+pub ruleset numbers = (number_of_array, number_of_void, number_of_int, number_of_bool, number_of_str, number_of_ref, number_of_imm, number_of_iso, v.of_void, v.of_int, v.of_bool, v.of_str, v.of_kind, v.of_array, v.of_ref, v.of_imm, v.of_iso)
 
 -- ---- array types
 
@@ -155,4 +156,4 @@ array_new x ns ts le =
 
 pub ruleset puts = (array_known, array_new)
 
-pub ruleset arrays = (added_more, added_one)
+pub ruleset arrays = (added_more, added_one, v.of_void, v.of_int, v.of_bool, v.of_str, v.of_kind, v.of_array, v.of_ref, v.of_imm, v.of_iso)

@@ -27,6 +27,7 @@ use Rattle.vale_lower_flow.specs.Flow.{Going, gone_in, comes_in, emitted, put, a
 use Rattle.vale_lower_flow.proofs.PartLaws as p
 use Rattle.vale_lower_flow.proofs.PartLaws.{Part, only_is, then_is, put_is, fill_then, nothing_is, sides_is}
 use Rattle.vale_lower_places.specs.Places.{moved, lent}
+use Rattle.vale_lower_parts.specs.Named.{unmoved, unmoved_in}
 use Rattle.vale_lower_parts.specs.Emitted.{expr_emitted, node_emitted, borrow_emitted, args_emitted, one_link_code, one_link_after, link_emitted, links_emitted}
 
 pub type_by_parts : (e : Expr) → type (view_expr e) ≡ view_ty (out-Expr e).seen.value
@@ -272,6 +273,11 @@ module _ (a : Around) (h : ℕ) (s : Scope) where
   pub borrow_named : (x : y.Seen) (n : NameAt) (is_outer : Bool) (f : Going) → borrow_emitted a (t.expr x (t.name n is_outer false)) h s f ≡ lent (find n.name.0 s) copy x.view h f
   unfolding borrow_emitted emitted lent
   borrow_named x n is_outer f = refl
+
+pub unmoved_by_parts : (e : Expr) → unmoved (view_expr e) ≡ unmoved_in (view_node (out-Expr e).node)
+unmoved_by_parts e = ap unmoved (of_out_expr e)
+
+pub ruleset names = (unmoved_by_parts, v.of_set, v.of_chain, v.of_unary, v.of_steps, v.of_number, v.of_quote, v.of_truth, v.of_name, v.of_call, v.of_paren, v.of_elements, v.of_isolate, v.of_form)
 
 pub ruleset exprs = (expr_by_parts)
 

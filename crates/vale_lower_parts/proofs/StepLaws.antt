@@ -18,7 +18,11 @@ use Rattle.vale_lower_flow.specs.declared.flow.Mark.{Mark}
 use Rattle.vale_lower_flow.specs.Flow.{Going, emitted, put, arrived, only, mark_of, begun, ended, filled}
 use Rattle.vale_lower_flow.proofs.PartLaws.{Part, only_is, then_is, fill_then, nothing_is}
 use Rattle.vale_lower_places.specs.Places.{lent, exchanged}
-use Rattle.vale_lower_parts.specs.Branches.{Rest, Leaves, local_started}
+use Rattle.vale_core.proofs.ViewLaws as v
+use Rattle.vale_lower_places.specs.declared.places.Origin.{Origin as Kept}
+use Rattle.vale_lower_places.specs.declared.places.Origin.TheVariants as o
+use Rattle.vale_lower_places.specs.Origins.{view_origin}
+use Rattle.vale_lower_parts.specs.Branches.{Rest, Leaves, local_started, base_ended}
 use Rattle.vale_lower_parts.specs.Named.{unmoved, unmoved_in, node_of}
 use Rattle.vale_lower_parts.specs.Emitted.{expr_emitted, node_emitted, borrow_emitted, started, step_emitted, swap_emitted, first_emitted, first_swapped, steps_emitted, targets_emitted, place_emitted}
 use Rattle.vale_lower_parts.proofs.NodeLaws.{then_put}
@@ -225,3 +229,48 @@ module _ (a : Around) (new h : ℕ) (s : Scope) where
   unfolding targets_emitted step_emitted
   more_targets x w ws f =
       sym (then_is (h + 1) (λ place g. step_code a (reference h) x place h (h + 1) s g) (λ place g. targets_code a (t.more_steps w ws) place new h s g) (λ g. step_after x (h + 1) s g) (λ g. targets_after (t.more_steps w ws) h s g) f)
+
+-- ---- what starts from a local, ended
+
+ended_here : (start : ℕ) (f : Going) → ended (record { comes = true; start = start }) f ≡ f
+unfolding ended
+ended_here start f = refl
+
+only_true : (n h : ℕ) (f : Going) → only true n h f ≡ f
+unfolding only
+only_true n h f = refl
+
+module _ (view : y.View) (h : ℕ) (part : Rest) (after : Leaves) (ch : Bool) (f : Going) where
+  abbrev from_base : Kept → ℕ → Going → Going
+  from_base o next = emitted (λ place g. part (view_origin o) place next g) (after next)
+
+  pub none_ended : (o : Kept) (start : ℕ) → start ≡ length f.code →
+      base_ended (record { origin = o; next = h; start = start; is_there = false; mark = record { comes = true; start = start } }) h (from_base o h f) ≡ local_started view h part after None ch f
+  unfolding base_ended
+  none_ended o start e =
+      ap (λ z. only false start h z) (ended_here start (from_base o h f)) ∙ ap (λ n. only false n h (from_base o h f)) e
+      ∙ local_none h [] view (λ n. ch) part after (view_origin o) ch f
+
+  pub stays_ended : (x : Entry) (o : Kept) (start : ℕ) (there : Bool) → start ≡ length f.code → view_origin o ≡ origin_of x → there ≡ is_there x f.gone → stays_of (Some x) view ch ≡ true →
+      base_ended (record { origin = o; next = h; start = start; is_there = there; mark = record { comes = true; start = start } }) h (from_base o h f) ≡ local_started view h part after (Some x) ch f
+  unfolding base_ended
+  stays_ended x o start there e eo et es =
+      ap (λ z. only there start h z) (ended_here start (from_base o h f)) ∙ ap (λ n. only there n h (from_base o h f)) e
+      ∙ ap (λ b. only b (length f.code) h (from_base o h f)) et
+      ∙ ap (λ z. only (is_there x f.gone) (length f.code) h (emitted (λ place g. part z place h g) (after h) f)) eo
+      ∙ local_stays h [] view (λ n. ch) part after x ch f es
+
+  pub lent_ended : (x : Entry) (start next : ℕ) (m : Mark) (f1 f2 : Going) → next ≡ h + 1 → f1 ≡ lent (Some x) copy view h f → m ≡ mark_of f1 → f2 ≡ begun next f1 → stays_of (Some x) view ch ≡ false →
+      base_ended (record { origin = o.Reference h; next = next; start = start; is_there = true; mark = m }) h (from_base (o.Reference h) next f2) ≡ local_started view h part after (Some x) ch f
+  unfolding base_ended
+  lent_ended x start next m f1 f2 en e1 em e2 es =
+      let l : Going = lent (Some x) copy view h f in
+      only_true start h (ended m (from_base (o.Reference h) next f2))
+      ∙ ap (λ k. ended k (from_base (o.Reference h) next f2)) (em ∙ ap mark_of e1)
+      ∙ ap (λ z. ended (mark_of l) (from_base (o.Reference h) next z)) (e2 ∙ ap (λ z. begun next z) e1)
+      ∙ ap (λ n. ended (mark_of l) (from_base (o.Reference h) n (begun n l))) en
+      ∙ local_lent h [] view (λ n. ch) part after x ch f es
+
+pub ruleset bases = (none_ended, stays_ended, lent_ended)
+
+pub ruleset views = (v.of_field, v.of_method, v.of_index)

@@ -1,6 +1,7 @@
 // What is begun before a part and ended after it.
-ghost use Rattle.std.specs.Prelude.{◌≡◌, option_map, IfOk, OnOk};
+ghost use Rattle.std.specs.Prelude.{◌≡◌, Some, option_map, IfOk, OnOk};
 ghost use Rattle.vale_core.specs.View.{view_view};
+ghost use Rattle.vale_lowering_objects.specs.Lowered.{stays_of};
 ghost use Rattle.vale_lower_flow.specs.Entries.{entry_of, entries, gone_of};
 ghost use Rattle.vale_lower_flow.specs.Flow.{going, emitted};
 ghost use Rattle.vale_lower_places.specs.Origins.{view_origin};
@@ -74,6 +75,13 @@ impl Base {
     }
 }
 
+// Whether a step takes what the local holds from its register.
+fn stays(local: Local, view: &View, changes: bool) -> bool
+    ensures { result ≡ stays_of (Some (entry_of local)) (view_view view.now) changes }
+{
+    !changes && (!local.owned || is_direct(view))
+}
+
 /// The same from a local: from its register where it stays there, and else from a reference to what it holds.
 #[tactic(auto, using(crate::proofs::StepLaws::bases), unfolding(crate::specs::Branches::base_ended))]
 pub fn base_of_local(
@@ -95,7 +103,7 @@ pub fn base_of_local(
             mark: Mark { comes: true, start },
         });
     };
-    if !changes && (!local.owned || is_direct(view)) {
+    if stays(local, view, changes) {
         return Ok(Base {
             origin: origin_of(local),
             next: h,
