@@ -30,6 +30,27 @@ use Rattle.vale_lower_parts.proofs.NodeLaws.{then_put}
 some_none : (n : ℕ) → Some n ≡ None → ⊥
 some_none n e = none-some n (sym e)
 
+-- ---- what starts from a local
+
+module _ (h : ℕ) (view : y.View) (part : Rest) (after : Leaves) where
+  -- no local: no step follows
+  pub local_none : (o : Origin) (ch : Bool) (f : Going) → only false (length f.code) h (emitted (λ place g. part o place h g) (after h) f) ≡ local_started view h part after None ch f
+  local_none o ch f = only_is (λ g. false) h (λ place g. part o place h g) (after h) f
+
+  -- a local that stays in its register
+  pub local_stays : (x : Entry) (ch : Bool) (f : Going) → stays_of (Some x) view ch ≡ true → only (is_there x f.gone) (length f.code) h (emitted (λ place g. part (origin_of x) place h g) (after h) f) ≡ local_started view h part after (Some x) ch f
+  local_stays x ch f e =
+      only_is (λ g. is_there x g) h (λ place g. part (origin_of x) place h g) (after h) f
+      ∙ ap (λ b. emitted (λ place g. from_local (Some x) b view place h g part) (λ g. after (free_register b h) g) f) (sym e)
+
+  -- a local that is lent first
+  pub local_lent : (x : Entry) (ch : Bool) (f : Going) → stays_of (Some x) view ch ≡ false →
+      ended (mark_of (lent (Some x) copy view h f)) (emitted (λ place g. part (reference h) place (h + 1) g) (after (h + 1)) (begun (h + 1) (lent (Some x) copy view h f))) ≡ local_started view h part after (Some x) ch f
+  unfolding lent emitted
+  local_lent x ch f e =
+      then_is (h + 1) (λ place g. lend_local (Some x) g view h) (λ place g. part (reference h) place (h + 1) g) (λ g. comes g) (after (h + 1)) f
+      ∙ ap (λ b. emitted (λ place g. from_local (Some x) b view place h g part) (λ g. after (free_register b h) g) f) (sym e)
+
 module _ (a : Around) (h : ℕ) (s : Scope) where
   -- ---- what a first step starts from
 
@@ -50,24 +71,6 @@ module _ (a : Around) (h : ℕ) (s : Scope) where
     started_named (t.expr z (t.array at w es)) m f e = absurd (some_none m e)
     started_named (t.expr z (t.iso at b)) m f e = absurd (some_none m e)
     started_named (t.expr z (t.form w)) m f e = absurd (some_none m e)
-
-    -- no local: no step follows
-    pub local_none : (o : Origin) (ch : Bool) (f : Going) → only false (length f.code) h (emitted (λ place g. part o place h g) (after h) f) ≡ local_started view h part after None ch f
-    local_none o ch f = only_is (λ g. false) h (λ place g. part o place h g) (after h) f
-
-    -- a local that stays in its register
-    pub local_stays : (x : Entry) (ch : Bool) (f : Going) → stays_of (Some x) view ch ≡ true → only (is_there x f.gone) (length f.code) h (emitted (λ place g. part (origin_of x) place h g) (after h) f) ≡ local_started view h part after (Some x) ch f
-    local_stays x ch f e =
-        only_is (λ g. is_there x g) h (λ place g. part (origin_of x) place h g) (after h) f
-        ∙ ap (λ b. emitted (λ place g. from_local (Some x) b view place h g part) (λ g. after (free_register b h) g) f) (sym e)
-
-    -- a local that is lent first
-    pub local_lent : (x : Entry) (ch : Bool) (f : Going) → stays_of (Some x) view ch ≡ false →
-        ended (mark_of (lent (Some x) copy view h f)) (emitted (λ place g. part (reference h) place (h + 1) g) (after (h + 1)) (begun (h + 1) (lent (Some x) copy view h f))) ≡ local_started view h part after (Some x) ch f
-    unfolding lent emitted
-    local_lent x ch f e =
-        then_is (h + 1) (λ place g. lend_local (Some x) g view h) (λ place g. part (reference h) place (h + 1) g) (λ g. comes g) (after (h + 1)) f
-        ∙ ap (λ b. emitted (λ place g. from_local (Some x) b view place h g part) (λ g. after (free_register b h) g) f) (sym e)
 
     abbrev pub node_started : t.Expr → Going → Going
     node_started e f =
@@ -249,7 +252,7 @@ module _ (view : y.View) (h : ℕ) (part : Rest) (after : Leaves) (ch : Bool) (f
   unfolding base_ended
   none_ended o start e =
       ap (λ z. only false start h z) (ended_here start (from_base o h f)) ∙ ap (λ n. only false n h (from_base o h f)) e
-      ∙ local_none h [] view (λ n. ch) part after (view_origin o) ch f
+      ∙ local_none h view part after (view_origin o) ch f
 
   pub stays_ended : (x : Entry) (o : Kept) (start : ℕ) (there : Bool) → start ≡ length f.code → view_origin o ≡ origin_of x → there ≡ is_there x f.gone → stays_of (Some x) view ch ≡ true →
       base_ended (record { origin = o; next = h; start = start; is_there = there; mark = record { comes = true; start = start } }) h (from_base o h f) ≡ local_started view h part after (Some x) ch f
@@ -258,7 +261,7 @@ module _ (view : y.View) (h : ℕ) (part : Rest) (after : Leaves) (ch : Bool) (f
       ap (λ z. only there start h z) (ended_here start (from_base o h f)) ∙ ap (λ n. only there n h (from_base o h f)) e
       ∙ ap (λ b. only b (length f.code) h (from_base o h f)) et
       ∙ ap (λ z. only (is_there x f.gone) (length f.code) h (emitted (λ place g. part z place h g) (after h) f)) eo
-      ∙ local_stays h [] view (λ n. ch) part after x ch f es
+      ∙ local_stays h view part after x ch f es
 
   pub lent_ended : (x : Entry) (start next : ℕ) (m : Mark) (f1 f2 : Going) → next ≡ h + 1 → f1 ≡ lent (Some x) copy view h f → m ≡ mark_of f1 → f2 ≡ begun next f1 → stays_of (Some x) view ch ≡ false →
       base_ended (record { origin = o.Reference h; next = next; start = start; is_there = true; mark = m }) h (from_base (o.Reference h) next f2) ≡ local_started view h part after (Some x) ch f
@@ -269,7 +272,7 @@ module _ (view : y.View) (h : ℕ) (part : Rest) (after : Leaves) (ch : Bool) (f
       ∙ ap (λ k. ended k (from_base (o.Reference h) next f2)) (em ∙ ap mark_of e1)
       ∙ ap (λ z. ended (mark_of l) (from_base (o.Reference h) next z)) (e2 ∙ ap (λ z. begun next z) e1)
       ∙ ap (λ n. ended (mark_of l) (from_base (o.Reference h) n (begun n l))) en
-      ∙ local_lent h [] view (λ n. ch) part after x ch f es
+      ∙ local_lent h view part after x ch f es
 
 pub ruleset bases = (none_ended, stays_ended, lent_ended)
 

@@ -10,7 +10,7 @@ use Rattle.vale_core.specs.declared.tree.Item.{Item}
 use Rattle.vale_core.specs.View.{view_item, view_function}
 use Rattle.vale_model.specs.Parts.{fields_in, has_name}
 use Rattle.vale_lower_tables.specs.declared.fields.Fields.{Fields}
-use Rattle.vale_lower_tables.specs.declared.functions.Callees.{Callees}
+use Rattle.vale_lower_tables.specs.declared.functions.Numbers.{Numbers}
 
 -- the fields that are kept of a struct
 abbrev pub fields_at : Fields → ℕ → List tree.FieldDecl
@@ -25,8 +25,8 @@ abbrev pub first_place : ℕ → ℕ → List Function → Option ℕ
 first_place at n [] = None
 first_place at n (f ∷ fs) = if has_name n f then Some at else first_place (at + 1) n fs
 
-abbrev pub place_at : Callees → ℕ → Option ℕ
+abbrev pub place_at : Numbers → ℕ → Option ℕ
 place_at t n = get nat_eq t.places n
 
-abbrev pub ArePlaces : List Function → Callees → Type 0
+abbrev pub ArePlaces : List Function → Numbers → Type 0
 ArePlaces fs t = (n : ℕ) → place_at t n ≡ first_place 0 n fs
