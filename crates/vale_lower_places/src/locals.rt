@@ -27,7 +27,7 @@ fn move_local(flow: &mut Flow, local: Local, h: u32) -> Result<(), Memory>
 }
 
 /// The owner of a local is moved to the register, where an owner is wanted.
-#[tactic(auto, using(crate::proofs::PlaceLaws::moves), unfolding(crate::specs::Places::moved))]
+#[tactic(auto, using(crate::proofs::PlaceLaws::moves))]
 pub fn put_moved(flow: &mut Flow, local: Option<Local>, gives: Gives, h: u32) -> Result<(), Memory>
     ensures { OnOk result (going flow.new ≡ moved (option_map entry_of local) (view_gives gives) h (going flow.old)) }
 {
@@ -43,7 +43,7 @@ pub fn put_moved(flow: &mut Flow, local: Option<Local>, gives: Gives, h: u32) ->
 }
 
 /// What a local holds goes to the register: a reference, where it is an owner.
-#[tactic(auto, using(crate::proofs::PlaceLaws::lends), unfolding(crate::specs::Places::lent))]
+#[tactic(auto, using(crate::proofs::PlaceLaws::lends))]
 pub fn put_lent(
     flow: &mut Flow,
     local: Option<Local>,
@@ -132,7 +132,7 @@ fn holds(flow: &Flow, local: Local, gives: Gives) -> bool
 }
 
 /// A local gets what stands in the register, and the register what it held.
-#[tactic(auto, using(crate::proofs::PlaceLaws::exchanges), unfolding(crate::specs::Places::exchanged))]
+#[tactic(auto, using(crate::proofs::PlaceLaws::exchanges))]
 pub fn put_exchange(
     flow: &mut Flow,
     local: Option<Local>,
@@ -165,7 +165,7 @@ fn store_by(flow: &mut Flow, gives: Gives, r: u32, h: u32, at: Spot) -> Result<(
 }
 
 /// The same, where what it held is dropped.
-#[tactic(auto, using(crate::proofs::PlaceLaws::stores), unfolding(crate::specs::Places::stored))]
+#[tactic(auto, using(crate::proofs::PlaceLaws::stores))]
 pub fn put_store(
     flow: &mut Flow,
     local: Option<Local>,

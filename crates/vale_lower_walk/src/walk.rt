@@ -54,17 +54,11 @@ struct Values {
     next: u32,
 }
 
-
-
 // ---- expressions
 
 #[cycle(emit)]
 #[tactic(auto, using(vale_lower_parts::proofs::NodeLaws::exprs))]
-fn emit_expr(
-    expr: &Expr,
-    here: &Standing,
-    flow: &mut Flow,
-) -> Result<(), Memory>
+fn emit_expr(expr: &Expr, here: &Standing, flow: &mut Flow) -> Result<(), Memory>
     ensures { OnOk result (going flow.new ≡ expr_emitted (view_around here.now.around.now) (view_expr expr.now) here.now.next (entries here.now.scope.now) (going flow.old)) }
 {
     let gives = Gives::of(&expr.seen.value);
@@ -98,12 +92,8 @@ fn emit_node(
         }
         Node::Paren(_, inner) => emit_paren(inner.get(), gives, here, flow),
         Node::Chain(first, links) => emit_chain(first.get(), links, gives, here, flow),
-        Node::Unary(at, op, operand) => {
-            emit_unary(*at, *op, operand.get(), gives, here, flow)
-        }
-        Node::Set(_, place, value) => {
-            emit_set(place.get(), value.get(), gives, here, flow)
-        }
+        Node::Unary(at, op, operand) => { emit_unary(*at, *op, operand.get(), gives, here, flow) }
+        Node::Set(_, place, value) => { emit_set(place.get(), value.get(), gives, here, flow) }
         Node::Call(name, callee, args) => {
             let args = args.as_slice();
             let values = emit_args(args, here, flow)?;
@@ -121,7 +111,15 @@ fn emit_node(
         Node::Array(_, _, elements) => {
             let values = emit_args(elements.as_slice(), here, flow)?;
             let mark = flow.begin(values.next)?;
-            put_made(here.alloc, flow, here.around, gives, ty, values.gives.len(), h)?;
+            put_made(
+                here.alloc,
+                flow,
+                here.around,
+                gives,
+                ty,
+                values.gives.len(),
+                h,
+            )?;
             flow.end(mark)
         }
         Node::Steps(base, steps) => {
@@ -132,15 +130,9 @@ fn emit_node(
     }
 }
 
-
 #[cycle(emit)]
 #[tactic(auto, using(vale_lower_parts::proofs::NodeLaws::parens))]
-fn emit_paren(
-    inner: &Expr,
-    gives: Gives,
-    here: &Standing,
-    flow: &mut Flow,
-) -> Result<(), Memory>
+fn emit_paren(inner: &Expr, gives: Gives, here: &Standing, flow: &mut Flow) -> Result<(), Memory>
     ensures { OnOk result ((x : y.Ty) (at : Spot) → going flow.new ≡ node_emitted (view_around here.now.around.now) x (view_gives gives) (t.paren at (view_expr inner.now)) here.now.next (entries here.now.scope.now) (going flow.old)) }
 {
     let start = flow.place()?;
@@ -213,33 +205,27 @@ fn emit_unary(
 // A reference to a place.
 #[cycle(emit)]
 #[tactic(auto, using(vale_lower_parts::proofs::NodeLaws::borrows))]
-fn emit_borrow(
-    expr: &Expr,
-    here: &Standing,
-    flow: &mut Flow,
-) -> Result<(), Memory>
+fn emit_borrow(expr: &Expr, here: &Standing, flow: &mut Flow) -> Result<(), Memory>
     ensures { OnOk result (going flow.new ≡ borrow_emitted (view_around here.now.around.now) (view_expr expr.now) here.now.next (entries here.now.scope.now) (going flow.old)) }
 {
     match unmoved_name(expr) {
         Some(name) => {
             let local = find(name, here.scope);
-            put_lent(flow, local, Gives::Copied, is_frozen(&expr.seen.view), here.next)
+            put_lent(
+                flow,
+                local,
+                Gives::Copied,
+                is_frozen(&expr.seen.view),
+                here.next,
+            )
         }
         None => emit_node(&expr.node, &expr.seen.value, Gives::Copied, here, flow),
     }
 }
 
-
-
-
-
 // The values go to registers from one on; each waits for those after it.
 #[cycle(emit)]
-fn emit_args(
-    args: &[Expr],
-    here: &Standing,
-    flow: &mut Flow,
-) -> Result<Values, Memory>
+fn emit_args(args: &[Expr], here: &Standing, flow: &mut Flow) -> Result<Values, Memory>
     ensures gives { IfOk result (λ v. map view_gives v.gives.items ≡ gives_list (exprs_of (map view_expr args.now))) }
     ensures next { IfOk result (λ v. v.next ≡ here.now.next + length args.now) }
     ensures emitted { OnOk result (going flow.new ≡ args_emitted (view_around here.now.around.now) (exprs_of (map view_expr args.now)) here.now.next (entries here.now.scope.now) (going flow.old)) }
@@ -276,11 +262,7 @@ fn emit_args(
 // What stands in the register, with the operator and the operand after it.
 #[cycle(emit)]
 #[tactic(auto, using(vale_lower_parts::proofs::NodeLaws::links))]
-fn emit_link(
-    link: &Link,
-    here: &Standing,
-    flow: &mut Flow,
-) -> Result<(), Memory>
+fn emit_link(link: &Link, here: &Standing, flow: &mut Flow) -> Result<(), Memory>
     ensures { OnOk result (going flow.new ≡ link_emitted (view_around here.now.around.now) (view_link link.now) here.now.next (entries here.now.scope.now) (going flow.old)) }
 {
     let h = here.next;
@@ -314,11 +296,7 @@ fn emit_link(
 }
 
 #[cycle(emit)]
-fn emit_links(
-    links: &Items<Link>,
-    here: &Standing,
-    flow: &mut Flow,
-) -> Result<(), Memory>
+fn emit_links(links: &Items<Link>, here: &Standing, flow: &mut Flow) -> Result<(), Memory>
     ensures { OnOk result (going flow.new ≡ links_emitted (view_around here.now.around.now) (links_of (map view_link links.now)) here.now.next (entries here.now.scope.now) (going flow.old)) }
 {
     let mut closings = Closings::new(here.alloc);
@@ -340,12 +318,7 @@ fn emit_links(
 // What a first step starts from, where a part that starts there is ended with it.
 #[cycle(emit)]
 #[tactic(auto, using(vale_lower_parts::proofs::StepLaws::bases))]
-fn emit_base(
-    expr: &Expr,
-    step: &Step,
-    here: &Standing,
-    flow: &mut Flow,
-) -> Result<Base, Memory>
+fn emit_base(expr: &Expr, step: &Step, here: &Standing, flow: &mut Flow) -> Result<Base, Memory>
     ensures { IfOk result (λ b. (part : l.Origin → ℕ → ℕ → s.Gone → List Instr) (after : ℕ → s.Gone → s.After) → base_ended b here.now.next (emitted (λ place g. part (view_origin b.origin) place b.next g) (after b.next) (going flow.new)) ≡ started (view_around here.now.around.now) (view_expr expr.now) (step_view (view_step step.now)) (λ n. step_changes n (view_step step.now)) here.now.next (entries here.now.scope.now) part after (going flow.old)) }
 {
     match unmoved_name(expr) {
@@ -371,7 +344,6 @@ fn emit_base(
     }
 }
 
-
 // A step whose base is known: what it leads to goes to the register `to`.
 #[cycle(emit)]
 #[tactic(auto, using(vale_lower_parts::proofs::StepLaws::steps))]
@@ -393,7 +365,11 @@ fn emit_step(
             let mark = emit_index(index, here, flow)?;
             put_element(flow, origin, here.next, *at, to)?;
             flow.end(mark)?;
-            flow.keep(Gives::Copied.agrees(Gives::of(&index.seen.value)), start, to)
+            flow.keep(
+                Gives::Copied.agrees(Gives::of(&index.seen.value)),
+                start,
+                to,
+            )
         }
         Step::Method(..) => put_stuck(flow, to),
     }
@@ -420,7 +396,11 @@ fn emit_swap(
             let mark = emit_index(index, here, flow)?;
             swap_element(flow, origin, here.next, *at, new)?;
             flow.end(mark)?;
-            flow.keep(Gives::Copied.agrees(Gives::of(&index.seen.value)), start, new)
+            flow.keep(
+                Gives::Copied.agrees(Gives::of(&index.seen.value)),
+                start,
+                new,
+            )
         }
         Step::Method(..) => put_stuck(flow, new),
     }
@@ -428,11 +408,7 @@ fn emit_swap(
 
 // An index, and what follows it begins.
 #[cycle(emit)]
-fn emit_index(
-    index: &Expr,
-    here: &Standing,
-    flow: &mut Flow,
-) -> Result<Mark, Memory>
+fn emit_index(index: &Expr, here: &Standing, flow: &mut Flow) -> Result<Mark, Memory>
     ensures mark { IfOk result (λ m. m ≡ mark_of (expr_emitted (view_around here.now.around.now) (view_expr index.now) here.now.next (entries here.now.scope.now) (going flow.old))) }
     ensures begun { OnOk result (going flow.new ≡ begun (here.now.next + 1) (expr_emitted (view_around here.now.around.now) (view_expr index.now) here.now.next (entries here.now.scope.now) (going flow.old))) }
 {
@@ -442,12 +418,7 @@ fn emit_index(
 
 #[cycle(emit)]
 #[tactic(auto, using(vale_lower_parts::proofs::StepLaws::firsts))]
-fn emit_first(
-    base: &Expr,
-    step: &Step,
-    here: &Standing,
-    flow: &mut Flow,
-) -> Result<(), Memory>
+fn emit_first(base: &Expr, step: &Step, here: &Standing, flow: &mut Flow) -> Result<(), Memory>
     ensures { OnOk result (going flow.new ≡ first_emitted (view_around here.now.around.now) (view_expr base.now) (view_step step.now) here.now.next (entries here.now.scope.now) (going flow.old)) }
 {
     let base = emit_base(base, step, here, flow)?;
@@ -504,11 +475,7 @@ fn emit_chain_of_steps(
 
 // Steps from what stands in the register.
 #[cycle(emit)]
-fn emit_steps(
-    steps: &[Step],
-    here: &Standing,
-    flow: &mut Flow,
-) -> Result<(), Memory>
+fn emit_steps(steps: &[Step], here: &Standing, flow: &mut Flow) -> Result<(), Memory>
     ensures { OnOk result (going flow.new ≡ steps_emitted (view_around here.now.around.now) (steps_of (map view_step steps.now)) here.now.next (entries here.now.scope.now) (going flow.old)) }
 {
     let mut closings = Closings::new(here.alloc);
@@ -525,12 +492,7 @@ fn emit_steps(
 
 // The steps of a place that is set, from what stands in the register.
 #[cycle(emit)]
-fn emit_targets(
-    steps: &[Step],
-    new: u32,
-    here: &Standing,
-    flow: &mut Flow,
-) -> Result<(), Memory>
+fn emit_targets(steps: &[Step], new: u32, here: &Standing, flow: &mut Flow) -> Result<(), Memory>
     ensures { OnOk result (going flow.new ≡ targets_emitted (view_around here.now.around.now) (steps_of (map view_step steps.now)) new here.now.next (entries here.now.scope.now) (going flow.old)) }
 {
     let count = steps.len();
@@ -574,12 +536,7 @@ fn emit_set(
 // A place that is set gets what waits in the register, and the register what it held.
 #[cycle(emit)]
 #[tactic(auto, using(vale_lower_parts::proofs::StepLaws::places))]
-fn emit_place(
-    place: &Expr,
-    gives: Gives,
-    here: &Standing,
-    flow: &mut Flow,
-) -> Result<(), Memory>
+fn emit_place(place: &Expr, gives: Gives, here: &Standing, flow: &mut Flow) -> Result<(), Memory>
     ensures { OnOk result (going flow.new ≡ place_emitted (view_around here.now.around.now) (view_expr place.now) (view_gives gives) here.now.next (entries here.now.scope.now) (going flow.old)) }
 {
     match &place.node {
@@ -731,14 +688,11 @@ fn emit_else_ifs(
     let mut branches = Vec::new(here.alloc);
     let slice = else_ifs.as_slice();
     for else_if in slice {
-        branches.push(
-            emit_branch(&else_if.condition, &else_if.block, gives, here, flow)?,
-        )?;
+        branches.push(emit_branch(&else_if.condition, &else_if.block, gives, here, flow)?)?;
     }
     emit_else(otherwise, gives, here, flow)?;
     end_branches(here.alloc, branches, before, here.next, here.scope, flow)
 }
-
 
 #[cycle(emit)]
 #[tactic(auto, using(vale_lower_parts::proofs::FormLaws::elses))]
@@ -877,11 +831,7 @@ fn emit_next(
 
 #[cycle(emit)]
 #[tactic(auto, using(vale_lower_parts::proofs::StmtLaws::stmts))]
-fn emit_stmt(
-    stmt: &Stmt,
-    here: &Standing,
-    flow: &mut Flow,
-) -> Result<(), Memory>
+fn emit_stmt(stmt: &Stmt, here: &Standing, flow: &mut Flow) -> Result<(), Memory>
     ensures { OnOk result (going flow.new ≡ stmt_emitted (view_around here.now.around.now) (view_stmt stmt.now) here.now.next (entries here.now.scope.now) (going flow.old)) }
 {
     match stmt {
@@ -911,12 +861,7 @@ fn emit_stmt(
 
 #[cycle(emit)]
 #[tactic(auto, using(vale_lower_parts::proofs::StmtLaws::returns))]
-fn emit_return(
-    at: Spot,
-    value: &Expr,
-    here: &Standing,
-    flow: &mut Flow,
-) -> Result<(), Memory>
+fn emit_return(at: Spot, value: &Expr, here: &Standing, flow: &mut Flow) -> Result<(), Memory>
     ensures { OnOk result (going flow.new ≡ stmt_emitted (view_around here.now.around.now) (t.return_value at (view_expr value.now)) here.now.next (entries here.now.scope.now) (going flow.old)) }
 {
     let start = flow.place()?;
@@ -1075,19 +1020,13 @@ fn emit_count(
 // A value that isn't used is dropped; so the old value of a local that is set.
 #[cycle(emit)]
 #[tactic(auto, using(vale_lower_parts::proofs::StmtLaws::unused))]
-fn emit_unused(
-    value: &Expr,
-    here: &Standing,
-    flow: &mut Flow,
-) -> Result<(), Memory>
+fn emit_unused(value: &Expr, here: &Standing, flow: &mut Flow) -> Result<(), Memory>
     ensures { OnOk result (going flow.new ≡ stmt_emitted (view_around here.now.around.now) (t.express (view_expr value.now)) here.now.next (entries here.now.scope.now) (going flow.old)) }
 {
     let gives = Gives::of(&value.seen.value);
     match &value.node {
         Node::Set(at, place, new) => match &place.get().node {
-            Node::Name { name, .. } => {
-                emit_store(*at, *name, new.get(), gives, here, flow)
-            }
+            Node::Name { name, .. } => { emit_store(*at, *name, new.get(), gives, here, flow) }
             _ => emit_dropped(value, here, flow),
         },
         _ => emit_dropped(value, here, flow),
@@ -1096,16 +1035,17 @@ fn emit_unused(
 
 #[cycle(emit)]
 #[tactic(auto, using(vale_lower_parts::proofs::StmtLaws::unused))]
-fn emit_dropped(
-    value: &Expr,
-    here: &Standing,
-    flow: &mut Flow,
-) -> Result<(), Memory>
+fn emit_dropped(value: &Expr, here: &Standing, flow: &mut Flow) -> Result<(), Memory>
     ensures { OnOk result (going flow.new ≡ dropped_emitted (view_around here.now.around.now) (view_expr value.now) here.now.next (entries here.now.scope.now) (going flow.old)) }
 {
     emit_expr(value, here, flow)?;
     if flow.comes {
-        drop_value(flow, Gives::of(&value.seen.value), here.next, spot_of(value))?;
+        drop_value(
+            flow,
+            Gives::of(&value.seen.value),
+            here.next,
+            spot_of(value),
+        )?;
     }
     Ok(())
 }
