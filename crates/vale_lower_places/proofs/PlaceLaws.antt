@@ -1,5 +1,5 @@
 -- What single nodes make, by cases.
-use Rattle.std.proofs.Common.{◌≡◌, ℕ, zero, suc, ◌+◌, ◌<◌, rules, List, [], ◌∷◌, ◌++◌, length, take, get_or, refl, ap, sym, ◌∙◌, arith, append_assoc, append-nil}
+use Rattle.std.proofs.Common.{◌≡◌, ℕ, zero, suc, ◌+◌, ◌-◌, ◌<◌, rules, List, [], ◌∷◌, ◌++◌, length, take, get_or, refl, ap, sym, ◌∙◌, arith, append_assoc, append-nil}
 use Rattle.std.specs.Prelude.{Bool, true, false, not, ◌&&◌, nat_le, Option, Some, None, if◌then◌else◌}
 use Rattle.std.specs.List.{list_all}
 use Rattle.vale_base.specs.Limits.{text_limit}
@@ -122,6 +122,18 @@ drop_next ls k l at f f2 outer lt is e =
     ∙ (sym (first_dropped (entry_of l) (framed (take k ls) outer) at f)
     ∙ (ap (λ (z : List Entry). scope_dropped z at f) (sym (framed_more (take k ls) l outer))
     ∙ ap (λ (z : List Local). scope_dropped (framed z outer) at f) (sym one)))
+
+-- the next of them, from the last on
+pub drop_back : (ls : List Local) (back : ℕ) (l : Local) (at : Spot) (f f1 f2 : Going) (outer : List Entry) → back < length ls → l ≡ get_or ls (length ls - 1 - back) l → f1 ≡ arrived f → f2 ≡ dropped (entry_of l) at f1
+    → scope_dropped (framed (take (length ls - (back + 1)) ls) outer) at f2 ≡ scope_dropped (framed (take (length ls - back) ls) outer) at f
+drop_back ls back l at f f1 f2 outer lt is e1 e2 =
+    let k : ℕ = length ls - 1 - back in
+    let j : length ls - (back + 1) ≡ length ls - 1 - back = omega arith in
+    let m : length ls - back ≡ (length ls - 1 - back) + 1 = omega arith in
+    let less : length ls - 1 - back < length ls = omega arith in
+    ap (λ (n : ℕ). scope_dropped (framed (take n ls) outer) at f2) j
+    ∙ (drop_next ls k l at f f2 outer less is (e2 ∙ ap (λ (z : Going). dropped (entry_of l) at z) e1)
+    ∙ ap (λ (n : ℕ). scope_dropped (framed (take n ls) outer) at f) (sym m))
 
 -- ---- plain values
 
