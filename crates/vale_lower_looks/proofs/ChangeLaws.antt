@@ -19,6 +19,10 @@ pub or_or : (a b c : Bool) → (a || (b || c)) ≡ ((a || b) || c)
 or_or true b c = refl
 or_or false b c = refl
 
+true_in : (a b : Bool) → ((a || true) || b) ≡ true
+true_in true b = refl
+true_in false b = refl
+
 module _ (l : ℕ) where
   pub local_by_parts : (e : Expr) → is_local l (view_expr e) ≡ is_local l (t.expr (view_seen (out-Expr e).seen) (view_node (out-Expr e).node))
   local_by_parts e = ap (λ z. is_local l z) (of_out_expr e)
@@ -36,7 +40,7 @@ module _ (l : ℕ) where
   else_if_by_parts e = ap (λ z. else_if_changes l z) (of_out_else_if e)
 
   pub else_if_first : (e : t.ElseIf) (es : t.Elses) → elses_change l (t.more_elses e es) ≡ (else_if_changes l e || elses_change l es)
-  else_if_first (t.else_if at c b) es = or_or (expr_changes l c) (block_changes l b) (elses_change l es)
+  else_if_first (t.else_if at c b) es = refl
 
   stmts_by_parts : (ss : List t.Stmt) (end : t.Stmts) → stmts_change l (listed t.more_stmts ss end) ≡ (stmts_change l (listed t.more_stmts ss t.no_stmts) || stmts_change l end)
   stmts_by_parts [] end = refl
@@ -57,9 +61,27 @@ module _ (l : ℕ) where
   pub if_by_parts : (at : Spot) (c : Expr) (b : Block) (es : List ElseIf) (o : Option Block) → form_changes l (view_form (f.If at c b es o)) ≡ (((expr_changes l (view_expr c) || block_changes l (view_block b)) || elses_change l (elses_of (map view_else_if es) None)) || elses_change l (else_end (option_map view_block o)))
   if_by_parts at c b es o =
       ap (λ z. form_changes l z) (v.of_if at c b es o)
-      ∙ ap (λ z. expr_changes l (view_expr c) || (block_changes l (view_block b) || z)) (elses_by_parts (map view_else_if es) (else_end (option_map view_block o)))
-      ∙ or_or (expr_changes l (view_expr c)) (block_changes l (view_block b)) (elses_change l (elses_of (map view_else_if es) None) || elses_change l (else_end (option_map view_block o)))
+      ∙ ap (λ z. (expr_changes l (view_expr c) || block_changes l (view_block b)) || z) (elses_by_parts (map view_else_if es) (else_end (option_map view_block o)))
       ∙ or_or (expr_changes l (view_expr c) || block_changes l (view_block b)) (elses_change l (elses_of (map view_else_if es) None)) (elses_change l (else_end (option_map view_block o)))
+
+  pub block_then : (b : Block) → stmts_change l (stmts_of (map view_stmt (out-Block b).stmts) None) ≡ true → block_changes l (view_block b) ≡ true
+  block_then b e = block_by_parts b ∙ ap (λ z. z || stmts_change l (last_end (option_map view_expr (out-Block b).last))) e
+
+  pub block_else : (b : Block) → stmts_change l (stmts_of (map view_stmt (out-Block b).stmts) None) ≡ false → block_changes l (view_block b) ≡ stmts_change l (last_end (option_map view_expr (out-Block b).last))
+  block_else b e = block_by_parts b ∙ ap (λ z. z || stmts_change l (last_end (option_map view_expr (out-Block b).last))) e
+
+  pub if_then : (at : Spot) (c : Expr) (b : Block) (es : List ElseIf) (o : Option Block) → elses_change l (elses_of (map view_else_if es) None) ≡ true → form_changes l (view_form (f.If at c b es o)) ≡ true
+  if_then at c b es o e =
+      if_by_parts at c b es o
+      ∙ ap (λ z. ((expr_changes l (view_expr c) || block_changes l (view_block b)) || z) || elses_change l (else_end (option_map view_block o))) e
+      ∙ true_in (expr_changes l (view_expr c) || block_changes l (view_block b)) (elses_change l (else_end (option_map view_block o)))
+
+  pub if_else : (at : Spot) (c : Expr) (b : Block) (es : List ElseIf) (o : Option Block) → expr_changes l (view_expr c) ≡ false → block_changes l (view_block b) ≡ false → elses_change l (elses_of (map view_else_if es) None) ≡ false → form_changes l (view_form (f.If at c b es o)) ≡ elses_change l (else_end (option_map view_block o))
+  if_else at c b es o ec eb ee =
+      if_by_parts at c b es o
+      ∙ ap (λ z. ((z || block_changes l (view_block b)) || elses_change l (elses_of (map view_else_if es) None)) || elses_change l (else_end (option_map view_block o))) ec
+      ∙ ap (λ z. ((false || z) || elses_change l (elses_of (map view_else_if es) None)) || elses_change l (else_end (option_map view_block o))) eb
+      ∙ ap (λ z. ((false || false) || z) || elses_change l (else_end (option_map view_block o))) ee
 
 pub ruleset exprs = (expr_by_parts, local_by_parts)
 
@@ -71,8 +93,8 @@ pub ruleset lists = (link_first, else_if_first, or_or)
 
 pub ruleset steps = (v.of_field, v.of_method, v.of_index)
 
-pub ruleset forms = (if_by_parts, v.of_pure, v.of_parallel_range, v.of_parallel_each, or_or)
+pub ruleset forms = (if_by_parts, if_then, if_else, v.of_pure, v.of_parallel_range, v.of_parallel_each, or_or)
 
-pub ruleset blocks = (block_by_parts)
+pub ruleset blocks = (block_then, block_else)
 
 pub ruleset stmts = (v.of_declare, v.of_destructure, v.of_return_nothing, v.of_return_value, v.of_while, v.of_foreach, v.of_form_stmt, v.of_express, or_or)

@@ -1,15 +1,17 @@
 -- Whether a run comes behind a part, by its own parts.
-use Rattle.std.proofs.Common.{◌≡◌, ℕ, List, [], ◌∷◌, ◌++◌, refl, ap, sym, ◌∙◌}
+use Rattle.std.proofs.Common.{◌≡◌, ℕ, ◌+◌, ◌-◌, ◌<◌, List, [], ◌∷◌, ◌++◌, length, get_or, take, refl, ap, sym, ◌∙◌, arith}
+use Rattle.std.proofs.lemmas.List.{take_more}
 use Rattle.std.specs.Prelude.{Bool, true, false, ◌||◌, ◌&&◌, Option, None, map, option_map}
 use Rattle.vale_base.specs.declared.spot.Spot.{Spot}
 use Rattle.vale_core.specs.declared.tree.Expr.{Expr, out-Expr}
 use Rattle.vale_core.specs.declared.tree.Block.{Block, out-Block}
 use Rattle.vale_core.specs.declared.tree.ElseIf.{ElseIf, out-ElseIf}
+use Rattle.vale_core.specs.declared.tree.Step.{Step}
 use Rattle.vale_core.specs.declared.tree.Link.{Link, out-Link}
 use Rattle.vale_core.specs.declared.tree.Form.TheVariants as f
 use Rattle.vale_rules_spec.specs.Typed as t
 use Rattle.vale_syntax.specs.View.{listed}
-use Rattle.vale_core.specs.View.{view_seen, view_expr, view_node, view_form, view_stmt, view_block, view_else_if, view_link, elses_of, else_end, stmts_of, last_end}
+use Rattle.vale_core.specs.View.{view_seen, view_expr, view_node, view_form, view_stmt, view_block, view_else_if, view_link, view_step, steps_of, elses_of, else_end, stmts_of, last_end}
 use Rattle.vale_core.proofs.ViewLaws as v
 use Rattle.vale_core.proofs.PartLaws.{of_out_expr, of_out_link, of_out_else_if, of_out_block}
 use Rattle.vale_lower_looks.specs.Comes.{operand_comes, expr_comes, node_comes, based, place_comes, links_come, elses_come, form_comes, steps_come, block_comes, stmts_come, stmt_comes}
@@ -56,13 +58,41 @@ pub comes_more : (es : List t.ElseIf) (e : t.ElseIf) (rest : Bool) → else_ifs_
 comes_more [] e rest = refl
 comes_more (x ∷ es) e rest = ap (λ z. else_if_comes x z) (comes_more es e rest)
 
+-- the last of those that are left
+kept_more : (es : List ElseIf) (e : ElseIf) (rest : Bool) → else_ifs_come (map view_else_if (es ++ e ∷ [])) rest ≡ else_ifs_come (map view_else_if es) (else_if_comes (view_else_if e) rest)
+kept_more [] e rest = refl
+kept_more (x ∷ es) e rest = ap (λ z. else_if_comes (view_else_if x) z) (kept_more es e rest)
+
+pub comes_back : (es : List ElseIf) (back : ℕ) (e : ElseIf) (rest new : Bool) → back < length es → e ≡ get_or es (length es - 1 - back) e → new ≡ else_if_comes (view_else_if e) rest
+    → else_ifs_come (map view_else_if (take (length es - (back + 1)) es)) new ≡ else_ifs_come (map view_else_if (take (length es - back) es)) rest
+comes_back es back e rest new lt is en =
+    let k : ℕ = length es - 1 - back in
+    let j : length es - (back + 1) ≡ length es - 1 - back = omega arith in
+    let m : length es - back ≡ (length es - 1 - back) + 1 = omega arith in
+    let less : length es - 1 - back < length es = omega arith in
+    let one : take (k + 1) es ≡ take k es ++ e ∷ [] = take_more es k e less ∙ ap (λ (z : ElseIf). take k es ++ z ∷ []) (sym is) in
+    ap (λ (n : ℕ). else_ifs_come (map view_else_if (take n es)) new) j
+    ∙ (ap (λ (z : Bool). else_ifs_come (map view_else_if (take k es)) z) en
+    ∙ (sym (kept_more (take k es) e rest)
+    ∙ (ap (λ (z : List ElseIf). else_ifs_come (map view_else_if z) rest) (sym one)
+    ∙ ap (λ (n : ℕ). else_ifs_come (map view_else_if (take n es)) rest) (sym m))))
+
+-- steps, where there are none and where there are some
+pub based_none : (base : Bool) (ss : List Step) → length ss ≡ 0 → based base (steps_of (map view_step ss)) ≡ true
+based_none base [] e = refl
+based_none base (s ∷ ss) e = absurd (omega arith)
+
+pub based_more : (base : Bool) (ss : List Step) → 0 < length ss → based base (steps_of (map view_step ss)) ≡ (base && steps_come (steps_of (map view_step ss)))
+based_more base [] lt = absurd (omega arith)
+based_more base (s ∷ ss) lt = refl
+
 pub ruleset exprs = (expr_by_parts)
 
 pub ruleset nodes = (v.of_set, v.of_chain, v.of_unary, v.of_steps, v.of_number, v.of_quote, v.of_truth, v.of_name, v.of_call, v.of_paren, v.of_elements, v.of_isolate, v.of_form)
 
 pub ruleset places = (place_by_parts, v.of_set, v.of_chain, v.of_unary, v.of_steps, v.of_number, v.of_quote, v.of_truth, v.of_name, v.of_call, v.of_paren, v.of_elements, v.of_isolate, v.of_form)
 
-pub ruleset bases = (and_and)
+pub ruleset bases = (based_none, based_more)
 
 pub ruleset links = (link_by_parts, else_if_by_parts)
 

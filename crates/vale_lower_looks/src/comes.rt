@@ -36,13 +36,25 @@ fn node_comes(node: &Node) -> bool
     }
 }
 
+// Behind steps, by whether a run comes behind what they start from and behind them.
+#[tactic(auto, using(crate::proofs::ComeLaws::bases))]
+fn steps_from(base: bool, steps: &[Step], all: bool) -> bool
+    ensures { all ≡ steps_come (steps_of (map view_step steps.now)) → result ≡ based base (steps_of (map view_step steps.now)) }
+{
+    if steps.is_empty() {
+        return true;
+    }
+    base && all
+}
+
 // Steps, and what they start from.
 #[cycle(comes)]
-#[tactic(auto, using(crate::proofs::ComeLaws::bases))]
 fn based(base: &Expr, steps: &Items<Step>) -> bool
     ensures { result ≡ based (expr_comes (view_expr base.now)) (steps_of (map view_step steps.now)) }
 {
-    (steps.as_slice().is_empty() || expr_comes(base)) && steps_come(steps)
+    let comes = expr_comes(base);
+    let all = steps_come(steps);
+    steps_from(comes, steps.as_slice(), all)
 }
 
 // The place of a `set`.
@@ -131,6 +143,12 @@ fn steps_come(steps: &Items<Step>) -> bool
     true
 }
 
+fn branch_comes(condition: bool, inside: bool, rest: bool) -> bool
+    ensures { result ≡ (condition && (inside || rest)) }
+{
+    condition && (inside || rest)
+}
+
 #[cycle(comes)]
 #[tactic(auto, using(crate::proofs::ComeLaws::forms))]
 fn form_comes(form: &Form) -> bool
@@ -139,7 +157,8 @@ fn form_comes(form: &Form) -> bool
     match form {
         Form::If(_, condition, block, else_ifs, otherwise) => {
             let rest = else_ifs_come(else_ifs, else_comes(otherwise));
-            expr_comes(condition) && (block_comes(block) || rest)
+            let inside = block_comes(block);
+            branch_comes(expr_comes(condition), inside, rest)
         }
         Form::Pure(_, block) => block_comes(block),
         Form::ParallelRange(..) | Form::ParallelEach(..) => true,
