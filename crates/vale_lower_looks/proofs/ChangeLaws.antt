@@ -6,7 +6,9 @@ use Rattle.vale_core.specs.declared.tree.Expr.{Expr, out-Expr}
 use Rattle.vale_core.specs.declared.tree.Block.{Block, out-Block}
 use Rattle.vale_core.specs.declared.tree.ElseIf.{ElseIf, out-ElseIf}
 use Rattle.vale_core.specs.declared.tree.Link.{Link, out-Link}
+use Rattle.vale_core.specs.declared.tree.Form.{Form}
 use Rattle.vale_core.specs.declared.tree.Form.TheVariants as f
+use Rattle.vale_core.specs.declared.tree.Stmt.{Stmt}
 use Rattle.vale_rules_spec.specs.Typed as t
 use Rattle.vale_syntax.specs.View.{listed}
 use Rattle.vale_core.specs.View.{view_seen, view_expr, view_node, view_form, view_stmt, view_block, view_else_if, view_link, elses_of, else_end, stmts_of, last_end}
@@ -83,6 +85,20 @@ module _ (l : ℕ) where
       ∙ ap (λ z. ((false || z) || elses_change l (elses_of (map view_else_if es) None)) || elses_change l (else_end (option_map view_block o))) eb
       ∙ ap (λ z. ((false || false) || z) || elses_change l (else_end (option_map view_block o))) ee
 
+  pub by_block_then : (b : Block) (xs : List Stmt) (k : Bool) → xs ≡ (out-Block b).stmts → k ≡ stmts_change l (stmts_of (map view_stmt xs) None) → k ≡ true → true ≡ block_changes l (view_block b)
+  by_block_then b xs k ex ek et = sym (block_then b (ap (λ (z : List Stmt). stmts_change l (stmts_of (map view_stmt z) None)) (sym ex) ∙ (sym ek ∙ et)))
+
+  pub by_block_else : (b : Block) (xs : List Stmt) (k r : Bool) → xs ≡ (out-Block b).stmts → k ≡ stmts_change l (stmts_of (map view_stmt xs) None) → k ≡ false → r ≡ stmts_change l (last_end (option_map view_expr (out-Block b).last)) → r ≡ block_changes l (view_block b)
+  by_block_else b xs k r ex ek ef er = er ∙ sym (block_else b (ap (λ (z : List Stmt). stmts_change l (stmts_of (map view_stmt z) None)) (sym ex) ∙ (sym ek ∙ ef)))
+
+  pub by_if_then : (x : Form) (at : Spot) (c : Expr) (b : Block) (es : List ElseIf) (o : Option Block) (k : Bool) → x ≡ f.If at c b es o → k ≡ elses_change l (elses_of (map view_else_if es) None) → k ≡ true → true ≡ form_changes l (view_form x)
+  by_if_then x at c b es o k ex ek et = sym (ap (λ (z : Form). form_changes l (view_form z)) ex ∙ if_then at c b es o (sym ek ∙ et))
+
+  pub by_if_else : (x : Form) (at : Spot) (c : Expr) (b : Block) (es : List ElseIf) (o : Option Block) (kc kb ke r : Bool) → x ≡ f.If at c b es o
+      → kc ≡ expr_changes l (view_expr c) → kc ≡ false → kb ≡ block_changes l (view_block b) → kb ≡ false → ke ≡ elses_change l (elses_of (map view_else_if es) None) → ke ≡ false
+      → r ≡ elses_change l (else_end (option_map view_block o)) → r ≡ form_changes l (view_form x)
+  by_if_else x at c b es o kc kb ke r ex ec fc eb fb ee fe er = er ∙ sym (ap (λ (z : Form). form_changes l (view_form z)) ex ∙ if_else at c b es o (sym ec ∙ fc) (sym eb ∙ fb) (sym ee ∙ fe))
+
 pub ruleset exprs = (expr_by_parts, local_by_parts)
 
 pub ruleset nodes = (v.of_set, v.of_chain, v.of_unary, v.of_steps, v.of_number, v.of_quote, v.of_truth, v.of_name, v.of_call, v.of_paren, v.of_elements, v.of_isolate, v.of_form, or_or)
@@ -93,8 +109,8 @@ pub ruleset lists = (link_first, else_if_first, or_or)
 
 pub ruleset steps = (v.of_field, v.of_method, v.of_index)
 
-pub ruleset forms = (if_by_parts, if_then, if_else, v.of_pure, v.of_parallel_range, v.of_parallel_each, or_or)
+pub ruleset forms = (if_by_parts, v.of_pure, v.of_parallel_range, v.of_parallel_each, or_or)
 
-pub ruleset blocks = (block_then, block_else)
+pub ruleset blocks = (block_by_parts)
 
 pub ruleset stmts = (v.of_declare, v.of_destructure, v.of_return_nothing, v.of_return_value, v.of_while, v.of_foreach, v.of_form_stmt, v.of_express, or_or)

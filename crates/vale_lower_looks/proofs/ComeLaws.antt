@@ -8,6 +8,7 @@ use Rattle.vale_core.specs.declared.tree.Block.{Block, out-Block}
 use Rattle.vale_core.specs.declared.tree.ElseIf.{ElseIf, out-ElseIf}
 use Rattle.vale_core.specs.declared.tree.Step.{Step}
 use Rattle.vale_core.specs.declared.tree.Link.{Link, out-Link}
+use Rattle.vale_core.specs.declared.tree.Form.{Form}
 use Rattle.vale_core.specs.declared.tree.Form.TheVariants as f
 use Rattle.vale_rules_spec.specs.Typed as t
 use Rattle.vale_syntax.specs.View.{listed}
@@ -76,6 +77,14 @@ comes_back es back e rest new lt is en =
     ∙ (sym (kept_more (take k es) e rest)
     ∙ (ap (λ (z : List ElseIf). else_ifs_come (map view_else_if z) rest) (sym one)
     ∙ ap (λ (n : ℕ). else_ifs_come (map view_else_if (take n es)) rest) (sym m))))
+
+pub by_if : (x : Form) (at : Spot) (c : Expr) (b : Block) (es : List ElseIf) (o : Option Block) (r condition inside rest other : Bool) → x ≡ f.If at c b es o
+    → other ≡ elses_come (else_end (option_map view_block o)) → rest ≡ else_ifs_come (map view_else_if es) other → inside ≡ block_comes (view_block b) → condition ≡ expr_comes (view_expr c)
+    → r ≡ (condition && (inside || rest)) → r ≡ form_comes (view_form x)
+by_if x at c b es o r condition inside rest other ex eo es_rest ei ec er =
+    er ∙ ap (λ (z : Bool). z && (inside || rest)) ec ∙ ap (λ (z : Bool). expr_comes (view_expr c) && (z || rest)) ei
+    ∙ ap (λ (z : Bool). expr_comes (view_expr c) && (block_comes (view_block b) || z)) (es_rest ∙ ap (λ (z : Bool). else_ifs_come (map view_else_if es) z) eo)
+    ∙ sym (ap (λ (z : Form). form_comes (view_form z)) ex ∙ if_by_parts at c b es o)
 
 -- steps, where there are none and where there are some
 pub based_none : (base : Bool) (ss : List Step) → length ss ≡ 0 → based base (steps_of (map view_step ss)) ≡ true

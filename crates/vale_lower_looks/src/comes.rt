@@ -26,7 +26,11 @@ fn node_comes(node: &Node) -> bool
         Node::Set(_, place, value) => expr_comes(value.get()) && place_comes(place.get()),
         Node::Chain(first, links) => expr_comes(first.get()) && links_come(links),
         Node::Unary(_, _, operand) => expr_comes(operand.get()),
-        Node::Steps(base, steps) => based(base.get(), steps),
+        Node::Steps(base, steps) => {
+            let comes = expr_comes(base.get());
+            let all = steps_come(steps);
+            steps_from(comes, steps.as_slice(), all)
+        }
         Node::Number(..) | Node::Quote(..) | Node::Truth(..) | Node::Name { .. } => true,
         Node::Call(_, _, args) => exprs_come(args.as_slice()),
         Node::Paren(_, inner) => expr_comes(inner.get()),
@@ -47,16 +51,6 @@ fn steps_from(base: bool, steps: &[Step], all: bool) -> bool
     base && all
 }
 
-// Steps, and what they start from.
-#[cycle(comes)]
-fn based(base: &Expr, steps: &Items<Step>) -> bool
-    ensures { result ≡ based (expr_comes (view_expr base.now)) (steps_of (map view_step steps.now)) }
-{
-    let comes = expr_comes(base);
-    let all = steps_come(steps);
-    steps_from(comes, steps.as_slice(), all)
-}
-
 // The place of a `set`.
 #[cycle(comes)]
 #[tactic(auto, using(crate::proofs::ComeLaws::places))]
@@ -64,7 +58,11 @@ fn place_comes(place: &Expr) -> bool
     ensures { result ≡ place_comes (view_expr place.now) }
 {
     match &place.node {
-        Node::Steps(base, steps) => based(base.get(), steps),
+        Node::Steps(base, steps) => {
+            let comes = expr_comes(base.get());
+            let all = steps_come(steps);
+            steps_from(comes, steps.as_slice(), all)
+        }
         Node::Set(..)
         | Node::Chain(..)
         | Node::Unary(..)
