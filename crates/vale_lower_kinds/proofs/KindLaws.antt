@@ -103,8 +103,6 @@ past_from at n (m ∷ ns) es e = past_by (n == m) at (name_place (at + 1) n ns) 
 pub number_past : (n : ℕ) (ns : List ℕ) (es : List Ty) → name_place 0 n ns ≡ None → place_of_kind (kind n) (kind_types ns ++ map array es) ≡ length ns + length es
 number_past n ns es e = past_from 0 n ns es e
 
-pub ruleset names = (number_found, number_past)
-
 pub ruleset numbers = (number_of_array, number_of_void, number_of_int, number_of_bool, number_of_str, number_of_ref, number_of_imm, number_of_iso, v.of_void, v.of_int, v.of_bool, v.of_str, v.of_kind, v.of_array, v.of_ref, v.of_imm, v.of_iso)
 
 -- ---- array types
@@ -137,6 +135,11 @@ arrays_last (t ∷ ts) x = ap (λ z. array (view_ty t) ∷ z) (arrays_last ts x)
 types_length : (ts : List Kept) → length (map view_ty ts) ≡ length ts
 types_length [] = refl
 types_length (t ∷ ts) = ap suc (types_length ts)
+
+pub name_past : (n : ℕ) (ns : List ℕ) (ts : List Kept) → name_place 0 n ns ≡ None → place_of_kind (kind n) (kind_types ns ++ map array (map view_ty ts)) ≡ length ns + length ts
+name_past n ns ts e = number_past n ns (map view_ty ts) e ∙ ap (λ k. length ns + k) (types_length ts)
+
+pub ruleset names = (number_found, name_past)
 
 pub array_known : (x : Kept) (ns : List ℕ) (ts : List Kept) → place_of_kind (view_ty x) (map view_ty ts) < length ts → put_type (kind_types ns ++ map array (map view_ty ts)) (array (view_ty x)) ≡ kind_types ns ++ map array (map view_ty ts)
 array_known x ns ts lt =

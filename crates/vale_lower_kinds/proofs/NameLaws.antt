@@ -6,7 +6,8 @@ use Rattle.std.specs.Prelude.{Bool, true, false, ◌==◌, ◌||◌, Option, Som
 use Rattle.std.specs.List.{list_any}
 use Rattle.vale_rules_spec.specs.Types.{Ty, kind, same}
 use Rattle.vale_lower_kinds.specs.Added.{put_type, added, kind_types}
-use Rattle.vale_lower_kinds.specs.Names.{name_place, names_of}
+use Rattle.vale_lower_kinds.specs.Names.{place_in, name_place, names_of, AreNumbered}
+use Rattle.vale_lower_kinds.specs.declared.named.Places.{Places}
 
 abbrev is_some : {A : Type 0} → Option A → Bool
 is_some (Some x) = true
@@ -77,20 +78,18 @@ names_length : (all : List Name) → length (names_of all) ≡ length all
 names_length [] = refl
 names_length (n ∷ all) = ap suc (names_length all)
 
-pub numbered_after : (all : List Name) (m : Name) (old new : ℕ → Option ℕ) (at : ℕ) → at ≡ length all → None ≡ old m.0
-    → ((n : ℕ) → old n ≡ name_place 0 n (names_of all)) → ((n : ℕ) → new n ≡ (if m.0 == n then Some at else old n))
-    → (n : ℕ) → new n ≡ name_place 0 n (names_of (all ++ m ∷ []))
-numbered_after all m old new at is none each more n =
-    more n ∙ ap (λ k. if m.0 == n then Some k else old n) (is ∙ sym (names_length all))
-    ∙ ap (λ p. if m.0 == n then Some (length (names_of all)) else p) (each n)
-    ∙ place_after (names_of all) n m.0 (sym (each m.0) ∙ sym none)
+pub numbered_next : (all : List Name) (m : Name) (p q : Places) → AreNumbered (names_of all) p → place_in p m.0 ≡ None → ((n : ℕ) → place_in q n ≡ (if m.0 == n then Some (length all) else place_in p n)) → AreNumbered (names_of (all ++ m ∷ [])) q
+numbered_next all m p q each none more n =
+    more n ∙ ap (λ k. if m.0 == n then Some k else place_in p n) (sym (names_length all))
+    ∙ ap (λ o. if m.0 == n then Some (length (names_of all)) else o) (each n)
+    ∙ place_after (names_of all) n m.0 (sym (each m.0) ∙ none)
     ∙ ap (λ ns. name_place 0 n ns) (sym (names_last all m))
 
 -- the same of what was put
-pub put_known_name : (all : List Name) (m : Name) (old : ℕ → Option ℕ) (k : ℕ) → Some k ≡ old m.0 → ((n : ℕ) → old n ≡ name_place 0 n (names_of all)) → kind_types (names_of all) ≡ put_type (kind_types (names_of all)) (kind m.0)
-put_known_name all m old k some each = sym (put_known (names_of all) m.0 k (sym (each m.0) ∙ sym some))
+pub known_name : (all : List Name) (m : Name) (p : Places) (k : ℕ) → AreNumbered (names_of all) p → place_in p m.0 ≡ Some k → put_type (kind_types (names_of all)) (kind m.0) ≡ kind_types (names_of all)
+known_name all m p k each some = put_known (names_of all) m.0 k (sym (each m.0) ∙ some)
 
-pub put_new_name : (all : List Name) (m : Name) (old : ℕ → Option ℕ) → None ≡ old m.0 → ((n : ℕ) → old n ≡ name_place 0 n (names_of all)) → kind_types (names_of (all ++ m ∷ [])) ≡ put_type (kind_types (names_of all)) (kind m.0)
-put_new_name all m old none each = ap kind_types (names_last all m) ∙ sym (put_new (names_of all) m.0 (sym (each m.0) ∙ sym none))
+pub new_name : (all : List Name) (m : Name) (p : Places) → AreNumbered (names_of all) p → place_in p m.0 ≡ None → kind_types (names_of (all ++ m ∷ [])) ≡ put_type (kind_types (names_of all)) (kind m.0)
+new_name all m p each none = ap kind_types (names_last all m) ∙ sym (put_new (names_of all) m.0 (sym (each m.0) ∙ none))
 
-pub ruleset adds = (put_known_name, put_new_name, numbered_after)
+pub ruleset adds = (known_name)

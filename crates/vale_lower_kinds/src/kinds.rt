@@ -40,14 +40,12 @@ impl Kinds {
     fn place_of_array(&self, element: &Ty) -> usize
         ensures { result ≡ place_of_kind (view_ty element.now) (elements_in self.now) }
     {
-        let mut at = 0;
-        for own in &self.elements {
+        for (at, own) in self.elements.iter().enumerate() {
             if element.is_same(own) {
                 return at;
             }
-            at += 1;
         }
-        at
+        self.elements.len()
     }
 
     // The type of arrays of these elements, where it is new.

@@ -41,16 +41,13 @@ impl Places {
     }
 }
 
-// A name in this place, where it has none yet. A place that is 2^32 or more is want of memory.
-#[tactic(auto, using(crate::proofs::NameLaws::adds))]
-fn add_name(all: &mut Vec<Name>, places: &mut Places, name: Name) -> Result<(), Memory>
-    requires { AreNumbered (names_of all.old.items) places.old }
+// A name that has no place yet gets the next one. A place that is 2^32 or more is want of memory.
+fn put_name(all: &mut Vec<Name>, places: &mut Places, name: Name) -> Result<(), Memory>
+    requires numbered { AreNumbered (names_of all.old.items) places.old }
+    requires new { place_in places.old name.0 ≡ None }
     ensures numbered { OnOk result (AreNumbered (names_of all.new.items) places.new) }
     ensures names { OnOk result (kind_types (names_of all.new.items) ≡ put_type (kind_types (names_of all.old.items)) (y.kind name.0)) }
 {
-    if places.place(name).is_some() {
-        return Ok(());
-    }
     let at = all.len();
     if at > u32::MAX as usize {
         return Err(Memory);
@@ -58,6 +55,19 @@ fn add_name(all: &mut Vec<Name>, places: &mut Places, name: Name) -> Result<(), 
     places.add(name, at as u32)?;
     all.push(name)?;
     Ok(())
+}
+
+// A name gets the next place, where it has none.
+#[tactic(auto, using(crate::proofs::NameLaws::adds))]
+fn add_name(all: &mut Vec<Name>, places: &mut Places, name: Name) -> Result<(), Memory>
+    requires { AreNumbered (names_of all.old.items) places.old }
+    ensures numbered { OnOk result (AreNumbered (names_of all.new.items) places.new) }
+    ensures names { OnOk result (kind_types (names_of all.new.items) ≡ put_type (kind_types (names_of all.old.items)) (y.kind name.0)) }
+{
+    match places.place(name) {
+        Some(_) => Ok(()),
+        None => put_name(all, places, name),
+    }
 }
 
 // A struct or an interface gets a place.
