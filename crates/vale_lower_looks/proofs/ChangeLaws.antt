@@ -21,10 +21,6 @@ pub or_or : (a b c : Bool) → (a || (b || c)) ≡ ((a || b) || c)
 or_or true b c = refl
 or_or false b c = refl
 
-true_in : (a b : Bool) → ((a || true) || b) ≡ true
-true_in true b = refl
-true_in false b = refl
-
 module _ (l : ℕ) where
   pub local_by_parts : (e : Expr) → is_local l (view_expr e) ≡ is_local l (t.expr (view_seen (out-Expr e).seen) (view_node (out-Expr e).node))
   local_by_parts e = ap (λ z. is_local l z) (of_out_expr e)
@@ -72,32 +68,20 @@ module _ (l : ℕ) where
   pub block_else : (b : Block) → stmts_change l (stmts_of (map view_stmt (out-Block b).stmts) None) ≡ false → block_changes l (view_block b) ≡ stmts_change l (last_end (option_map view_expr (out-Block b).last))
   block_else b e = block_by_parts b ∙ ap (λ z. z || stmts_change l (last_end (option_map view_expr (out-Block b).last))) e
 
-  pub if_then : (at : Spot) (c : Expr) (b : Block) (es : List ElseIf) (o : Option Block) → elses_change l (elses_of (map view_else_if es) None) ≡ true → form_changes l (view_form (f.If at c b es o)) ≡ true
-  if_then at c b es o e =
-      if_by_parts at c b es o
-      ∙ ap (λ z. ((expr_changes l (view_expr c) || block_changes l (view_block b)) || z) || elses_change l (else_end (option_map view_block o))) e
-      ∙ true_in (expr_changes l (view_expr c) || block_changes l (view_block b)) (elses_change l (else_end (option_map view_block o)))
-
-  pub if_else : (at : Spot) (c : Expr) (b : Block) (es : List ElseIf) (o : Option Block) → expr_changes l (view_expr c) ≡ false → block_changes l (view_block b) ≡ false → elses_change l (elses_of (map view_else_if es) None) ≡ false → form_changes l (view_form (f.If at c b es o)) ≡ elses_change l (else_end (option_map view_block o))
-  if_else at c b es o ec eb ee =
-      if_by_parts at c b es o
-      ∙ ap (λ z. ((z || block_changes l (view_block b)) || elses_change l (elses_of (map view_else_if es) None)) || elses_change l (else_end (option_map view_block o))) ec
-      ∙ ap (λ z. ((false || z) || elses_change l (elses_of (map view_else_if es) None)) || elses_change l (else_end (option_map view_block o))) eb
-      ∙ ap (λ z. ((false || false) || z) || elses_change l (else_end (option_map view_block o))) ee
-
   pub by_block_then : (b : Block) (xs : List Stmt) (k : Bool) → xs ≡ (out-Block b).stmts → k ≡ stmts_change l (stmts_of (map view_stmt xs) None) → k ≡ true → true ≡ block_changes l (view_block b)
   by_block_then b xs k ex ek et = sym (block_then b (ap (λ (z : List Stmt). stmts_change l (stmts_of (map view_stmt z) None)) (sym ex) ∙ (sym ek ∙ et)))
 
   pub by_block_else : (b : Block) (xs : List Stmt) (k r : Bool) → xs ≡ (out-Block b).stmts → k ≡ stmts_change l (stmts_of (map view_stmt xs) None) → k ≡ false → r ≡ stmts_change l (last_end (option_map view_expr (out-Block b).last)) → r ≡ block_changes l (view_block b)
   by_block_else b xs k r ex ek ef er = er ∙ sym (block_else b (ap (λ (z : List Stmt). stmts_change l (stmts_of (map view_stmt z) None)) (sym ex) ∙ (sym ek ∙ ef)))
 
-  pub by_if_then : (x : Form) (at : Spot) (c : Expr) (b : Block) (es : List ElseIf) (o : Option Block) (k : Bool) → x ≡ f.If at c b es o → k ≡ elses_change l (elses_of (map view_else_if es) None) → k ≡ true → true ≡ form_changes l (view_form x)
-  by_if_then x at c b es o k ex ek et = sym (ap (λ (z : Form). form_changes l (view_form z)) ex ∙ if_then at c b es o (sym ek ∙ et))
-
-  pub by_if_else : (x : Form) (at : Spot) (c : Expr) (b : Block) (es : List ElseIf) (o : Option Block) (kc kb ke r : Bool) → x ≡ f.If at c b es o
-      → kc ≡ expr_changes l (view_expr c) → kc ≡ false → kb ≡ block_changes l (view_block b) → kb ≡ false → ke ≡ elses_change l (elses_of (map view_else_if es) None) → ke ≡ false
-      → r ≡ elses_change l (else_end (option_map view_block o)) → r ≡ form_changes l (view_form x)
-  by_if_else x at c b es o kc kb ke r ex ec fc eb fb ee fe er = er ∙ sym (ap (λ (z : Form). form_changes l (view_form z)) ex ∙ if_else at c b es o (sym ec ∙ fc) (sym eb ∙ fb) (sym ee ∙ fe))
+  pub by_if : (x : Form) (at : Spot) (c : Expr) (b : Block) (es : List ElseIf) (o : Option Block) (kc kb ke ko r : Bool) → x ≡ f.If at c b es o
+      → kc ≡ expr_changes l (view_expr c) → kb ≡ block_changes l (view_block b) → ke ≡ elses_change l (elses_of (map view_else_if es) None) → ko ≡ elses_change l (else_end (option_map view_block o))
+      → r ≡ (((kc || kb) || ke) || ko) → r ≡ form_changes l (view_form x)
+  by_if x at c b es o kc kb ke ko r ex ec eb ee eo er =
+      er ∙ ap (λ (z : Bool). ((z || kb) || ke) || ko) ec ∙ ap (λ (z : Bool). ((expr_changes l (view_expr c) || z) || ke) || ko) eb
+      ∙ ap (λ (z : Bool). ((expr_changes l (view_expr c) || block_changes l (view_block b)) || z) || ko) ee
+      ∙ ap (λ (z : Bool). ((expr_changes l (view_expr c) || block_changes l (view_block b)) || elses_change l (elses_of (map view_else_if es) None)) || z) eo
+      ∙ sym (ap (λ (z : Form). form_changes l (view_form z)) ex ∙ if_by_parts at c b es o)
 
 pub ruleset exprs = (expr_by_parts, local_by_parts)
 

@@ -123,6 +123,13 @@ fn steps_change(steps: &Items<Step>, local: Name) -> bool
     false
 }
 
+// One of the parts of an `if` does.
+fn branch_changes(condition: bool, block: bool, else_ifs: bool, otherwise: bool) -> bool
+    ensures { result ≡ (condition || block || else_ifs || otherwise) }
+{
+    condition || block || else_ifs || otherwise
+}
+
 #[cycle(changes)]
 #[tactic(auto, using(crate::proofs::ChangeLaws::forms))]
 fn form_changes(form: &Form, local: Name) -> bool
@@ -130,10 +137,12 @@ fn form_changes(form: &Form, local: Name) -> bool
 {
     match form {
         Form::If(_, condition, block, else_ifs, otherwise) => {
-            expr_changes(condition, local)
-                || block_changes(block, local)
-                || else_ifs_change(else_ifs, local)
-                || else_changes(otherwise, local)
+            branch_changes(
+                expr_changes(condition, local),
+                block_changes(block, local),
+                else_ifs_change(else_ifs, local),
+                else_changes(otherwise, local),
+            )
         }
         Form::Pure(_, block) => block_changes(block, local),
         Form::ParallelRange(_, _, from, to, block) => {
