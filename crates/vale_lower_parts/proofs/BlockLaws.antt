@@ -15,6 +15,7 @@ use Rattle.vale_lowering_objects.specs.Scopes.{Gives, void, gives_of, is_value, 
 use Rattle.vale_lowering_objects.specs.Lowered.{all_gives, then_code, if_comes, hand, drop_entry, locals_code, locals_after, expr_code, expr_after, stmts_code, stmts_after, stmt_code, stmt_after}
 use Rattle.vale_lower_flow.specs.Closing.{dropped}
 use Rattle.vale_lower_flow.specs.Flow.{Going, emitted, put, arrived, only, mark_of, begun, ended, filled, if_there}
+use Rattle.vale_lower_flow.proofs.ScopeLaws.{framed_more}
 use Rattle.vale_lower_flow.proofs.PartLaws.{Part, only_is, then_is, there_is, put_then, fill_then, nothing_is}
 use Rattle.vale_core.specs.declared.ty.Ty.{Ty}
 use Rattle.vale_core.specs.View.{view_ty}
@@ -46,7 +47,7 @@ module _ (end : Spot) (after : Leaves) (rest : Rest) where
   more_located n ns q qs h s f =
       let inner : Scope = entry n h q ∷ s in
       let one : Part = λ place g. locals_code ns qs end place (h + 1) inner g after rest in
-      let leaves = λ g. locals_after ns qs (h + 1) inner g after in
+      let leaves : Gone → After = λ g. locals_after ns qs (h + 1) inner g after in
       let drops : Part = λ place g. drop_entry (entry n h q) g end in
       sym (ap (λ z. only (is_value q) (length f.code) h (if_there drops z)) (fill_then h one leaves f)
       ∙ ap (λ z. only (is_value q) (length f.code) h z) (there_is drops (λ place g. one place (without h g)) (λ g. leaves (without h g)) f)
@@ -102,6 +103,8 @@ module _ (end : Spot) (after : Leaves) (rest : Rest) where
       ap (λ z. kept_located z (drop k xs) h s f) en ∙ ap (λ z. kept_located (n ∷ drop (k + 1) ns) z h s f) ex
       ∙ more_located end after rest n.name.0 (numbers_of (drop (k + 1) ns)) (gives_of (view_ty x)) (all_gives (map view_ty (drop (k + 1) xs))) h s f
 
+pub ruleset frames = (framed_more)
+
 -- ---- statements one after another
 
 module _ (a : Around) (q : Gives) (end : Spot) (to : ℕ) where
@@ -120,7 +123,7 @@ module _ (a : Around) (q : Gives) (end : Spot) (to : ℕ) where
     unfolding stmts_emitted expr_emitted
     last_is e f =
         let one : Part = λ place g. expr_code a e place h s g in
-        let after = λ g. expr_after e h s g in
+        let after : Gone → After = λ g. expr_after e h s g in
         let ok = agree q (gives_of (type e)) in
         sym (ap (λ z. only ok (length f.code) h z) (there_is (λ place g. hand q to h) one after f)
         ∙ only_is (λ g. ok) h (λ place g. if_comes place (one place g) (after g) (λ place g. hand q to h)) after f)
@@ -136,9 +139,9 @@ module _ (a : Around) (q : Gives) (end : Spot) (to : ℕ) where
         let local : Entry = entry n.name.0 h (gives_of x) in
         let inner : Scope = local ∷ s in
         let one : Part = λ place g. expr_code a e place h s g in
-        let leaves = λ g. expr_after e h s g in
+        let leaves : Gone → After = λ g. expr_after e h s g in
         let two : Part = λ place g. stmts_code a q end ss place to (h + 1) inner g in
-        let more = λ g. stmts_after ss (h + 1) inner g in
+        let more : Gone → After = λ g. stmts_after ss (h + 1) inner g in
         let drops : Part = λ place g. drop_entry local g end in
         let ok = is_value (gives_of (type e)) && is_value (gives_of x) in
         let f1 = emitted one leaves f in
@@ -157,12 +160,12 @@ module _ (a : Around) (q : Gives) (end : Spot) (to : ℕ) where
     unfolding stmts_emitted expr_emitted located
     destructure_is at ns xs e ss f =
         let one : Part = λ place g. expr_code a e place h s g in
-        let leaves = λ g. expr_after e h s g in
+        let leaves : Gone → After = λ g. expr_after e h s g in
         let opened : List Instr = i.Open (registers_from h (length (numbers_of ns))) h ∷ [] in
         let after : Leaves = λ h s g. stmts_after ss h s g in
         let rest : Rest = λ place h s g. stmts_code a q end ss place to h s g in
         let two : Part = λ place g. locals_code (numbers_of ns) (all_gives xs) end place h s g after rest in
-        let more = λ g. locals_after (numbers_of ns) (all_gives xs) h s g after in
+        let more : Gone → After = λ g. locals_after (numbers_of ns) (all_gives xs) h s g after in
         let ok = is_value (gives_of (type e)) in
         let f1 = emitted one leaves f in
         let all : Part = λ place g. opened ++ two (place + length opened) g in

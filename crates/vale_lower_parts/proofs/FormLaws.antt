@@ -36,7 +36,7 @@ module _ (a : Around) (h : ℕ) (s : Scope) where
   unfolding node_emitted block_emitted
   iso_is x q at b f =
       let one : Part = λ place g. block_code a owner b place h (h + 1) s g in
-      let after = λ g. block_after b (h + 1) s g in
+      let after : Gone → After = λ g. block_after b (h + 1) s g in
       sym (ap (λ z. only (agree q owner) (length f.code) h z) (freeze_is at one after (i.ThawKeep h h ∷ []) f)
       ∙ only_is (λ g. agree q owner) h (λ place g. freeze_code at place (λ place. one place g) (after g) (i.ThawKeep h h ∷ [])) after f)
 
@@ -84,9 +84,9 @@ module _ (a : Around) (h : ℕ) (s : Scope) where
     unfolding block_emitted elses_emitted
     both_is f2 =
         let one : Part = λ place g. block_code a q b place h (h + 1) s g in
-        let x = λ g. block_after b (h + 1) s g in
+        let x : Gone → After = λ g. block_after b (h + 1) s g in
         let two : Part = λ place g. elses_code a q es before place h s g in
-        let y = λ g. elses_after es before h s g in
+        let y : Gone → After = λ g. elses_after es before h s g in
         let n = length f2.code in
         let f3 = emitted one x (put (i.Jump 0 ∷ []) f2) in
         let f4 = turned n h f2.gone f3 in
@@ -106,10 +106,10 @@ module _ (a : Around) (h : ℕ) (s : Scope) where
     unfolding expr_emitted elses_emitted
     branch_is f =
         let one : Part = λ place g. expr_code a c place h s g in
-        let x = λ g. expr_after c h s g in
+        let x : Gone → After = λ g. expr_after c h s g in
         let two : Part = λ place now. only_if (may_meet s (block_after b (h + 1) s now) (elses_after es before h s now)) h
         (sides place h (block_after b (h + 1) s now) (λ place. block_code a q b place h (h + 1) s now) (λ place. elses_code a q es before place h s now)) in
-        let y = λ now. met before (block_after b (h + 1) s now) (elses_after es before h s now) in
+        let y : Gone → After = λ now. met before (block_after b (h + 1) s now) (elses_after es before h s now) in
         let f1 = emitted one x f in
         let ok = is_value (gives_of (type c)) in
         ap (λ z. only ok (length f.code) h (ended (mark_of f1) z)) (both_is (begun (h + 1) f1))

@@ -21,7 +21,7 @@ use Rattle.vale_code.specs.declared.instr.Instr.TheVariants as i
 use Rattle.vale_lowering.specs.Instructions.{only_if, and_code, operator, unary_code}
 use Rattle.vale_lowering.specs.Scopes.{number_of_text}
 use Rattle.vale_lowering.specs.Texts.{is_lawful_text}
-use Rattle.vale_lowering_objects.specs.Scopes.{Gives, void, copy, owner, gives_of, is_value, agree, Scope, Gone, After, comes, never, then_after, no_run, Around, waiting, find, closes}
+use Rattle.vale_lowering_objects.specs.Scopes.{Gives, void, copy, owner, gives_of, is_value, agree, Scope, Gone, After, comes, never, then_after, no_run, Around, waiting, without, find, closes}
 use Rattle.vale_lowering_objects.specs.Lowered.{expr_code, node_code, links_code, args_code, link_code, borrow_code, expr_after, node_after, links_after, args_after, link_after, callee_code, make_code, then_code, sides, gives_list, first_type, truth_number}
 use Rattle.vale_lower_flow.specs.Flow.{Going, gone_in, comes_in, emitted, put, arrived, only, mark_of, begun, ended, filled, turned, joined, skipped, after_of}
 use Rattle.vale_lower_flow.proofs.PartLaws as p
@@ -108,8 +108,8 @@ module _ (a : Around) (h : ℕ) (s : Scope) where
     chain_is e ls f =
         let one : Part = λ place g. expr_code a e place h s g in
         let two : Part = λ place g. links_code a ls place h s g in
-        let after = λ g. expr_after e h s g in
-        let more = λ g. links_after ls h s g in
+        let after : Gone → After = λ g. expr_after e h s g in
+        let more : Gone → After = λ g. links_after ls h s g in
         let ok = is_value (gives_of (type e)) && agree q copy in
         sym (ap (λ z. only ok (length f.code) h z) (then_is (h + 1) one two after more f)
         ∙ only_is (λ g. ok) h (λ place g. then_code place (h + 1) (one place g) (after g) two) (λ g. then_after (after g) more) f)
@@ -123,7 +123,7 @@ module _ (a : Around) (h : ℕ) (s : Scope) where
     unfolding node_emitted expr_emitted
     merge_is at e f =
         let one : Part = λ place g. expr_code a e place h s g in
-        let after = λ g. expr_after e h s g in
+        let after : Gone → After = λ g. expr_after e h s g in
         let ok = agree owner (gives_of (type e)) && agree q owner in
         sym (ap (λ z. only ok (length f.code) h z) (then_put (h + 1) (i.Merge h h ∷ []) one after f)
         ∙ only_is (λ g. ok) h (λ place g. then_code place (h + 1) (one place g) (after g) (λ place g. i.Merge h h ∷ [])) after f)
@@ -137,7 +137,7 @@ module _ (a : Around) (h : ℕ) (s : Scope) where
     unfolding expr_emitted plain_unary
     plain_unary_is at op e f =
         let one : Part = λ place g. expr_code a e place h s g in
-        let after = λ g. expr_after e h s g in
+        let after : Gone → After = λ g. expr_after e h s g in
         let ok = is_value (gives_of (type e)) && agree q copy in
         sym (ap (λ z. only ok (length f.code) h z) (then_put (h + 1) (unary_code op at h) one after f)
         ∙ only_is (λ g. ok) h (λ place g. then_code place (h + 1) (one place g) (after g) (λ place g. unary_code op at h)) after f)
@@ -172,9 +172,9 @@ module _ (a : Around) (h : ℕ) (s : Scope) where
   more_args e es f =
       let inner : Scope = waiting h (gives_of (type e)) ∷ s in
       let one : Part = λ place g. expr_code a e place h s g in
-      let after = λ g. expr_after e h s g in
+      let after : Gone → After = λ g. expr_after e h s g in
       let two : Part = λ place g. args_code a es place (h + 1) inner g in
-      let more = λ g. args_after es (h + 1) inner g in
+      let more : Gone → After = λ g. args_after es (h + 1) inner g in
       let ok = is_value (gives_of (type e)) in
       sym (ap (λ z. only ok (length f.code) h (ended (mark_of (emitted one after f)) z)) (fill_then h two more (begun (h + 1) (emitted one after f)))
       ∙ ap (λ z. only ok (length f.code) h z) (then_is (h + 1) one (λ place g. two place (without h g)) after (λ g. more (without h g)) f)
@@ -193,9 +193,9 @@ module _ (a : Around) (h : ℕ) (s : Scope) where
   more_links (t.link x at op e) ls f =
       let l : t.Link = t.link x at op e in
       let one : Part = λ place g. one_link_code a l place h s g in
-      let after = λ g. one_link_after a l h s g in
+      let after : Gone → After = λ g. one_link_after a l h s g in
       let two : Part = λ place g. links_code a ls place h s g in
-      let more = λ g. links_after ls h s g in
+      let more : Gone → After = λ g. links_after ls h s g in
       let ok = agree copy (gives_of (type e)) in
       sym (ap (λ z. only ok (length f.code) h z) (then_is (h + 1) one two after more f)
       ∙ only_is (λ g. ok) h (λ place g. then_code place (h + 1) (one place g) (after g) two) (λ g. then_after (after g) more) f)
@@ -210,7 +210,7 @@ module _ (a : Around) (h : ℕ) (s : Scope) where
   unfolding link_emitted expr_emitted
   or_is x at e before f =
       let b : Part = λ place g. expr_code a e place h s g in
-      let y = λ g. expr_after e h s g in
+      let y : Gone → After = λ g. expr_after e h s g in
       let none : Part = λ place g. [] in
       let n = length f.code in
       let ended_by : Going → Going = λ f1. joined f1.comes (length f1.code) before (after_of f1.comes f1.gone) (emitted b y (turned n h f.gone f1)) in
@@ -231,7 +231,7 @@ module _ (a : Around) (h : ℕ) (s : Scope) where
   unfolding link_emitted expr_emitted
   and_is x at e f =
       let b : Part = λ place g. expr_code a e place h s g in
-      let y = λ g. expr_after e h s g in
+      let y : Gone → After = λ g. expr_after e h s g in
       let n = length f.code in
       let f1 = put (i.Jump 0 ∷ []) f in
       let f2 = emitted b y f1 in
@@ -251,8 +251,8 @@ module _ (a : Around) (h : ℕ) (s : Scope) where
 
   pub link_is : (o : BinaryOp) (x : y.Seen) (at : Spot) (e : t.Expr) (f : Going) → (o ≡ op.Or → ⊥) → (o ≡ op.And → ⊥) → link_emitted a (t.link x at o e) h s f ≡ operated o x.value at e f
   unfolding link_emitted
-  link_is op.Or x at e f no _ = absurd (no refl)
-  link_is op.And x at e f _ no = absurd (no refl)
+  link_is op.Or x at e f not_or _ = absurd (not_or refl)
+  link_is op.And x at e f _ not_and = absurd (not_and refl)
   link_is op.Equal x at e f _ _ = operated_is op.Equal x.value at e f
   link_is op.NotEqual x at e f _ _ = operated_is op.NotEqual x.value at e f
   link_is op.Less x at e f _ _ = operated_is op.Less x.value at e f

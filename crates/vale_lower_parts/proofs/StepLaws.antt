@@ -85,7 +85,7 @@ module _ (a : Around) (h : ℕ) (s : Scope) where
     unfolding node_emitted
     node_started_by x node f =
         let one : Part = λ place g. node_code a x.value copy node place h s g in
-        let leaves = λ g. node_after node h s g in
+        let leaves : Gone → After = λ g. node_after node h s g in
         let two : Part = λ place g. part (reference h) place (h + 1) g in
         let ok = agree copy (gives_of x.value) in
         ap (λ z. only ok (length f.code) h z) (then_is (h + 1) one two leaves (after (h + 1)) f)
@@ -124,7 +124,7 @@ module _ (a : Around) (h : ℕ) (s : Scope) where
     unfolding step_emitted expr_emitted
     index_is x view at e f =
         let one : Part = λ place g. expr_code a e place h s g in
-        let after = λ g. expr_after e h s g in
+        let after : Gone → After = λ g. expr_after e h s g in
         let ok = agree copy (gives_of (type e)) in
         sym (ap (λ z. only ok (length f.code) to z) (then_put (h + 1) (load_element o h at to) one after f)
         ∙ only_is (λ g. ok) to (λ place g. then_code place (h + 1) (one place g) (after g) (λ place g. load_element o h at to)) after f)
@@ -142,7 +142,7 @@ module _ (a : Around) (h : ℕ) (s : Scope) where
     unfolding swap_emitted expr_emitted
     index_set x view at e f =
         let one : Part = λ place g. expr_code a e place h s g in
-        let after = λ g. expr_after e h s g in
+        let after : Gone → After = λ g. expr_after e h s g in
         let ok = agree copy (gives_of (type e)) in
         sym (ap (λ z. only ok (length f.code) to z) (then_put (h + 1) (swap_element o h at to) one after f)
         ∙ only_is (λ g. ok) to (λ place g. then_code place (h + 1) (one place g) (after g) (λ place g. swap_element o h at to)) after f)
@@ -164,9 +164,9 @@ module _ (a : Around) (h : ℕ) (s : Scope) where
   unfolding node_emitted first_emitted started steps_emitted
   chain_of_steps x q e z zs f =
       let one : Part = λ place g. start_code a e (step_view z) (λ n. step_changes n z) place h s g (λ o place k g. step_code a o z place h k s g) in
-      let after = λ g. start_after e (step_view z) (λ n. step_changes n z) h s g (λ k g. step_after z k s g) in
+      let after : Gone → After = λ g. start_after e (step_view z) (λ n. step_changes n z) h s g (λ k g. step_after z k s g) in
       let two : Part = λ place g. steps_code a zs place h s g in
-      let more = λ g. steps_after zs h s g in
+      let more : Gone → After = λ g. steps_after zs h s g in
       sym (ap (λ w. only (agree q copy) (length f.code) h w) (then_is (h + 1) one two after more f)
       ∙ only_is (λ g. agree q copy) h (λ place g. then_code place (h + 1) (one place g) (after g) two) (λ g. then_after (after g) more) f)
 
@@ -181,9 +181,9 @@ module _ (a : Around) (h : ℕ) (s : Scope) where
   unfolding node_emitted expr_emitted place_emitted
   set_is x q at p e f =
       let one : Part = λ place g. expr_code a e place h s g in
-      let after = λ g. expr_after e h s g in
+      let after : Gone → After = λ g. expr_after e h s g in
       let two : Part = λ place g. place_code a p (gives_of (type e)) place h s g in
-      let more = λ g. place_after p (gives_of (type e)) h s g in
+      let more : Gone → After = λ g. place_after p (gives_of (type e)) h s g in
       let ok = is_value (gives_of (type e)) && agree q (gives_of (type e)) in
       sym (ap (λ w. only ok (length f.code) h w) (then_is (h + 1) one two after more f)
       ∙ only_is (λ g. ok) h (λ place g. then_code place (h + 1) (one place g) (after g) two) (λ g. then_after (after g) more) f)
@@ -210,9 +210,9 @@ module _ (a : Around) (h : ℕ) (s : Scope) where
   place_of_more x q e z w ws f =
       let inner : Scope = waiting h q ∷ s in
       let one : Part = λ place g. start_code a e (step_view z) (λ n. step_changes n z) place (h + 1) inner g (λ o place k g. step_code a o z place (h + 1) k inner g) in
-      let after = λ g. start_after e (step_view z) (λ n. step_changes n z) (h + 1) inner g (λ k g. step_after z k inner g) in
+      let after : Gone → After = λ g. start_after e (step_view z) (λ n. step_changes n z) (h + 1) inner g (λ k g. step_after z k inner g) in
       let two : Part = λ place g. targets_code a (t.more_steps w ws) place h (h + 1) inner g in
-      let more = λ g. targets_after (t.more_steps w ws) (h + 1) inner g in
+      let more : Gone → After = λ g. targets_after (t.more_steps w ws) (h + 1) inner g in
       sym (then_is (h + 2) one two after more (filled h f)
       ∙ fill_then h (λ place g. then_code place (h + 2) (one place g) (after g) two) (λ g. then_after (after g) more) f)
 

@@ -92,7 +92,7 @@ module _ (a : Around) (h : ℕ) (s : Scope) where
   unfolding stmt_emitted expr_emitted
   return_value_is at e f =
       let one : Part = λ place g. expr_code a e place h s g in
-      let x = λ g. expr_after e h s g in
+      let x : Gone → After = λ g. expr_after e h s g in
       let rest : Part = λ place g. drop_scope s g at ++ (i.Ret h ∷ []) in
       let ok = is_value (gives_of (type e)) && agree a.gives (gives_of (type e)) in
       sym (ap (λ z. left (only ok (length f.code) h z)) (there_is rest one x f)
@@ -112,9 +112,9 @@ module _ (a : Around) (h : ℕ) (s : Scope) where
   unfolding stmt_emitted expr_emitted block_emitted
   turns_is at c b f e =
       let test : Part = λ place g. expr_code a c place h s g in
-      let x = λ g. expr_after c h s g in
+      let x : Gone → After = λ g. expr_after c h s g in
       let body : Part = λ place g. block_code a void b place h (h + 1) s g in
-      let z = λ g. block_after b (h + 1) s g in
+      let z : Gone → After = λ g. block_after b (h + 1) s g in
       let n = length f.code in
       let g0 = f.gone in
       let f1 = put (i.Tick ∷ []) (put (i.Jump 0 ∷ []) f) in
@@ -150,7 +150,7 @@ module _ (a : Around) (h : ℕ) (s : Scope) where
   unfolding stmt_emitted expr_emitted set_only
   set_only_is x y at n is_outer is_moved e f =
       let one : Part = λ place g. expr_code a e place h s g in
-      let leaves = λ g. expr_after e h s g in
+      let leaves : Gone → After = λ g. expr_after e h s g in
       let rest : Part = λ place g. store (find n.name.0 s) g (gives_of (type e)) h at in
       let ok = is_value (gives_of (type e)) && agree (gives_of x.value) (gives_of (type e)) in
       sym (ap (λ z. only ok (length f.code) h z) (there_is rest one leaves f)

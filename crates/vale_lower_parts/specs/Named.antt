@@ -1,5 +1,5 @@
 -- A local that is named and not moved.
-use Rattle.std.specs.Prelude.{ℕ, Option, Some, None}
+use Rattle.std.specs.Prelude.{ℕ, Bool, false, Option, Some, None}
 use Rattle.vale_rules_spec.specs.Typed.{Expr, expr, Node, name}
 
 abbrev pub unmoved_in : Node → Option ℕ

@@ -82,27 +82,17 @@ fn stays(local: Local, view: &View, changes: bool) -> bool
     !changes && (!local.owned || is_direct(view))
 }
 
-/// The same from a local: from its register where it stays there, and else from a reference to what it holds.
-#[tactic(auto, using(crate::proofs::StepLaws::bases), unfolding(crate::specs::Branches::base_ended))]
-pub fn base_of_local(
-    local: Option<Local>,
+// The same from a local: from its register where it stays there, and else from a reference to what it holds.
+fn base_at(
+    local: Local,
     view: &View,
     changes: bool,
     h: u32,
     flow: &mut Flow,
 ) -> Result<Base, Memory>
-    ensures { IfOk result (λ b. (part : Rest) (after : Leaves) → base_ended b h (emitted (λ place g. part (view_origin b.origin) place b.next g) (after b.next) (going flow.new)) ≡ local_started (view_view view.now) h part after (option_map entry_of local) changes (going flow.old)) }
+    ensures { IfOk result (λ b. (part : Rest) (after : Leaves) → base_ended b h (emitted (λ place g. part (view_origin b.origin) place b.next g) (after b.next) (going flow.new)) ≡ local_started (view_view view.now) h part after (Some (entry_of local)) changes (going flow.old)) }
 {
     let start = flow.place()?;
-    let Some(local) = local else {
-        return Ok(Base {
-            origin: Origin::Reference(h),
-            next: h,
-            start,
-            is_there: false,
-            mark: Mark { comes: true, start },
-        });
-    };
     if stays(local, view, changes) {
         return Ok(Base {
             origin: origin_of(local),
@@ -122,6 +112,31 @@ pub fn base_of_local(
         is_there: true,
         mark,
     })
+}
+
+/// What a first step starts from, where that is a local that is named; no step follows where there is none.
+pub fn base_of_local(
+    local: Option<Local>,
+    view: &View,
+    changes: bool,
+    h: u32,
+    flow: &mut Flow,
+) -> Result<Base, Memory>
+    ensures { IfOk result (λ b. (part : Rest) (after : Leaves) → base_ended b h (emitted (λ place g. part (view_origin b.origin) place b.next g) (after b.next) (going flow.new)) ≡ local_started (view_view view.now) h part after (option_map entry_of local) changes (going flow.old)) }
+{
+    match local {
+        Some(local) => base_at(local, view, changes, h, flow),
+        None => {
+            let start = flow.place()?;
+            Ok(Base {
+                origin: Origin::Reference(h),
+                next: h,
+                start,
+                is_there: false,
+                mark: Mark { comes: true, start },
+            })
+        }
+    }
 }
 
 /// The branches end, the last first.

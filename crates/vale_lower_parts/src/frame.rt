@@ -27,6 +27,7 @@ pub struct Frame {
 
 impl Frame {
     /// A local in the next free register, dropped at the block's end.
+    #[tactic(auto, using(crate::proofs::BlockLaws::frames))]
     pub fn declare(
         &mut self,
         name: Name,

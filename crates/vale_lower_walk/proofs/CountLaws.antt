@@ -35,7 +35,7 @@ module _ (a : Around) (at : Spot) (n : ℕ) (b : t.Block) (h : ℕ) (s : Scope) 
   count_is f =
       let inner : Scope = turn_scope a at n b h s in
       let body : Part = λ place g. block_code a void b place h (h + 2 + 1) inner (without (h + 2) g) in
-      let z = λ g. block_after b (h + 2 + 1) inner (without (h + 2) g) in
+      let z : Gone → After = λ g. block_after b (h + 2 + 1) inner (without (h + 2) g) in
       let ends : Part = λ place g. i.Int (h + 2) (pos 1) ∷ i.Add h h (h + 2) at ∷ [] in
       let test : List Instr = i.Cmp (h + 2) 2 h (h + 1) ∷ [] in
       let f1 : Going = put (i.Sub (h + 2) h h at ∷ []) f in
@@ -64,10 +64,10 @@ module _ (a : Around) (h : ℕ) (s : Scope) where
   unfolding stmt_emitted expr_emitted count_emitted
   foreach_is at n c e b f =
       let one : Part = λ place g. expr_code a c place h s g in
-      let x = λ g. expr_after c h s g in
+      let x : Gone → After = λ g. expr_after c h s g in
       let two : Part = λ place g. expr_code a e place (h + 1) s g in
-      let y = λ g. expr_after e (h + 1) s g in
-      let z = λ g. block_after b (h + 2 + 1) (turn_scope a at n.name.0 b h s) (without (h + 2) g) in
+      let y : Gone → After = λ g. expr_after e (h + 1) s g in
+      let z : Gone → After = λ g. block_after b (h + 2 + 1) (turn_scope a at n.name.0 b h s) (without (h + 2) g) in
       let three : Part = λ place g. only_if (closes s g (z g)) h (count_code place h at (z g) (λ place. block_code a void b place h (h + 2 + 1) (turn_scope a at n.name.0 b h s) (without (h + 2) g))) in
       let rest : Part = λ place g. then_code place (h + 2) (two place g) (y g) three in
       let ok = is_value (gives_of (type c)) && is_value (gives_of (type e)) in
