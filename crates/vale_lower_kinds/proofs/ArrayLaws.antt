@@ -65,9 +65,7 @@ by_if x at c b es o t0 t1 t2 t3 t4 ex e1 e2 e3 e4 =
     ∙ (sym (added_more (added (added t0 qa) qb) qc qd) ∙ (ap (λ (z : List Ty). added z (qc ++ qd)) (sym (added_more t0 qa qb)) ∙ (sym (added_more t0 (qa ++ qb) (qc ++ qd))
     ∙ ap (λ (z : List Ty). added t0 z) (sym (ap (λ (y : Form). form_arrays (view_form y)) ex ∙ if_by_parts at c b es o))))))
 
-pub ruleset exprs = (expr_by_parts)
-
-pub ruleset nodes = (v.of_set, v.of_chain, v.of_unary, v.of_steps, v.of_number, v.of_quote, v.of_truth, v.of_name, v.of_call, v.of_paren, v.of_elements, v.of_isolate, v.of_form, added_more)
+pub ruleset nodes = (expr_by_parts, v.of_set, v.of_chain, v.of_unary, v.of_steps, v.of_number, v.of_quote, v.of_truth, v.of_name, v.of_call, v.of_paren, v.of_elements, v.of_isolate, v.of_form, added_more)
 
 pub ruleset lists = (added_more, link_first, else_if_first)
 

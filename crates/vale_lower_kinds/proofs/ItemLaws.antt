@@ -13,10 +13,9 @@ kinds_by_parts items k0 k1 k2 e0 e1 e2 =
     let ns : List Ty = flat_map named_kinds items in
     let ds : List Ty = flat_map declared_arrays items in
     let ms : List Ty = flat_map made_arrays items in
-    e2 ∙ ap (λ k. added k ms) (e1 ∙ ap (λ k. added k ds) e0)
-    ∙ sym (added_more (added [] ns) ds ms)
-    ∙ sym (added_more [] ns (ds ++ ms))
-    ∙ sym (once_is (ns ++ (ds ++ ms)))
+    e2 ∙ ap (λ k. added k ms) (e1 ∙ ap (λ k. added k ds) e0 ∙ sym (added_more [] ns ds))
+    ∙ sym (added_more [] (ns ++ ds) ms)
+    ∙ sym (once_is ((ns ++ ds) ++ ms))
 
 pub ruleset adds = (added_more)
 

@@ -1,6 +1,7 @@
 -- Kinds that are found and kinds that are new.
-use Rattle.std.proofs.Common.{◌≡◌, ℕ, zero, suc, ◌+◌, ◌<◌, ◌≤◌, List, [], ◌∷◌, ◌++◌, length, refl, ap, sym, ◌∙◌, arith, append_assoc, append-nil, length-append}
-use Rattle.std.specs.Prelude.{Bool, true, false, ◌==◌, ◌||◌, Option, Some, None, map, if◌then◌else◌}
+use Rattle.std.proofs.Common.{◌≡◌, ℕ, zero, suc, ◌+◌, ◌<◌, ◌≤◌, List, [], ◌∷◌, ◌++◌, length, refl, ap, sym, ◌∙◌, arith, append_assoc, append-nil, length-append, true≢false}
+use Rattle.std.proofs.lemmas.Option.{none-some}
+use Rattle.std.specs.Prelude.{Bool, true, false, ◌==◌, ◌||◌, Option, Some, None, map, unwrap_or, if◌then◌else◌}
 use Rattle.std.specs.List.{list_any}
 use Rattle.vale_core.specs.declared.ty.Ty.{Ty as Kept}
 use Rattle.vale_core.specs.View.{view_ty}
@@ -18,9 +19,15 @@ array_in_arrays : (x : Ty) (es : List Ty) → place_of_kind (array x) (map array
 array_in_arrays x [] = refl
 array_in_arrays x (e ∷ es) = ap (λ n. if same x e then 0 else suc n) (array_in_arrays x es)
 
+none_before : (n : ℕ) → n ≡ 0 + n
+none_before n = omega arith
+
+one_before : (m n : ℕ) → suc (m + n) ≡ suc m + n
+one_before m n = omega arith
+
 pub number_of_array : (x : Ty) (ns : List ℕ) (es : List Ty) → place_of_kind (array x) (kind_types ns ++ map array es) ≡ length ns + place_of_kind x es
-number_of_array x [] es = array_in_arrays x es
-number_of_array x (n ∷ ns) es = ap suc (number_of_array x ns es)
+number_of_array x [] es = array_in_arrays x es ∙ none_before (place_of_kind x es)
+number_of_array x (n ∷ ns) es = ap suc (number_of_array x ns es) ∙ one_before (length ns) (place_of_kind x es)
 
 -- a type that is neither is past all
 abbrev is_other : Ty → Bool
@@ -29,6 +36,8 @@ is_other (array x) = false
 is_other x = true
 
 not_a_name : (x : Ty) (n : ℕ) → is_other x ≡ true → same x (kind n) ≡ false
+not_a_name (kind m) n e = absurd (true≢false (sym e))
+not_a_name (array x) n e = absurd (true≢false (sym e))
 not_a_name void n e = refl
 not_a_name int n e = refl
 not_a_name bool n e = refl
@@ -38,6 +47,8 @@ not_a_name (imm x) n e = refl
 not_a_name (iso x) n e = refl
 
 not_an_array : (x z : Ty) → is_other x ≡ true → same x (array z) ≡ false
+not_an_array (kind m) z e = absurd (true≢false (sym e))
+not_an_array (array x) z e = absurd (true≢false (sym e))
 not_an_array void z e = refl
 not_an_array int z e = refl
 not_an_array bool z e = refl
@@ -51,8 +62,8 @@ other_past_arrays x [] e = refl
 other_past_arrays x (z ∷ es) e = ap (λ b. if b then 0 else suc (place_of_kind x (map array es))) (not_an_array x z e) ∙ ap suc (other_past_arrays x es e)
 
 other_past : (x : Ty) (ns : List ℕ) (es : List Ty) → is_other x ≡ true → place_of_kind x (kind_types ns ++ map array es) ≡ length ns + length es
-other_past x [] es e = other_past_arrays x es e
-other_past x (n ∷ ns) es e = ap (λ b. if b then 0 else suc (place_of_kind x (kind_types ns ++ map array es))) (not_a_name x n e) ∙ ap suc (other_past x ns es e)
+other_past x [] es e = other_past_arrays x es e ∙ none_before (length es)
+other_past x (n ∷ ns) es e = ap (λ b. if b then 0 else suc (place_of_kind x (kind_types ns ++ map array es))) (not_a_name x n e) ∙ ap suc (other_past x ns es e) ∙ one_before (length ns) (length es)
 
 pub number_of_void : (ns : List ℕ) (es : List Ty) → place_of_kind void (kind_types ns ++ map array es) ≡ length ns + length es
 number_of_void ns es = other_past void ns es refl
@@ -77,28 +88,27 @@ number_of_iso x ns es = other_past (iso x) ns es refl
 
 -- a name
 found_by : (b : Bool) (at k : ℕ) (rest : Option ℕ) (place : ℕ) → (if b then Some at else rest) ≡ Some k → (rest ≡ Some k → (at + 1) + place ≡ k) → at + (if b then 0 else suc place) ≡ k
-found_by true at k rest place e more = let h : at ≡ k = some_is e in omega arith
-  where
-    some_is : {m n : ℕ} → Some m ≡ Some n → m ≡ n
-    some_is refl = refl
+found_by true at k rest place e more = let h : at ≡ k = ap (λ o. unwrap_or o 0) e in omega arith
 found_by false at k rest place e more = let h : (at + 1) + place ≡ k = more e in omega arith
 
 found_from : (at n k : ℕ) (ns : List ℕ) (rest : List Ty) → name_place at n ns ≡ Some k → at + place_of_kind (kind n) (kind_types ns ++ rest) ≡ k
+found_from at n k [] rest e = absurd (none-some k e)
 found_from at n k (m ∷ ns) rest e = found_by (n == m) at k (name_place (at + 1) n ns) (place_of_kind (kind n) (kind_types ns ++ rest)) e (λ h. found_from (at + 1) n k ns rest h)
 
 pub number_found : (n k : ℕ) (ns : List ℕ) (es : List Ty) → name_place 0 n ns ≡ Some k → place_of_kind (kind n) (kind_types ns ++ map array es) ≡ k
-number_found n k ns es e = found_from 0 n k ns (map array es) e
+number_found n k ns es e = none_before (place_of_kind (kind n) (kind_types ns ++ map array es)) ∙ found_from 0 n k ns (map array es) e
 
 name_past_arrays : (n : ℕ) (es : List Ty) → place_of_kind (kind n) (map array es) ≡ length es
 name_past_arrays n [] = refl
 name_past_arrays n (e ∷ es) = ap suc (name_past_arrays n es)
 
 past_by : (b : Bool) (at : ℕ) (rest : Option ℕ) (place more : ℕ) → (if b then Some at else rest) ≡ None → (rest ≡ None → place ≡ more) → (if b then 0 else suc place) ≡ suc more
-past_by false at rest place more e then = ap suc (then e)
+past_by false at rest place more e next = ap suc (next e)
+past_by true at rest place more e next = absurd (none-some at (sym e))
 
 past_from : (at n : ℕ) (ns : List ℕ) (es : List Ty) → name_place at n ns ≡ None → place_of_kind (kind n) (kind_types ns ++ map array es) ≡ length ns + length es
-past_from at n [] es e = name_past_arrays n es
-past_from at n (m ∷ ns) es e = past_by (n == m) at (name_place (at + 1) n ns) (place_of_kind (kind n) (kind_types ns ++ map array es)) (length ns + length es) e (λ h. past_from (at + 1) n ns es h)
+past_from at n [] es e = name_past_arrays n es ∙ none_before (length es)
+past_from at n (m ∷ ns) es e = past_by (n == m) at (name_place (at + 1) n ns) (place_of_kind (kind n) (kind_types ns ++ map array es)) (length ns + length es) e (λ h. past_from (at + 1) n ns es h) ∙ one_before (length ns) (length es)
 
 pub number_past : (n : ℕ) (ns : List ℕ) (es : List Ty) → name_place 0 n ns ≡ None → place_of_kind (kind n) (kind_types ns ++ map array es) ≡ length ns + length es
 number_past n ns es e = past_from 0 n ns es e
@@ -113,16 +123,16 @@ any_array x [] (e ∷ es) = ap (λ b. same x e || b) (any_array x [] es)
 any_array x (n ∷ ns) es = any_array x ns es
 
 known_by : (b : Bool) (place count : ℕ) (more : Bool) → (if b then 0 else suc place) < suc count → (place < count → more ≡ true) → (b || more) ≡ true
-known_by true place count more lt then = refl
-known_by false place count more lt then = then (omega arith)
+known_by true place count more lt next = refl
+known_by false place count more lt next = next (omega arith)
 
 known_any : (x : Ty) (es : List Ty) → place_of_kind x es < length es → list_any (same x) es ≡ true
 known_any x [] lt = absurd (omega arith)
 known_any x (e ∷ es) lt = known_by (same x e) (place_of_kind x es) (length es) (list_any (same x) es) lt (λ less. known_any x es less)
 
 new_by : (b : Bool) (place count : ℕ) (more : Bool) → suc count ≤ (if b then 0 else suc place) → (count ≤ place → more ≡ false) → (b || more) ≡ false
-new_by true place count more le then = absurd (omega arith)
-new_by false place count more le then = then (omega arith)
+new_by true place count more le next = absurd (omega arith)
+new_by false place count more le next = next (omega arith)
 
 new_any : (x : Ty) (es : List Ty) → length es ≤ place_of_kind x es → list_any (same x) es ≡ false
 new_any x [] le = refl

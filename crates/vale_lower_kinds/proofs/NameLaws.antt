@@ -64,10 +64,14 @@ after_by false false p k e none = or_nothing p
 after_by true false p k e none = absurd (true≢false e)
 after_by false true p k e none = absurd (true≢false (sym e))
 
+none_before : (n : ℕ) → n ≡ 0 + n
+none_before n = omega arith
+
 -- what is found after a name got the place at the end
 pub place_after : (ns : List ℕ) (n m : ℕ) → name_place 0 m ns ≡ None → (if m == n then Some (length ns) else name_place 0 n ns) ≡ name_place 0 n (ns ++ m ∷ [])
 place_after ns n m new =
     after_by (m == n) (n == m) (name_place 0 n ns) (length ns) (flip_by m n (m == n) (n == m) refl refl) (λ e. ap (λ k. name_place 0 k ns) (sym (eqb-true m n e)) ∙ new)
+    ∙ ap (λ k. or_else_place (name_place 0 n ns) (if n == m then Some k else None)) (none_before (length ns))
     ∙ sym (place_last 0 n m ns)
 
 names_last : (all : List Name) (m : Name) → names_of (all ++ m ∷ []) ≡ names_of all ++ m.0 ∷ []

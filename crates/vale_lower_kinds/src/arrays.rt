@@ -1,7 +1,7 @@
 // The array types that a body makes.
 ghost use Rattle.std.specs.Prelude.{◌≡◌, ◌++◌, None, map, option_map, OnOk};
-ghost use Rattle.vale_core.specs.View.{view_ty, view_expr, view_node, view_form, view_stmt, view_block, view_else_if, view_link, view_step, exprs_of, links_of, steps_of, elses_of, else_end, stmts_of, last_end};
-ghost use Rattle.vale_model.specs.Kinds.{expr_arrays, node_arrays, exprs_arrays, link_arrays, links_arrays, step_arrays, steps_arrays, form_arrays, else_if_arrays, elses_arrays, block_arrays, stmts_arrays, stmt_arrays};
+ghost use Rattle.vale_core.specs.View.{view_expr, view_form, view_stmt, view_block, view_else_if, view_link, view_step, exprs_of, links_of, steps_of, elses_of, else_end, stmts_of, last_end};
+ghost use Rattle.vale_model.specs.Kinds.{expr_arrays, exprs_arrays, link_arrays, links_arrays, step_arrays, steps_arrays, form_arrays, else_if_arrays, elses_arrays, block_arrays, stmts_arrays, stmt_arrays};
 ghost use Rattle.vale_lower_kinds.specs.Added.{added};
 ghost use Rattle.vale_lower_kinds.specs.Held.{kinds_in};
 
@@ -9,22 +9,14 @@ use crate::kinds::Kinds;
 use sqlite_items::{Boxed, Items};
 use std::alloc::Global;
 use vale_base::Memory;
-use vale_core::{Block, ElseIf, Expr, Form, Link, Node, Step, Stmt, Ty};
-
-#[cycle(arrays)]
-#[tactic(auto, using(crate::proofs::ArrayLaws::exprs))]
-fn add_expr(alloc: Global, expr: &Expr, kinds: &mut Kinds) -> Result<(), Memory>
-    ensures { OnOk result (kinds_in kinds.new ≡ added (kinds_in kinds.old) (expr_arrays (view_expr expr.now))) }
-{
-    add_node(alloc, &expr.seen.value, &expr.node, kinds)
-}
+use vale_core::{Block, ElseIf, Expr, Form, Link, Node, Step, Stmt};
 
 #[cycle(arrays)]
 #[tactic(auto, using(crate::proofs::ArrayLaws::nodes))]
-fn add_node(alloc: Global, ty: &Ty, node: &Node, kinds: &mut Kinds) -> Result<(), Memory>
-    ensures { OnOk result (kinds_in kinds.new ≡ added (kinds_in kinds.old) (node_arrays (view_ty ty.now) (view_node node.now))) }
+fn add_expr(alloc: Global, expr: &Expr, kinds: &mut Kinds) -> Result<(), Memory>
+    ensures { OnOk result (kinds_in kinds.new ≡ added (kinds_in kinds.old) (expr_arrays (view_expr expr.now))) }
 {
-    match node {
+    match &expr.node {
         Node::Set(_, place, value) => {
             add_expr(alloc, place.get(), kinds)?;
             add_expr(alloc, value.get(), kinds)
@@ -38,7 +30,7 @@ fn add_node(alloc: Global, ty: &Ty, node: &Node, kinds: &mut Kinds) -> Result<()
         Node::Paren(_, inner) => add_expr(alloc, inner.get(), kinds),
         Node::Form(form) => {
             add_form(alloc, form.get(), kinds)?;
-            kinds.add_arrays_in(alloc, ty)
+            kinds.add_arrays_in(alloc, &expr.seen.value)
         }
         Node::Steps(base, steps) => {
             add_expr(alloc, base.get(), kinds)?;
@@ -46,7 +38,7 @@ fn add_node(alloc: Global, ty: &Ty, node: &Node, kinds: &mut Kinds) -> Result<()
         }
         Node::Array(_, _, elements) => {
             add_exprs(alloc, elements.as_slice(), kinds)?;
-            kinds.add_arrays_in(alloc, ty)
+            kinds.add_arrays_in(alloc, &expr.seen.value)
         }
         Node::Iso(_, block) => add_block(alloc, block, kinds),
         Node::Number(..) | Node::Quote(..) | Node::Truth(..) | Node::Name { .. } => Ok(()),
