@@ -1,7 +1,8 @@
 -- What blocks make, by what their statements make.
-use Rattle.std.proofs.Common.{◌≡◌, ℕ, zero, suc, ◌+◌, List, [], ◌∷◌, ◌++◌, length, drop, refl, ap, sym, ◌∙◌, arith, true≢false}
+use Rattle.std.proofs.Common.{◌≡◌, ℕ, zero, suc, ◌+◌, List, [], ◌∷◌, ◌++◌, length, get_or, drop, ◌<◌, refl, ap, sym, ◌∙◌, arith, true≢false}
 use Rattle.std.specs.Prelude.{Bool, true, false, ◌&&◌, ◌==◌, min, map, if◌then◌else◌}
 use Rattle.std.proofs.lemmas.Bool.{eq-eqb, ne_eqb, eqb-true}
+use Rattle.std.proofs.lemmas.List.{drop_more}
 use Rattle.vale_base.specs.declared.spot.Spot.{Spot}
 use Rattle.vale_syntax.specs.declared.tree.NameAt.{NameAt}
 use Rattle.vale_rules_spec.specs.Types as y
@@ -13,7 +14,8 @@ use Rattle.vale_code.specs.declared.instr.Instr.TheVariants as i
 use Rattle.vale_lowering.specs.Instructions.{stuck, only_if, registers_from}
 use Rattle.vale_lowering_objects.specs.Scopes.{Gives, void, gives_of, is_value, agree, Entry, entry, Scope, Gone, without, After, comes, then_after, Around}
 use Rattle.vale_lowering_objects.specs.Lowered.{all_gives, then_code, if_comes, hand, drop_entry, locals_code, locals_after, expr_code, expr_after, stmts_code, stmts_after, stmt_code, stmt_after}
-use Rattle.vale_lower_flow.specs.Closing.{dropped}
+use Rattle.vale_lower_flow.specs.declared.closing.Closings.{Closings}
+use Rattle.vale_lower_flow.specs.Closing.{dropped, closed}
 use Rattle.vale_lower_flow.specs.Flow.{Going, emitted, put, arrived, only, mark_of, begun, ended, filled, if_there}
 use Rattle.vale_lower_flow.proofs.ScopeLaws.{framed_more}
 use Rattle.vale_lower_flow.proofs.PartLaws.{Part, only_is, then_is, there_is, put_then, fill_then, nothing_is}
@@ -102,6 +104,36 @@ module _ (end : Spot) (after : Leaves) (rest : Rest) where
   located_next k ns xs n x h s f en ex =
       ap (λ z. kept_located z (drop k xs) h s f) en ∙ ap (λ z. kept_located (n ∷ drop (k + 1) ns) z h s f) ex
       ∙ more_located end after rest n.name.0 (numbers_of (drop (k + 1) ns)) (gives_of (view_ty x)) (all_gives (map view_ty (drop (k + 1) xs))) h s f
+
+-- an element before those after it
+pub next_of : (xs : List Ty) (k : ℕ) (x : Ty) → k < length xs → x ≡ get_or xs k x → drop k xs ≡ x ∷ drop (k + 1) xs
+next_of xs k x lt is = drop_more xs k x lt ∙ ap (λ (z : Ty). z ∷ drop (k + 1) xs) (sym is)
+
+-- one local more of a destructuring, with what is to be done at its end
+pub declared_step : (end : Spot) (after : Leaves) (rest : Rest) (c0 c1 c2 : Closings) (ns : List NameAt) (xs : List Ty) (k : ℕ) (n : NameAt) (x : Ty) (h h2 start : ℕ) (test : Bool) (q : Gives) (s s2 : Scope) (f f2 : Going) →
+    drop k ns ≡ n ∷ drop (k + 1) ns → drop k xs ≡ x ∷ drop (k + 1) xs → q ≡ gives_of (view_ty x) → test ≡ is_value q → start ≡ length f.code
+    → ((g : Going) → closed c1 g ≡ closed c0 (only test start h g)) → h2 ≡ h + 1 → s2 ≡ entry n.name.0 h q ∷ s → f2 ≡ filled h f
+    → ((g : Going) → closed c2 g ≡ closed c1 (dropped (entry n.name.0 h q) end g))
+    → closed c2 (kept_located end after rest (drop (k + 1) ns) (drop (k + 1) xs) h2 s2 f2) ≡ closed c0 (kept_located end after rest (drop k ns) (drop k xs) h s f)
+declared_step end after rest c0 c1 c2 ns xs k n x h h2 start test q s s2 f f2 en ex eq et es e1 eh e_s ef e2 =
+    let one : Gives → Entry = λ (z : Gives). entry n.name.0 h z in
+    let more : ℕ → Scope → Going → Going = λ (i : ℕ) (t : Scope) (g : Going). kept_located end after rest (drop (k + 1) ns) (drop (k + 1) xs) i t g in
+    ap (λ (i : ℕ). closed c2 (more i s2 f2)) eh ∙ (ap (λ (t : Scope). closed c2 (more (h + 1) t f2)) e_s ∙ (ap (λ (g : Going). closed c2 (more (h + 1) (one q ∷ s) g)) ef
+    ∙ (e2 (more (h + 1) (one q ∷ s) (filled h f)) ∙ (e1 (dropped (one q) end (more (h + 1) (one q ∷ s) (filled h f)))
+    ∙ (ap (λ (b : Bool). closed c0 (only b start h (dropped (one q) end (more (h + 1) (one q ∷ s) (filled h f))))) et
+    ∙ (ap (λ (m : ℕ). closed c0 (only (is_value q) m h (dropped (one q) end (more (h + 1) (one q ∷ s) (filled h f))))) es
+    ∙ (ap (λ (z : Gives). closed c0 (only (is_value z) (length f.code) h (dropped (one z) end (more (h + 1) (one z ∷ s) (filled h f))))) eq
+    ∙ ap (λ (g : Going). closed c0 g) (sym (located_next end after rest k ns xs n x h s f en ex)))))))))
+
+-- and where the names or the types end
+pub declared_end : (end : Spot) (after : Leaves) (rest : Rest) (c0 c1 : Closings) (ns : List NameAt) (xs : List Ty) (k h start : ℕ) (test : Bool) (s : Scope) (f : Going) →
+    k ≡ min (length ns) (length xs) → test ≡ (length ns == length xs) → start ≡ length f.code → ((g : Going) → closed c1 g ≡ closed c0 (only test start h g))
+    → closed c1 (at_rest end after rest h s f) ≡ closed c0 (kept_located end after rest (drop k ns) (drop k xs) h s f)
+declared_end end after rest c0 c1 ns xs k h start test s f ek et es e1 =
+    e1 (at_rest end after rest h s f)
+    ∙ (ap (λ (b : Bool). closed c0 (only b start h (at_rest end after rest h s f))) et
+    ∙ (ap (λ (m : ℕ). closed c0 (only (length ns == length xs) m h (at_rest end after rest h s f))) es
+    ∙ ap (λ (g : Going). closed c0 g) (sym (located_end end after rest k ns xs h s f ek))))
 
 pub ruleset frames = (framed_more)
 

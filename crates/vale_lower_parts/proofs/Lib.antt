@@ -2,4 +2,3 @@ pub mod NodeLaws
 pub mod StepLaws
 pub mod FormLaws
 pub mod BlockLaws
-pub mod StmtLaws

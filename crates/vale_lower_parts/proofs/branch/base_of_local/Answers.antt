@@ -5,6 +5,6 @@ use Rattle.vale_lower_places.specs.declared.places.Origin.TheVariants as o
 use Rattle.vale_lower_parts.proofs.StepLaws.{none_ended}
 use Rattle.vale_lower_parts.proofs.branch.base_of_local.Goals as goal
 
-pub returns-in-None : goal.returns-in-None
-returns-in-None c = λ part after.
+pub returns-in_ok-start-in-None : goal.returns-in_ok-start-in-None
+returns-in_ok-start-in-None c = λ part after.
     none_ended (view_view c.args.view.now) c.args.h part after c.args.changes (going c.args.flow.now) (o.Reference c.args.h) _ c.in_ok-start.ensures
