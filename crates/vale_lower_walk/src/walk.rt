@@ -830,7 +830,7 @@ fn emit_next(
 // ---- statements
 
 #[cycle(emit)]
-#[tactic(auto, using(vale_lower_parts::proofs::StmtLaws::stmts))]
+#[tactic(auto, using(crate::proofs::StmtLaws::stmts))]
 fn emit_stmt(stmt: &Stmt, here: &Standing, flow: &mut Flow) -> Result<(), Memory>
     ensures { OnOk result (going flow.new ≡ stmt_emitted (view_around here.now.around.now) (view_stmt stmt.now) here.now.next (entries here.now.scope.now) (going flow.old)) }
 {
@@ -860,7 +860,7 @@ fn emit_stmt(stmt: &Stmt, here: &Standing, flow: &mut Flow) -> Result<(), Memory
 }
 
 #[cycle(emit)]
-#[tactic(auto, using(vale_lower_parts::proofs::StmtLaws::returns))]
+#[tactic(auto, using(crate::proofs::StmtLaws::returns))]
 fn emit_return(at: Spot, value: &Expr, here: &Standing, flow: &mut Flow) -> Result<(), Memory>
     ensures { OnOk result (going flow.new ≡ stmt_emitted (view_around here.now.around.now) (t.return_value at (view_expr value.now)) here.now.next (entries here.now.scope.now) (going flow.old)) }
 {
@@ -879,7 +879,7 @@ fn emit_return(at: Spot, value: &Expr, here: &Standing, flow: &mut Flow) -> Resu
 
 // A loop, where a run comes behind its condition.
 #[cycle(emit)]
-#[tactic(auto, using(vale_lower_parts::proofs::StmtLaws::turns))]
+#[tactic(auto, using(crate::proofs::StmtLaws::turns))]
 fn emit_turns(
     condition: &Expr,
     block: &Block,
@@ -907,7 +907,7 @@ fn emit_turns(
 
 // A condition behind which no run comes, and the body after it.
 #[cycle(emit)]
-#[tactic(auto, using(vale_lower_parts::proofs::StmtLaws::turns))]
+#[tactic(auto, using(crate::proofs::StmtLaws::turns))]
 fn emit_no_turns(
     condition: &Expr,
     block: &Block,
@@ -937,7 +937,7 @@ fn emit_no_turns(
 
 // A loop over numbers: the counter in the register, the bound in the next, and the local after both.
 #[cycle(emit)]
-#[tactic(auto, using(vale_lower_parts::proofs::StmtLaws::counts))]
+#[tactic(auto, using(crate::proofs::StmtLaws::counts))]
 fn emit_foreach(
     at: Spot,
     name: NameAt,
@@ -969,7 +969,7 @@ fn emit_foreach(
 
 // The turns of a loop over numbers.
 #[cycle(emit)]
-#[tactic(auto, using(vale_lower_parts::proofs::StmtLaws::counts))]
+#[tactic(auto, using(crate::proofs::StmtLaws::counts))]
 fn emit_count(
     at: Spot,
     name: NameAt,
@@ -1019,7 +1019,7 @@ fn emit_count(
 
 // A value that isn't used is dropped; so the old value of a local that is set.
 #[cycle(emit)]
-#[tactic(auto, using(vale_lower_parts::proofs::StmtLaws::unused))]
+#[tactic(auto, using(crate::proofs::StmtLaws::unused))]
 fn emit_unused(value: &Expr, here: &Standing, flow: &mut Flow) -> Result<(), Memory>
     ensures { OnOk result (going flow.new ≡ stmt_emitted (view_around here.now.around.now) (t.express (view_expr value.now)) here.now.next (entries here.now.scope.now) (going flow.old)) }
 {
@@ -1034,7 +1034,7 @@ fn emit_unused(value: &Expr, here: &Standing, flow: &mut Flow) -> Result<(), Mem
 }
 
 #[cycle(emit)]
-#[tactic(auto, using(vale_lower_parts::proofs::StmtLaws::unused))]
+#[tactic(auto, using(crate::proofs::StmtLaws::unused))]
 fn emit_dropped(value: &Expr, here: &Standing, flow: &mut Flow) -> Result<(), Memory>
     ensures { OnOk result (going flow.new ≡ dropped_emitted (view_around here.now.around.now) (view_expr value.now) here.now.next (entries here.now.scope.now) (going flow.old)) }
 {
@@ -1051,7 +1051,7 @@ fn emit_dropped(value: &Expr, here: &Standing, flow: &mut Flow) -> Result<(), Me
 }
 
 #[cycle(emit)]
-#[tactic(auto, using(vale_lower_parts::proofs::StmtLaws::unused))]
+#[tactic(auto, using(crate::proofs::StmtLaws::unused))]
 fn emit_store(
     at: Spot,
     name: NameAt,

@@ -7,4 +7,4 @@ use Rattle.vale_lower_parts.proofs.branch.base_of_local.Goals as goal
 
 pub returns-in_ok-start-in-None : goal.returns-in_ok-start-in-None
 returns-in_ok-start-in-None c = λ part after.
-    none_ended (view_view c.args.view.now) c.args.h part after c.args.changes (going c.args.flow.now) (o.Reference c.args.h) _ c.in_ok-start.ensures
+    none_ended (view_view c.args.view.now) c.args.h part after c.args.changes (going c.args.flow.now) (o.Reference c.args.h) _ c.in_ok-start-in-None.ensures
