@@ -1,7 +1,8 @@
 -- Types that are added one after another, and those that stand once.
-use Rattle.std.proofs.Common.{◌≡◌, ℕ, List, [], ◌∷◌, ◌++◌, refl, ap, sym, ◌∙◌, append_assoc, append-nil}
+use Rattle.std.proofs.Common.{◌≡◌, ℕ, ◌+◌, ◌<◌, List, [], ◌∷◌, ◌++◌, length, get_or, drop, refl, ap, sym, ◌∙◌, append_assoc, append-nil}
 use Rattle.std.specs.Prelude.{Bool, true, false, ◌||◌, if◌then◌else◌}
 use Rattle.std.specs.List.{list_any}
+use Rattle.std.proofs.lemmas.List.{drop_more}
 use Rattle.vale_rules_spec.specs.Types.{Ty, same}
 use Rattle.vale_model.specs.Kinds.{once}
 use Rattle.vale_lower_kinds.specs.Added.{put_type, added}
@@ -46,3 +47,13 @@ once_added before ks (x ∷ xs) same_any =
 
 pub once_is : (xs : List Ty) → once [] xs ≡ added [] xs
 once_is xs = once_added [] [] xs (λ y. refl)
+
+-- ---- the next part of a list
+
+pub next : {T : Type 0} (from : List T → List Ty) (one : T → List Ty) → ((x : T) (xs : List T) → from (x ∷ xs) ≡ one x ++ from xs)
+    → (xs : List T) (k : ℕ) (x : T) (k1 k2 target : List Ty) → k < length xs → x ≡ get_or xs k x → k2 ≡ added k1 (one x) → added k1 (from (drop k xs)) ≡ target → added k2 (from (drop (k + 1) xs)) ≡ target
+next from one law xs k x k1 k2 target lt is e so_far =
+    ap (λ z. added z (from (drop (k + 1) xs))) e
+    ∙ sym (added_more k1 (one x) (from (drop (k + 1) xs)))
+    ∙ ap (λ z. added k1 z) (sym (law x (drop (k + 1) xs)) ∙ ap from (sym (drop_more xs k x lt ∙ ap (λ z. z ∷ drop (k + 1) xs) (sym is))))
+    ∙ so_far

@@ -4,6 +4,7 @@ use Rattle.std.proofs.lemmas.Option.{none-some}
 use Rattle.std.specs.Prelude.{Bool, true, false, ◌==◌, ◌||◌, Option, Some, None, map, unwrap_or, if◌then◌else◌}
 use Rattle.std.specs.List.{list_any}
 use Rattle.vale_core.specs.declared.ty.Ty.{Ty as Kept}
+use Rattle.vale_core.specs.declared.ty.Ty.TheVariants as x
 use Rattle.vale_core.specs.View.{view_ty}
 use Rattle.vale_core.proofs.ViewLaws as v
 use Rattle.vale_rules_spec.specs.Types.{Ty, void, int, bool, str, kind, array, ref, imm, iso, same}
@@ -113,8 +114,6 @@ past_from at n (m ∷ ns) es e = past_by (n == m) at (name_place (at + 1) n ns) 
 pub number_past : (n : ℕ) (ns : List ℕ) (es : List Ty) → name_place 0 n ns ≡ None → place_of_kind (kind n) (kind_types ns ++ map array es) ≡ length ns + length es
 number_past n ns es e = past_from 0 n ns es e
 
-pub ruleset numbers = (number_of_array, number_of_void, number_of_int, number_of_bool, number_of_str, number_of_ref, number_of_imm, number_of_iso, v.of_void, v.of_int, v.of_bool, v.of_str, v.of_kind, v.of_array, v.of_ref, v.of_imm, v.of_iso)
-
 -- ---- array types
 
 any_array : (x : Ty) (ns : List ℕ) (es : List Ty) → list_any (same (array x)) (kind_types ns ++ map array es) ≡ list_any (same x) es
@@ -170,3 +169,8 @@ array_new x ns ts le =
 pub ruleset puts = (array_known, array_new)
 
 pub ruleset arrays = (added_more, added_one, v.of_void, v.of_int, v.of_bool, v.of_str, v.of_kind, v.of_array, v.of_ref, v.of_imm, v.of_iso)
+
+pub void_number : (ns : List ℕ) (ts : List Kept) → place_of_kind (view_ty x.Void) (kind_types ns ++ map array (map view_ty ts)) ≡ length ns + length ts
+void_number ns ts = ap (λ z. place_of_kind z (kind_types ns ++ map array (map view_ty ts))) v.of_void ∙ number_of_void ns (map view_ty ts) ∙ ap (λ k. length ns + k) (types_length ts)
+
+pub ruleset numbers = (void_number, number_of_array, number_of_void, number_of_int, number_of_bool, number_of_str, number_of_ref, number_of_imm, number_of_iso, v.of_void, v.of_int, v.of_bool, v.of_str, v.of_kind, v.of_array, v.of_ref, v.of_imm, v.of_iso)

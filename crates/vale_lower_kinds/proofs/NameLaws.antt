@@ -82,9 +82,9 @@ names_length : (all : List Name) → length (names_of all) ≡ length all
 names_length [] = refl
 names_length (n ∷ all) = ap suc (names_length all)
 
-pub numbered_next : (all : List Name) (m : Name) (p q : Places) → AreNumbered (names_of all) p → place_in p m.0 ≡ None → ((n : ℕ) → place_in q n ≡ (if m.0 == n then Some (length all) else place_in p n)) → AreNumbered (names_of (all ++ m ∷ [])) q
-numbered_next all m p q each none more n =
-    more n ∙ ap (λ k. if m.0 == n then Some k else place_in p n) (sym (names_length all))
+pub numbered_next : (all : List Name) (m : Name) (p q : Places) (at : ℕ) → at ≡ length all → AreNumbered (names_of all) p → place_in p m.0 ≡ None → ((n : ℕ) → place_in q n ≡ (if m.0 == n then Some at else place_in p n)) → AreNumbered (names_of (all ++ m ∷ [])) q
+numbered_next all m p q at is each none more n =
+    more n ∙ ap (λ k. if m.0 == n then Some k else place_in p n) (is ∙ sym (names_length all))
     ∙ ap (λ o. if m.0 == n then Some (length (names_of all)) else o) (each n)
     ∙ place_after (names_of all) n m.0 (sym (each m.0) ∙ none)
     ∙ ap (λ ns. name_place 0 n ns) (sym (names_last all m))

@@ -127,10 +127,7 @@ fn add_all_made(alloc: Global, items: &[Item], kinds: &mut Kinds) -> Result<(), 
 pub fn kinds_of(alloc: Global, items: &[Item]) -> Result<Kinds, Memory>
     ensures { IfOk result (λ t. kinds_in t ≡ k.kinds_of (map view_item items.now)) }
 {
-    let mut kinds = Kinds {
-        named: Named::among(alloc, items)?,
-        elements: Vec::new(alloc),
-    };
+    let mut kinds = Kinds::of(alloc, Named::among(alloc, items)?);
     add_all_declared(alloc, items, &mut kinds)?;
     add_all_made(alloc, items, &mut kinds)?;
     Ok(kinds)

@@ -6,8 +6,8 @@ ghost use Rattle.vale_rules_spec.specs.Types.{same};
 ghost use Rattle.vale_core.specs.View.{view_ty};
 ghost use Rattle.vale_model.specs.Kinds.{arrays_in};
 ghost use Rattle.vale_model.specs.Parts.{place_of_kind};
-ghost use Rattle.vale_lower_kinds.specs.Added.{put_type, added};
-ghost use Rattle.vale_lower_kinds.specs.Held.{kinds_in, elements_in};
+ghost use Rattle.vale_lower_kinds.specs.Added.{put_type, added, kind_types};
+ghost use Rattle.vale_lower_kinds.specs.Held.{kinds_in, elements_in, named_in};
 
 use crate::named::Named;
 use std::alloc::Global;
@@ -36,6 +36,16 @@ fn both(one: usize, other: usize) -> Result<u32, Memory>
 }
 
 impl Kinds {
+    /// No array types yet. It takes no memory.
+    pub fn of(alloc: Global, named: Named) -> Self
+        ensures { kinds_in result ≡ kind_types (named_in named) }
+    {
+        Kinds {
+            named,
+            elements: Vec::new(alloc),
+        }
+    }
+
     // Where arrays of these elements stand among the array types, or how many of them there are.
     fn place_of_array(&self, element: &Ty) -> usize
         ensures { result ≡ place_of_kind (view_ty element.now) (elements_in self.now) }

@@ -1,8 +1,14 @@
+use Rattle.std.proofs.Common.{◌∙◌, ap, sym}
+use Rattle.vale_rules_spec.specs.Types.{kind}
+use Rattle.vale_lower_kinds.specs.Added.{kind_types}
+use Rattle.vale_lower_kinds.specs.Names.{names_of, name_place}
 use Rattle.vale_lower_kinds.proofs.NameLaws.{numbered_next, new_name}
 use Rattle.vale_lower_kinds.proofs.named.put_name.Goals as goal
 
 pub returns-clause-numbered : goal.returns-clause-numbered
-returns-clause-numbered c = numbered_next c.args.all.now.items c.args.name c.args.places.now c.add.new.self c.requires.numbered c.requires.new c.in_ok-add.ensures
+returns-clause-numbered c = λ n.
+    numbered_next c.args.all.now.items c.args.name c.args.places.now c.add.new.self c.len-at.result c.len-at.ensures c.requires.numbered c.requires.new c.in_ok-add.ensures n
+    ∙ ap (λ xs. name_place 0 n (names_of xs)) (sym c.in_ok-push.ensures)
 
 pub returns-clause-names : goal.returns-clause-names
-returns-clause-names c = new_name c.args.all.now.items c.args.name c.args.places.now c.requires.numbered c.requires.new
+returns-clause-names c = ap (λ xs. kind_types (names_of xs)) c.in_ok-push.ensures ∙ new_name c.args.all.now.items c.args.name c.args.places.now c.requires.numbered c.requires.new
