@@ -85,6 +85,13 @@ impl Kinds {
         }
     }
 
+    // How many kinds there are.
+    fn past(&self) -> Result<u32, Memory>
+        ensures { IfOk result (λ n. n ≡ length (named_in self.now.named) + length (elements_in self.now)) }
+    {
+        both(self.named.count(), self.elements.len())
+    }
+
     #[tactic(auto, using(crate::proofs::KindLaws::names))]
     fn number_of_name(&self, name: Name) -> Result<u32, Memory>
         ensures { IfOk result (λ n. n ≡ place_of_kind (y.kind name.0) (kinds_in self.now)) }
@@ -104,9 +111,13 @@ impl Kinds {
         match ty {
             Ty::Kind(name) => self.number_of_name(*name),
             Ty::Array(element) => both(self.named.count(), self.place_of_array(element.get())),
-            Ty::Void | Ty::Int | Ty::Bool | Ty::Str | Ty::Ref(_) | Ty::Imm(_) | Ty::Iso(_) => {
-                both(self.named.count(), self.elements.len())
-            }
+            Ty::Void => self.past(),
+            Ty::Int => self.past(),
+            Ty::Bool => self.past(),
+            Ty::Str => self.past(),
+            Ty::Ref(_) => self.past(),
+            Ty::Imm(_) => self.past(),
+            Ty::Iso(_) => self.past(),
         }
     }
 }
