@@ -1,0 +1,4 @@
+pub mod Branches
+pub mod Emitted
+pub mod Located
+pub mod Named
