@@ -88,7 +88,7 @@ module _ (base first at : ℕ) (types : List Ty) (args : List ℕ) (start : List
             ∙ ap (λ l. give_from front (ty ∷ drop (at + 1) types) l now) (drop_more args at 0 lt)
             ∙ next_rest front ty (drop (at + 1) types) r (drop (at + 1) args) now (giving_there d p some many lt)
             ∙ ap (λ l. give_from l (drop (at + 1) types) (drop (at + 1) args) _) (sym built)
-            ∙ ap (give_from (cells_in t (take (at + 1) (slice_set own at x))) (drop (at + 1) types) (drop (at + 1) args)) (sym q.after);
+            ∙ ap (give_from (cells_in t (take (at + 1) (slice_set own at x))) (drop (at + 1) types) (drop (at + 1) args)) (sym q.left);
         others = λ i less. q.others i (λ e. absurd (omega (arith, e, less))) ∙ p.others i less;
         frame_size = same ∙ p.frame_size;
         size = length-set own at x ∙ p.size;
@@ -146,8 +146,8 @@ laid base first types args frame old after given rest count new left p blank =
     record {
       given = record { cells = cells_from first new given; after = cells_from base new after };
       is = p.all;
-      after = refl;
-      own =
+      left = refl;
+      got =
           cells_append t given rest
           ∙ ap (λ l. cells_in t given ++ l) (blank (from_base (length given) t) ∙ ap (λ n. replicate n None) (sym left));
       others = p.others;
@@ -156,7 +156,7 @@ laid base first types args frame old after given rest count new left p blank =
 pub entered_none : (base first : ℕ) (types : List Ty) (args : List ℕ) (frame : List Register) (old : List (List ℕ)) (after own : List Register) (new : List (List ℕ)) → AreLaid base first types args frame old after own new → AreEntered base first None types args frame old after own new
 entered_none base first types args frame old after own new p =
     let same : length own - length args ≡ length own - 0 - length args = omega arith in
-    record { given = p.given; is = p.is; after = p.after; own = p.own ∙ ap (λ n. p.given.cells ++ replicate n None) same; others = p.others }
+    record { given = p.given; is = p.is; left = p.left; got = p.got ∙ ap (λ n. p.given.cells ++ replicate n None) same; others = p.others }
 
 one_set : (cells : List (Option Cell)) (c : Option Cell) → length cells ≡ 1 → slice_set cells 0 c ≡ c ∷ []
 one_set [] c e = absurd (omega (arith, e))
@@ -175,11 +175,11 @@ module _ (base first : ℕ) (p : Place) (types : List Ty) (args : List ℕ) (fra
       record {
         given = q.given;
         is = q.is;
-        after = q.after;
-        own =
+        left = q.left;
+        got =
             cells_append t receiver rest
             ∙ ap (λ l. l ++ cells_in (from_base (length receiver) t) rest) head
-            ∙ ap (λ l. Some (Ref p) ∷ l) (behind ∙ q.own ∙ ap (λ n. q.given.cells ++ replicate n None) size);
+            ∙ ap (λ l. Some (Ref p) ∷ l) (behind ∙ q.got ∙ ap (λ n. q.given.cells ++ replicate n None) size);
         others = λ i lt. q.others i (omega (arith, lt));
       }
 
@@ -215,8 +215,8 @@ module _ (base top end : ℕ) (object : Option Place) (types : List Ty) (args : 
       record {
         given = q.given;
         is = subst (λ f. give_from [] types args (cells_from base old f) ≡ Some q.given) was q.is;
-        after = ap (cells_from base new) frame ∙ q.after;
-        own = ap (cells_from top new) own ∙ q.own ∙ ap (λ n. object_cells object ++ q.given.cells ++ replicate n None) count;
+        left = ap (cells_from base new) frame ∙ q.left;
+        got = ap (cells_from top new) own ∙ q.got ∙ ap (λ n. object_cells object ++ q.given.cells ++ replicate n None) count;
         below = sym (take-take base end whole (omega (arith, le, few))) ∙ ap (take base) first ∙ take_at under after base size ∙ is_under ∙ take-take base end row (omega (arith, le, few));
         others = q.others;
       }

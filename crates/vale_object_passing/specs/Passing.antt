@@ -20,7 +20,7 @@ cells_of base top texts row = cells_from base texts (drop base (take top row))
 -- a parameter got what a register of a frame holds
 pub record IsGiven (frozen : Bool) (base from target : ℕ) (frame : List Register) (old : List (List ℕ)) (after : List Register) (to : Register) (new : List (List ℕ)) : Type 0 where
   pub cell : cell_in to (text_at new target) ≡ given_as frozen (held (cells_from base old frame) from)
-  pub after : cells_from base new after ≡ after_as frozen from (cells_from base old frame)
+  pub left : cells_from base new after ≡ after_as frozen from (cells_from base old frame)
   pub others : (i : ℕ) → i ≢ target → text_at new i ≡ text_at old i
 
 -- parameters got what these registers of a frame hold
@@ -32,8 +32,8 @@ pub record AreGiven (base first : ℕ) (types : List Ty) (args : List ℕ) (fram
 pub record AreLaid (base first : ℕ) (types : List Ty) (args : List ℕ) (frame : List Register) (old : List (List ℕ)) (after own : List Register) (new : List (List ℕ)) : Type 0 where
   pub given : Given
   pub is : give_from [] types args (cells_from base old frame) ≡ Some given
-  pub after : cells_from base new after ≡ given.after
-  pub own : cells_from first new own ≡ given.cells ++ replicate (length own - length args) None
+  pub left : cells_from base new after ≡ given.after
+  pub got : cells_from first new own ≡ given.cells ++ replicate (length own - length args) None
   pub others : (i : ℕ) → i < first → text_at new i ≡ text_at old i
 
 -- what a method gets before its arguments
@@ -45,8 +45,8 @@ object_cells (Some p) = Some (Ref p) ∷ []
 pub record AreEntered (base first : ℕ) (object : Option Place) (types : List Ty) (args : List ℕ) (frame : List Register) (old : List (List ℕ)) (after own : List Register) (new : List (List ℕ)) : Type 0 where
   pub given : Given
   pub is : give_from [] types args (cells_from base old frame) ≡ Some given
-  pub after : cells_from base new after ≡ given.after
-  pub own : cells_from first new own ≡ object_cells object ++ given.cells ++ replicate (length own - length (object_cells object) - length args) None
+  pub left : cells_from base new after ≡ given.after
+  pub got : cells_from first new own ≡ object_cells object ++ given.cells ++ replicate (length own - length (object_cells object) - length args) None
   pub others : (i : ℕ) → i < first → text_at new i ≡ text_at old i
 
 -- the same of registers from a base on, where the frame's come first
@@ -57,8 +57,8 @@ pub record AreEnteredAbove (base top : ℕ) (object : Option Place) (types : Lis
 pub record IsPassed (base top end : ℕ) (object : Option Place) (types : List Ty) (args : List ℕ) (row : List Register) (old : List (List ℕ)) (new : List Register) (newer : List (List ℕ)) : Type 0 where
   pub given : Given
   pub is : give_from [] types args (cells_of base top old row) ≡ Some given
-  pub after : cells_of base top newer new ≡ given.after
-  pub own : cells_of top end newer new ≡ object_cells object ++ given.cells ++ replicate (end - top - length (object_cells object) - length args) None
+  pub left : cells_of base top newer new ≡ given.after
+  pub got : cells_of top end newer new ≡ object_cells object ++ given.cells ++ replicate (end - top - length (object_cells object) - length args) None
   pub below : take base new ≡ take base row
   pub others : (i : ℕ) → i < top → text_at newer i ≡ text_at old i
 
