@@ -1,5 +1,5 @@
 -- The frames of a run, from the innermost on, and what is dropped of a dead object.
-use Rattle.std.specs.Prelude.{◌≡◌, List, [], ◌∷◌, reverse, Some, None}
+use Rattle.std.specs.Prelude.{◌≡◌, List, [], ◌∷◌, reverse, Some, None, Bool, true, false}
 use Rattle.vale_base.specs.declared.name.Kind.{Kind}
 use Rattle.vale_base.specs.declared.spot.Spot.{Spot}
 use Rattle.vale_heap.specs.declared.body.Cell.{Cell}
@@ -13,6 +13,11 @@ abbrev pub IsDropping : List Frame → Type 0
 IsDropping [] = ⊥
 IsDropping (frame.Running a ∷ fs) = ⊥
 IsDropping (frame.Dropping l ∷ fs) = Unit {0}
+
+abbrev pub is_dropping : List Frame → Bool
+is_dropping [] = false
+is_dropping (frame.Running a ∷ fs) = false
+is_dropping (frame.Dropping l ∷ fs) = true
 
 -- the cells that are still to be dropped, the next one first
 abbrev pub rest_of : Leftover → List Cell

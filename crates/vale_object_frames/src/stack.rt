@@ -1,6 +1,6 @@
 // The frames of a run.
 ghost use Rattle.std.specs.Prelude.{◌≡◌, [], ◌∷◌, IfNone, IfSome, OnOk, length};
-ghost use Rattle.vale_object_frames.specs.Stacks.{DropsNext, DropsOne, HasDropped, HasNone, IsDropping, IsLeft};
+ghost use Rattle.vale_object_frames.specs.Stacks.{DropsNext, DropsOne, HasDropped, HasNone, IsDropping, IsLeft, is_dropping};
 ghost use Rattle.vale_object_frames.specs.declared.frame.Frame.{Frame as AFrame};
 
 use crate::frame::{Active, Frame, Leftover};
@@ -84,6 +84,20 @@ impl Stack {
         self.frames.pop()
     }
 
+    /// Whether a destruction is the innermost.
+    pub fn is_dropping(&self) -> bool
+        ensures { result ≡ is_dropping self.now }
+    {
+        let count = self.frames.len();
+        if count == 0 {
+            return false;
+        }
+        match &self.frames[count - 1] {
+            Frame::Dropping(_) => true,
+            Frame::Running(_) => false,
+        }
+    }
+
     /// The next owner or isolate of the dead object whose destruction is the innermost, with the spot of the destruction. Where
     /// there is none, the destruction is over and the frames under it are left.
     pub fn next_owned(&mut self) -> Option<(Cell, Spot)>
@@ -95,7 +109,7 @@ impl Stack {
         match next_in(&mut self.frames[last]) {
             Some(next) => Some(next),
             None => {
-                self.frames.pop();
+                self.frames.truncate(last);
                 None
             }
         }
