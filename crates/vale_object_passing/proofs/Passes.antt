@@ -11,7 +11,7 @@ use Rattle.vale_heap.specs.declared.body.Place.{Place}
 use Rattle.vale_object_cells.specs.Cells.{cell_in, cells_from, cells_in, held}
 use Rattle.vale_object_cells.specs.declared.register.Register.{Register}
 use Rattle.vale_object_cells.proofs.Holding.{as_many, held_within, same_cells}
-use Rattle.vale_object_passing.specs.Giving.{Given, give_from, given_as, is_frozen}
+use Rattle.vale_object_passing.specs.Giving.{Given, after_as, give_from, given_as, is_frozen}
 use Rattle.vale_object_passing.specs.Passing.{AreEntered, AreEnteredAbove, AreGiven, AreLaid, IsGiven, IsHanded, IsMoved, IsPassed, cells_of, landed_in, object_cells}
 use Rattle.vale_object_passing.proofs.Giving.{next_rest, next_there}
 
@@ -87,7 +87,7 @@ module _ (base first at : ℕ) (types : List Ty) (args : List ℕ) (start : List
             ∙ ap (λ l. give_from front l (drop at args) now) (drop_more types at d (omega (arith, lt, many)))
             ∙ ap (λ l. give_from front (ty ∷ drop (at + 1) types) l now) (drop_more args at 0 lt)
             ∙ next_rest front ty (drop (at + 1) types) r (drop (at + 1) args) now (giving_there d p some many lt)
-            ∙ ap (λ l. give_from l (drop (at + 1) types) (drop (at + 1) args) _) (sym built)
+            ∙ ap (λ l. give_from l (drop (at + 1) types) (drop (at + 1) args) (after_as (is_frozen ty) r now)) (sym built)
             ∙ ap (give_from (cells_in t (take (at + 1) (slice_set own at x))) (drop (at + 1) types) (drop (at + 1) args)) (sym q.left);
         others = λ i less. q.others i (λ e. absurd (omega (arith, e, less))) ∙ p.others i less;
         frame_size = same ∙ p.frame_size;
