@@ -1,12 +1,15 @@
 -- The last of the frames of a stack is the innermost.
-use Rattle.std.proofs.Common.{◌≡◌, ℕ, zero, suc, ◌+◌, ◌-◌, ◌<◌, ◌≤◌, ◌++◌, Bool, true, false, List, [], ◌∷◌, length, take, get_or, reverse, refl, sym, ap, subst, ◌∙◌, arith}
+use Rattle.std.proofs.Common.{◌≡◌, ℕ, zero, suc, ◌+◌, ◌-◌, ◌<◌, ◌≤◌, ◌++◌, Bool, true, false, List, [], ◌∷◌, length, take, get_or, reverse, Some, refl, sym, ap, subst, ◌∙◌, arith}
 use Rattle.std.specs.Prelude.{slice_set}
 use Rattle.std.proofs.lemmas.List.{length-reverse, length-set, reverse-append, take-set, take_all, take_more, take_more_set}
+use Rattle.vale_base.specs.declared.name.Kind.{Kind}
 use Rattle.vale_base.specs.declared.spot.Spot.{Spot}
 use Rattle.vale_heap.specs.declared.body.Cell.{Cell}
-use Rattle.vale_object_frames.specs.Stacks.{DropsNext, DropsOne, HasDropped, HasNone, IsDropping, is_dropping}
+use Rattle.vale_object_frames.specs.Stacks.{DropsNext, DropsOne, HasDropped, HasNone, IsDropping, IsLeft, is_dropping, rest_of}
 use Rattle.vale_object_frames.specs.declared.frame.Frame.{Frame}
 use Rattle.vale_object_frames.specs.declared.frame.Frame.TheVariants as frame
+use Rattle.vale_object_frames.specs.declared.frame.Leftover.{Leftover}
+use Rattle.vale_object_steps.specs.Drops.{first_owned_cell}
 
 pub last_first : (fs : List Frame) (f : Frame) → reverse (fs ++ f ∷ []) ≡ f ∷ reverse fs
 last_first fs f = reverse-append fs (f ∷ [])
@@ -53,3 +56,9 @@ some_frames fs h = by (reverse fs) h (length-reverse fs)
     by : (gs : List Frame) → IsDropping gs → length gs ≡ length fs → 0 < length fs
     by [] h e = absurd h
     by (g ∷ gs) h e = omega (arith, e)
+
+pub is_left : (kind : Kind) (at : Spot) (cells : List Cell) (old new : List Frame) (l : Leftover) → l.kind ≡ kind → l.at ≡ at → rest_of l ≡ cells → new ≡ frame.Dropping l ∷ old → IsLeft kind at cells old new
+is_left kind at cells old new l a b c e = record { leftover = l; is = e; kind_is = a; at_is = b; rest_is = c }
+
+pub drops_one : (cell : Cell) (l m : Leftover) (old : Frame) → old ≡ frame.Dropping l → m.kind ≡ l.kind → m.at ≡ l.at → first_owned_cell (rest_of l) ≡ Some (record { first = cell; rest = rest_of m }) → DropsOne cell l.at old (frame.Dropping m)
+drops_one cell l m old e a b next = record { was = l; now = m; old_is = e; new_is = refl; kind_is = a; at_was = refl; at_is = b; next = next }

@@ -57,12 +57,21 @@ impl Stack {
         self.frames.len()
     }
 
+    // A frame is the innermost.
+    #[inline(always)]
+    fn lay(&mut self, frame: Frame) -> Result<(), Memory>
+        ensures { OnOk result (self.new ≡ frame ∷ self.old) }
+    {
+        self.frames.push(frame)?;
+        Ok(())
+    }
+
     /// A function is the innermost.
+    #[inline(always)]
     pub fn cover(&mut self, active: Active) -> Result<(), Memory>
         ensures { OnOk result (self.new ≡ AFrame.Running active ∷ self.old) }
     {
-        self.frames.push(Frame::Running(active))?;
-        Ok(())
+        self.lay(Frame::Running(active))
     }
 
     /// The destruction of an object that has died is the innermost, with the cells that it held. They are turned round in place.
@@ -71,9 +80,7 @@ impl Stack {
     {
         let mut rest = cells.into_vec();
         rest.reverse();
-        self.frames
-            .push(Frame::Dropping(Leftover { kind, at, rest }))?;
-        Ok(())
+        self.lay(Frame::Dropping(Leftover { kind, at, rest }))
     }
 
     /// The innermost frame is taken off, if there is one.
