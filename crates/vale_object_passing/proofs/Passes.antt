@@ -22,7 +22,7 @@ cells_append t [] ys = same_cells (from_base 0 t) t ys (λ i lt. ap t (let e : i
 cells_append t (x ∷ xs) ys =
     ap (λ l. cell_in x (t 0) ∷ l)
     (cells_append (λ i. t (suc i)) xs ys
-        ∙ ap (λ l. cells_in (λ i. t (suc i)) xs ++ l) (same_cells (from_base (suc (length xs)) t) (from_base (length xs) (λ i. t (suc i))) ys (λ i lt. ap t (let e : suc (length xs + i) ≡ suc (length xs) + i = omega arith in e))))
+    ∙ ap (λ l. cells_in (λ i. t (suc i)) xs ++ l) (same_cells (from_base (suc (length xs)) t) (from_base (length xs) (λ i. t (suc i))) ys (λ i lt. ap t (let e : suc (length xs + i) ≡ suc (length xs) + i = omega arith in e))))
 
 -- ---- what is given one after another
 
@@ -52,8 +52,8 @@ module _ (base first at : ℕ) (types : List Ty) (args : List ℕ) (start : List
   giving_there d p some many lt =
       subst (λ g. IsSome g)
       (p.all
-          ∙ ap (λ l. give_from (cells_from first new (take at own)) l (drop at args) (cells_from base new frame)) (drop_more types at d (omega (arith, lt, many)))
-          ∙ ap (λ l. give_from (cells_from first new (take at own)) (get_or types at d ∷ drop (at + 1) types) l (cells_from base new frame)) (drop_more args at 0 lt))
+      ∙ ap (λ l. give_from (cells_from first new (take at own)) l (drop at args) (cells_from base new frame)) (drop_more types at d (omega (arith, lt, many)))
+      ∙ ap (λ l. give_from (cells_from first new (take at own)) (get_or types at d ∷ drop (at + 1) types) l (cells_from base new frame)) (drop_more args at 0 lt))
       some
 
   pub giving_given : (d : Ty) → AreGiving base first at types args start old frame own new → IsSome (give_from [] types args (cells_from base old start)) → length types ≡ length args → at < length args
@@ -77,10 +77,10 @@ module _ (base first at : ℕ) (types : List Ty) (args : List ℕ) (start : List
       let last : first + (length (take at own) + 0) ≡ first + at = omega (arith, size) in
       let built : cells_in t (take (at + 1) (slice_set own at x)) ≡ front ++ g ∷ [] =
       ap (cells_in t) (take_more_set own at x here)
-          ∙ cells_append t (take at own) (x ∷ [])
-          ∙ ap (λ l. l ++ cell_in x (text_at newer (first + (length (take at own) + 0))) ∷ []) kept
-          ∙ ap (λ n. front ++ cell_in x (text_at newer n) ∷ []) last
-          ∙ ap (λ c. front ++ c ∷ []) q.cell in
+      ∙ cells_append t (take at own) (x ∷ [])
+      ∙ ap (λ l. l ++ cell_in x (text_at newer (first + (length (take at own) + 0))) ∷ []) kept
+      ∙ ap (λ n. front ++ cell_in x (text_at newer n) ∷ []) last
+      ∙ ap (λ c. front ++ c ∷ []) q.cell in
       record {
         all =
             p.all
@@ -251,8 +251,8 @@ handed_down base top to from row old lower upper d x new front back size lt abov
           ∙ ap (λ l. slice_set (cells_in t (drop base l)) to (cell_in x (u to))) front
           ∙ ap (slice_set (cells_of base top old row) to)
           (p.cell ∙ ap (λ l. cell_in (get_or l (from - top) d) (text_at old from)) back
-              ∙ ap (λ c. cell_in c (text_at old from)) (get_or-drop top row (from - top) d ∙ ap (λ i. get_or row i d) up)
-              ∙ sym (held_within (text_at old) row from d few));
+          ∙ ap (λ c. cell_in c (text_at old from)) (get_or-drop top row (from - top) d ∙ ap (λ i. get_or row i d) up)
+          ∙ sym (held_within (text_at old) row from d few));
       below =
           sym (take-take base top (slice_set lower (base + to) x ++ upper) (omega (arith, lt)))
           ∙ ap (take base) first

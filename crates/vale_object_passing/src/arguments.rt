@@ -111,7 +111,15 @@ fn give_all(
 {
     for at in 0..args.len() {
         let frozen = is_frozen(&types[at]);
-        give(frozen, frame, &mut own[at], texts, base, args[at], first + at)?;
+        give(
+            frozen,
+            frame,
+            &mut own[at],
+            texts,
+            base,
+            args[at],
+            first + at,
+        )?;
     }
     Ok(())
 }

@@ -8,13 +8,7 @@ use vale_registers::Row;
 
 // A register gets what a later one holds, and takes its text.
 #[inline(always)]
-fn move_register(
-    from: &Register,
-    to: &mut Register,
-    texts: &mut Row,
-    source: usize,
-    target: usize,
-)
+fn move_register(from: &Register, to: &mut Register, texts: &mut Row, source: usize, target: usize)
     requires { target < source }
     ensures { IsMoved source target from.now to.new texts.old texts.new }
 {
