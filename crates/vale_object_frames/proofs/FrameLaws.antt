@@ -1,7 +1,7 @@
 -- Frames stay what they are where names are added, and where texts above them change.
-use Rattle.std.proofs.Common.{◌≡◌, ℕ, zero, suc, ◌+◌, ◌<◌, ◌≤◌, ◌++◌, List, [], ◌∷◌, length, take, drop, map, Some, refl, sym, ap, subst, ◌∙◌, arith}
+use Rattle.std.proofs.Common.{◌≡◌, ℕ, zero, suc, ◌+◌, ◌<◌, ◌++◌, List, [], ◌∷◌, length, take, drop, map, Some, refl, sym, ap, subst, arith}
 use Rattle.std.specs.List.{AllByRecursion}
-use Rattle.std.proofs.lemmas.List.{length-drop, length-take-le}
+use Rattle.std.proofs.lemmas.List.{length-drop}
 use Rattle.vale_code.specs.Frames.{under}
 use Rattle.vale_code.specs.Parts.{Parts}
 use Rattle.vale_registers.specs.Passing.{from_base}
@@ -14,14 +14,12 @@ use Rattle.vale_object_cells.specs.Names.{AllKnown, Knows, value_of, values_in}
 use Rattle.vale_object_cells.specs.declared.register.Register.{Register}
 use Rattle.vale_object_cells.proofs.Holding.{same_cells}
 use Rattle.vale_object_cells.proofs.Naming.{all_known_more, known_more, name_more, values_more}
-use Rattle.vale_state_spec.specs.World.{Value}
 use Rattle.vale_state_spec.specs.World.{Own as owner, Ref as reference, Iso as isolate}
-use Rattle.vale_object_frames.specs.Frames.{AreKnown, Lie, active_of, call_of, emptying_of, frames_in}
+use Rattle.vale_object_frames.specs.Frames.{AreKnown, active_of, emptying_of, frames_in}
 use Rattle.vale_object_frames.specs.Stacks.{rest_of}
 use Rattle.vale_object_frames.specs.declared.frame.Frame.{Frame}
 use Rattle.vale_object_frames.specs.declared.frame.Frame.TheVariants as frame
 use Rattle.vale_code.specs.Frames as meaning
-use Rattle.vale_code.specs.Registers.{Registers}
 use Rattle.vale_state_spec.specs.State.{drop_frame}
 use Rattle.vale_code.specs.Kinds.{kind_text}
 

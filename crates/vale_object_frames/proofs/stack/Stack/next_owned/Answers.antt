@@ -1,4 +1,4 @@
-use Rattle.std.proofs.Common.{◌≡◌, ◌-◌, ◌<◌, length, get_or, reverse, sym, subst, arith}
+use Rattle.std.proofs.Common.{◌≡◌, ◌-◌, length, get_or, reverse, sym, subst, arith}
 use Rattle.std.specs.Prelude.{slice_set}
 use Rattle.vale_object_frames.specs.Stacks.{DropsNext, DropsOne, IsDropping}
 use Rattle.vale_object_frames.proofs.StackLaws.{drops_next, some_frames}
