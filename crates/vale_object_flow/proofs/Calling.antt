@@ -15,6 +15,7 @@ use Rattle.vale_code.specs.Kinds.{result_to, text_at}
 use Rattle.vale_code.specs.Parts.{Parts}
 use Rattle.vale_code.specs.Registers.{Read, Registers, give_all, registers_for}
 use Rattle.vale_code.specs.declared.func.Func.{Func}
+use Rattle.vale_code.specs.declared.ty.Ty.{Ty}
 use Rattle.vale_registers.specs.Cells.{HasRegister}
 use Rattle.vale_registers.specs.Texts as texts
 use Rattle.vale_heap.specs.HeapState.{HeapState}
@@ -176,3 +177,25 @@ module _ (code : Parts) (last : Config → State) (v : View) (heap : HeapState) 
             ∙ (λ i. on (meaning.Running (record { call = record { what = sym name i; at = at }; function = g; dest = result_to func.result to; place = 0; registers = sym callee_regs i }))
                 (meaning.Running (active_of code caller (values_in names (sym caller_cells i))) ∷ sym rest i) w.state);
       }
+
+-- ---- room for the registers of a function
+
+pub same_front : (mid : ℕ) (old new : List Register) → mid ≤ length old → take (length old) new ≡ old → take mid new ≡ take mid old
+same_front mid old new le same = sym (take-take mid (length old) new le) ∙ ap (take mid) same
+
+pub passed_from : (base top end : ℕ) (object : Option Place) (types : List Ty) (args : List ℕ) (row was : List Register) (old : List (List ℕ)) (new : List Register) (newer : List (List ℕ)) → base ≤ top → take top row ≡ take top was
+    → IsPassed base top end object types args row old new newer → IsPassed base top end object types args was old new newer
+passed_from base top end object types args row was old new newer le same p = record {
+  given = p.given;
+  is = subst (λ l. give_from [] types args (cells_from base old (drop base l)) ≡ Some p.given) same p.is;
+  left = p.left;
+  got = p.got;
+  below = p.below ∙ sym (take-take base top row le) ∙ ap (take base) same ∙ take-take base top was le;
+  others = p.others;
+}
+
+pub given_from : (base top : ℕ) (types : List Ty) (args : List ℕ) (row was : List Register) (old : List (List ℕ)) → take top row ≡ take top was → IsSome (give_from [] types args (cells_of base top old was)) → IsSome (give_from [] types args (cells_of base top old row))
+given_from base top types args row was old same some = subst (λ l. IsSome (give_from [] types args (cells_from base old (drop base l)))) (sym same) some
+
+pub same_func : (o : Option Func) (f g : Func) → o ≡ Some f → o ≡ Some g → f ≡ g
+same_func o f g e h = let x : Some f ≡ Some g = sym e ∙ h in cc
