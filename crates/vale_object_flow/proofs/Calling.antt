@@ -4,12 +4,14 @@ use Rattle.std.specs.Prelude.{IsSome, slice_get}
 use Rattle.std.proofs.lemmas.List.{length-take-le, take-take}
 use Rattle.vale_base.specs.Limits.{depth_limit}
 use Rattle.vale_base.specs.declared.spot.Spot.{Spot}
+use Rattle.vale_base.specs.declared.trap.TrapKind.TheVariants.{CallDepth}
+use Rattle.vale_state_spec.specs.Outcome.{Cut}
 use Rattle.vale_state_spec.specs.State.{State}
 use Rattle.vale_state_spec.specs.World.{Value}
 use Rattle.vale_code.specs.Act as act
 use Rattle.vale_code.specs.Enter.{Form, Plain, form_of, if_called, with_form, with_func}
 use Rattle.vale_code.specs.Frames as meaning
-use Rattle.vale_code.specs.Frames.{Config, Next, after_tick, deeper, on, under}
+use Rattle.vale_code.specs.Frames.{Config, Next, Over, after_tick, deeper, on, trap, under}
 use Rattle.vale_code.specs.Instructions.{behind, with_read}
 use Rattle.vale_code.specs.Kinds.{result_to, text_at}
 use Rattle.vale_code.specs.Parts.{Parts}
@@ -28,8 +30,8 @@ use Rattle.vale_object_cells.specs.declared.register.Register.{Register}
 use Rattle.vale_object_steps.specs.Views.{View}
 use Rattle.vale_object_steps.proofs.FieldLaws.{same_names}
 use Rattle.vale_object_turn.specs.Destroying.{after_tick_of}
-use Rattle.vale_object_turn.proofs.BirthLaws.{ticked_on}
-use Rattle.vale_object_turn.proofs.Destroying.{deep_enough}
+use Rattle.vale_object_turn.proofs.BirthLaws.{not_ticked, ticked_on}
+use Rattle.vale_object_turn.proofs.Destroying.{deep_enough, too_deep}
 use Rattle.vale_object_passing.specs.Giving.{give_from}
 use Rattle.vale_object_passing.specs.Passing.{IsPassed, cells_of}
 use Rattle.vale_object_passing.proofs.Giving.{given_by_names, gives_cells}
@@ -38,7 +40,7 @@ use Rattle.vale_object_frames.specs.declared.frame.Active.{Active}
 use Rattle.vale_object_frames.specs.declared.frame.Frame.{Frame}
 use Rattle.vale_object_frames.specs.declared.frame.Frame.TheVariants as frame
 use Rattle.vale_object_frames.proofs.FrameLaws.{as_many_calls, frames_same, known_same}
-use Rattle.vale_object_flow.specs.Flow.{CanCall, GoesOn, IsCallable, Runs, active, all_frames, below, call_next, row_of}
+use Rattle.vale_object_flow.specs.Flow.{CanCall, GoesOn, IsCallable, Runs, active, all_frames, below, call_next, frames_of, row_of}
 use Rattle.vale_object_flow.specs.declared.control.Control.{Control}
 use Rattle.vale_object_flow.proofs.Entering.{object_values, registers_are}
 
@@ -199,3 +201,34 @@ given_from base top types args row was old same some = subst (λ l. IsSome (give
 
 pub same_func : (o : Option Func) (f g : Func) → o ≡ Some f → o ≡ Some g → f ≡ g
 same_func o f g e h = let x : Some f ≡ Some g = sym e ∙ h in cc
+
+-- ---- where no function is entered
+
+module _ (code : Parts) (last : Config → State) (v : View) (heap : HeapState) (old : Control) (func : Func) (to g : ℕ) (args : List ℕ) (at : Spot) (left depth : ℕ) where
+  abbrev calling : meaning.Active
+  calling = active code v old
+
+  abbrev under_it : List meaning.Frame
+  under_it = below code v old
+
+  depth_of : (regs : Registers) → depth ≡ length (all_frames old) + v.state.frozen → depth ≡ length (under (behind calling regs ∷ under_it)) + v.state.frozen
+  depth_of regs deep =
+      let calls : length (under under_it) ≡ length old.below = as_many_calls code v.names old.below old.texts (take old.top.base (row_of old)) in
+      omega (arith, deep, calls)
+
+  pub too_deep_to_call : slice_get code.funcs g ≡ Some func → func.form ≡ 0 → depth ≡ length (all_frames old) + v.state.frozen → depth_limit < depth + 1 → IsRight (call_next code last v old to g args at)
+      → call_next code last v old to g args at ≡ trap CallDepth at (frames_of code v old) v.state
+  too_deep_to_call found plain deep lt right =
+      let x = reads code last calling under_it v.state to g args at func found plain right in
+      let go = λ (t : State). on (callee_of code last calling under_it v.state to g args at func x.0.values) (behind calling x.0.after ∷ under_it) t in
+      call_is code last calling under_it v.state to g args at func x.0.values x.0.after found plain x.1
+      ∙ too_deep (behind calling x.0.after ∷ under_it) at v.state depth (after_tick v.state go) (depth_of x.0.after deep) lt
+
+  pub no_tick_to_call : slice_get code.funcs g ≡ Some func → func.form ≡ 0 → Runs code v heap (all_frames old) old.texts (row_of old) left → depth ≡ length (all_frames old) + v.state.frozen → depth + 1 ≤ depth_limit → left ≡ 0
+      → IsRight (call_next code last v old to g args at) → call_next code last v old to g args at ≡ Over Cut None v.state
+  no_tick_to_call found plain runs deep few none right =
+      let x = reads code last calling under_it v.state to g args at func found plain right in
+      let go = λ (t : State). on (callee_of code last calling under_it v.state to g args at func x.0.values) (behind calling x.0.after ∷ under_it) t in
+      call_is code last calling under_it v.state to g args at func x.0.values x.0.after found plain x.1
+      ∙ deep_enough (behind calling x.0.after ∷ under_it) at v.state depth (after_tick v.state go) (depth_of x.0.after deep) few
+      ∙ not_ticked v.state go (runs.ticks_left ∙ none)
