@@ -157,16 +157,16 @@ module _ (code : Parts) (last : Config → State) (v : View) (heap : HeapState) 
           regions = runs.regions;
           known = (
             subst (AllKnown names) (sym p.got) (padded_known names p.given.cells (end - mid - 0 - length args) (subst (AllKnown names) (sym q.is) q.cells_known)),
-            subst (AllKnown names) (sym caller_cells) q.known,
-            subst (AreKnown names old.below newer) (sym under_is) (known_same names old.below old.texts newer (take base (row_of old)) texts_same runs.known.1),
+            (
+              subst (AllKnown names) (sym caller_cells) q.known,
+              subst (AreKnown names old.below newer) (sym under_is) (known_same names old.below old.texts newer (take base (row_of old)) texts_same runs.known.1),
+            ),
           );
           ticks_left = ap (λ k. k - 1) runs.ticks_left;
           lie = (
             record { func = func; found = found; size = sym (length-take-le end row many) },
             has_room (result_to func.result to) room,
-            record { func = runs.lie.0.func; found = runs.lie.0.found; size = runs.lie.0.size ∙ row_size },
-            runs.lie.1,
-            runs.lie.2,
+            (record { func = runs.lie.0.func; found = runs.lie.0.found; size = runs.lie.0.size ∙ row_size }, runs.lie.1, runs.lie.2),
           );
         };
         ticks = let total : (s.spent + 1) + (s.left - 1) ≡ s.spent + s.left = omega (arith, now) in total;

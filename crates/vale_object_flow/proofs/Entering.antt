@@ -38,9 +38,11 @@ object_is names (Some p) = refl
 pub registers_are : (names : List Place) (object : Option Place) (cells : List (Option Cell)) (values : List Value) (n count : ℕ) → values_in names cells ≡ map Some values → count - length (object_values names object ++ values) ≡ n
     → values_in names (object_cells object ++ cells ++ replicate n None) ≡ registers_for count (object_values names object ++ values)
 registers_are names object cells values n count is left =
-    values_append names (object_cells object) (cells ++ replicate n None)
-    ∙ ap (λ l. l ++ values_in names (cells ++ replicate n None)) (object_is names object)
-    ∙ ap (λ l. map Some (object_values names object) ++ l) (values_append names cells (replicate n None) ∙ ap (λ l. l ++ values_in names (replicate n None)) is ∙ ap (λ l. map Some values ++ l) (values_none names n))
-    ∙ sym (append_assoc (map Some (object_values names object)) (map Some values) (replicate n None))
-    ∙ ap (λ l. l ++ replicate n None) (sym (some_append (object_values names object) values))
+    values_append names (object_cells object ++ cells) (replicate n None)
+    ∙ ap (λ l. l ++ values_in names (replicate n None))
+    (values_append names (object_cells object) cells
+        ∙ ap (λ l. l ++ values_in names cells) (object_is names object)
+        ∙ ap (λ l. map Some (object_values names object) ++ l) is
+        ∙ sym (some_append (object_values names object) values))
+    ∙ ap (λ l. map Some (object_values names object ++ values) ++ l) (values_none names n)
     ∙ ap (λ k. map Some (object_values names object ++ values) ++ replicate k None) (sym left)
