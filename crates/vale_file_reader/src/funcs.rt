@@ -10,6 +10,7 @@ use crate::instrs::{read_instr, read_words};
 use crate::kinds::read_tys;
 use crate::types::read_ty;
 use std::alloc::Global;
+use std::cmp::min;
 use vale_base::{Fail, Memory};
 use vale_cert::{FuncFacts, Label, RegFact};
 use vale_code::{Func, Instr, Sequence, Ty};
@@ -124,7 +125,8 @@ fn read_each_instr(
 ) -> Result<(Vec<Instr>, &[u8]), Fail<Fault>>
     ensures { Gives (λ x. (x.0.items, x.1.now)) result (many_read instr count bytes.now) }
 {
-    let mut parts = Vec::new(alloc);
+    // a vector's first growth makes room for four
+    let mut parts = Vec::with_capacity(alloc, min(count, 4) as usize)?;
     let mut rest = bytes;
     for _ in 0..count {
         let (part, after) = read_instr(alloc, rest)?;
@@ -227,8 +229,8 @@ pub fn split_facts(
 ) -> Result<(Sequence<Func>, Sequence<FuncFacts>), Memory>
     ensures { IfOk result (λ x. (x.0 ≡ map (λ f. f.0) pairs.items) × (x.1 ≡ map (λ f. f.1) pairs.items)) }
 {
-    let mut funcs = Vec::new(alloc);
-    let mut facts = Vec::new(alloc);
+    let mut funcs = Vec::with_capacity(alloc, pairs.len())?;
+    let mut facts = Vec::with_capacity(alloc, pairs.len())?;
     for (func, known) in pairs {
         funcs.push(func)?;
         facts.push(known)?;

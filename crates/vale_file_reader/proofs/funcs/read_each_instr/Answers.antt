@@ -6,7 +6,7 @@ use Rattle.vale_file_reader.proofs.funcs.read_each_instr.Goals as goal
 
 pub returns-in_err-part : goal.returns-in_err-part
 returns-in_err-part c =
-    let p = err_from_is_err_and c.from_residual.result c.from_residual.ensures.1 in
+    let p = err_from_is_err_and c.from_residual-in_err-part.result c.from_residual-in_err-part.ensures.1 in
     rw (p.1, p.2) (ends instr c.in_err-part.field-0.0 c.loop.parts.items c.args.count c.loop.counter c.loop.rest.now (many_read instr c.args.count c.args.bytes.now) c.loop-test.true c.in_err-part.ensures c.loop.invariant)
 
 pub loop-preserved : goal.loop-preserved
