@@ -36,4 +36,4 @@ returns-clause-step c = λ last heap v runs deep right.
     let room = subst (λ (f : Func). HasRegister (result_to f.result c.args.to) (c.args.self.now.end - c.args.self.now.top.base)) (sym callee) k.room in
     let few : c.args.depth + 1 ≤ depth_limit = omega (arith, c.if-depth-gt-DEPTH_LIMIT.false) in
     let some : 0 < c.args.left.now = omega (arith, c.if-left-eq0.false) in
-    called c.args.code.now last v heap c.args.self.now func c.args.to c.args.function c.args.args.now c.args.at c.args.left.now c.args.depth c.arrange.new.self c.cover.new.self.below c.dest_of-dest.result c.function_of-callee.ensures plain fits room c.requires.base c.requires.end c.in-Ok.ensures.size c.in-Ok.ensures.passed c.in-Ok.ensures.same c.in-Ok-2.ensures c.dest_of-dest.ensures runs deep few some
+    called c.args.code.now last v heap c.args.self.now func c.args.to c.args.function c.args.args.now c.args.at c.args.left.now c.args.depth c.arrange.new.self c.cover.new.self c.dest_of-dest.result c.function_of-callee.ensures plain fits room c.requires.base c.requires.end c.in-Ok.ensures.size c.in-Ok.ensures.passed c.in-Ok.ensures.same c.in-Ok-cover.ensures c.dest_of-dest.ensures runs deep few some
