@@ -182,8 +182,8 @@ module _ (code : Parts) (depth : ℕ) (heap : HeapState) (old : Control) (left :
       let t = dies (name_at v.names p) (after_tick_of v).state in
       let next = destroy_next code v old (Own p) at in
       let kind_is = e.kind_is ∙ x.1.kind in
-      let emptying : record { call = drop_frame (kind_text code o.kind) at; rest = map (value_of v.names) body.cells } ≡ emptying_of code v.names l =
-      (λ i. record { call = drop_frame (kind_text code (sym kind_is i)) (sym e.at_is i); rest = map (value_of v.names) (sym e.rest_is i) }) in
+      let emptying : emptying_of code v.names l ≡ record { call = drop_frame (kind_text code o.kind) at; rest = map (value_of v.names) body.cells } =
+      (λ i. record { call = drop_frame (kind_text code (kind_is i)) (e.at_is i); rest = map (value_of v.names) (e.rest_is i) }) in
       let went : GoesOn code v next new_heap (frame.Dropping l ∷ old.below) old.texts (row_of old) new_left =
       record {
         view = record v { state = t };
@@ -198,7 +198,7 @@ module _ (code : Parts) (depth : ℕ) (heap : HeapState) (old : Control) (left :
         ticks = let total : (s.spent + 1) + (s.left - 1) ≡ s.spent + s.left = omega (arith, some) in total;
         pieces = refl;
         frozen = refl;
-        is = x.0 ∙ (λ i. on (meaning.Dropping (emptying i)) (stack_of code v old) t);
+        is = x.0 ∙ (λ i. on (meaning.Dropping (sym emptying i)) (stack_of code v old) t);
       } in
       subst (λ fs. GoesOn code v next new_heap fs old.texts (row_of old) new_left) (sym e.is) went
 

@@ -188,11 +188,11 @@ module _ (code : Parts) (depth : ℕ) (heap : HeapState) (old : Control) (left :
 first_known : (names : List Place) (cells : List Cell) (o : OwnedCell) → first_owned_cell cells ≡ Some o → AllByRecursion (λ c. Knows names (Some c)) cells → Knows names (Some o.first) × AllByRecursion (λ c. Knows names (Some c)) o.rest
 first_known names [] o e k = absurd (let x : ⊥ = cc in x)
 first_known names (Own p ∷ cs) o e k =
-    let is : record { first = Own p; rest = cs } ≡ o = cc in
-    subst (λ (x : OwnedCell). Knows names (Some x.first) × AllByRecursion (λ c. Knows names (Some c)) x.rest) is (k.0, k.1)
+    let is : o ≡ record { first = Own p; rest = cs } = cc in
+    subst (λ (x : OwnedCell). Knows names (Some x.first) × AllByRecursion (λ c. Knows names (Some c)) x.rest) (sym is) (k.0, k.1)
 first_known names (Iso p ∷ cs) o e k =
-    let is : record { first = Iso p; rest = cs } ≡ o = cc in
-    subst (λ (x : OwnedCell). Knows names (Some x.first) × AllByRecursion (λ c. Knows names (Some c)) x.rest) is (k.0, k.1)
+    let is : o ≡ record { first = Iso p; rest = cs } = cc in
+    subst (λ (x : OwnedCell). Knows names (Some x.first) × AllByRecursion (λ c. Knows names (Some c)) x.rest) (sym is) (k.0, k.1)
 first_known names (Int z ∷ cs) o e k = first_known names cs o e k.1
 first_known names (Truth b ∷ cs) o e k = first_known names cs o e k.1
 first_known names (Text t ∷ cs) o e k = first_known names cs o e k.1
@@ -203,14 +203,14 @@ module _ (code : Parts) (depth : ℕ) (heap : HeapState) (old : Control) (left :
     abbrev was : Leftover
     was = d.drops.was
 
-    abbrev now : Leftover
-    now = d.drops.now
+    abbrev later : Leftover
+    later = d.drops.now
 
     was_is : old.below ≡ frame.Dropping was ∷ d.below
     was_is = d.old_is ∙ ap (λ f. f ∷ d.below) d.drops.old_is
 
-    now_is : mid.below ≡ frame.Dropping now ∷ d.below
-    now_is = d.new_is ∙ ap (λ f. f ∷ d.below) d.drops.new_is
+    later_is : mid.below ≡ frame.Dropping later ∷ d.below
+    later_is = d.new_is ∙ ap (λ f. f ∷ d.below) d.drops.new_is
 
     row_is : row_of mid ≡ row_of old
     row_is = (λ i. take (end_is i) (registers_are i).items)
@@ -222,49 +222,49 @@ module _ (code : Parts) (depth : ℕ) (heap : HeapState) (old : Control) (left :
       stack_was : stack_of code v old ≡ meaning.Dropping (emptying_of code v.names was) ∷ rest
       stack_was = ap (λ fs. frames_in code v.names fs old.texts (row_of old)) was_is
 
-      stack_now : stack_of code v mid ≡ meaning.Dropping (emptying_of code v.names now) ∷ rest
-      stack_now = (λ i. frames_in code v.names (now_is i) (texts_are i) (row_is i))
+      stack_later : stack_of code v mid ≡ meaning.Dropping (emptying_of code v.names later) ∷ rest
+      stack_later = (λ i. frames_in code v.names (later_is i) (texts_are i) (row_is i))
 
-      at_alike : now.at ≡ was.at
+      at_alike : later.at ≡ was.at
       at_alike = d.drops.at_is ∙ sym d.drops.at_was
 
-      emptying_now : emptying_of code v.names now ≡ record (emptying_of code v.names was) { rest = map (value_of v.names) (rest_of now) }
-      emptying_now = (λ i. record { call = drop_frame (kind_text code (d.drops.kind_is i)) (at_alike i); rest = map (value_of v.names) (rest_of now) })
+      emptying_later : emptying_of code v.names later ≡ record (emptying_of code v.names was) { rest = map (value_of v.names) (rest_of later) }
+      emptying_later = (λ i. record { call = drop_frame (kind_text code (d.drops.kind_is i)) (at_alike i); rest = map (value_of v.names) (rest_of later) })
 
       pub next_is : next_step code (stack_of code v old) v.state ≡ destroy_next code v mid cell at
       next_is =
           ap (λ fs. next_step code fs v.state) stack_was
           ∙ ap (λ o. destruction.drop_rest code o (emptying_of code v.names was) rest v.state) (owned_is v.names (rest_of was) ∙ ap (owned_by v.names) d.drops.next)
-          ∙ ap (λ x. destruction.destroy code (value_of v.names cell) x (meaning.Dropping (record (emptying_of code v.names was) { rest = map (value_of v.names) (rest_of now) }) ∷ rest) v.state) d.drops.at_was
-          ∙ ap (λ f. destruction.destroy code (value_of v.names cell) at (meaning.Dropping f ∷ rest) v.state) (sym emptying_now)
-          ∙ ap (λ fs. destruction.destroy code (value_of v.names cell) at fs v.state) (sym stack_now)
+          ∙ ap (λ x. destruction.destroy code (value_of v.names cell) x (meaning.Dropping (record (emptying_of code v.names was) { rest = map (value_of v.names) (rest_of later) }) ∷ rest) v.state) d.drops.at_was
+          ∙ ap (λ f. destruction.destroy code (value_of v.names cell) at (meaning.Dropping f ∷ rest) v.state) (sym emptying_later)
+          ∙ ap (λ fs. destruction.destroy code (value_of v.names cell) at fs v.state) (sym stack_later)
 
       calls_alike : under (stack_of code v mid) ≡ under (stack_of code v old)
-      calls_alike = ap under stack_now ∙ ap (λ f. under (meaning.Dropping f ∷ rest)) emptying_now ∙ sym (ap under stack_was)
+      calls_alike = ap under stack_later ∙ ap (λ f. under (meaning.Dropping f ∷ rest)) emptying_later ∙ sym (ap under stack_was)
 
       module _ (runs : Runs code v heap old.below old.texts (row_of old) left) where
         known_was : AreKnown v.names (frame.Dropping was ∷ d.below) old.texts (row_of old)
         known_was = subst (λ fs. AreKnown v.names fs old.texts (row_of old)) was_is runs.known
 
-        knows : Knows v.names (Some cell) × AllByRecursion (λ c. Knows v.names (Some c)) (rest_of now)
-        knows = first_known v.names (rest_of was) (record { first = cell; rest = rest_of now }) d.drops.next known_was.0
+        knows : Knows v.names (Some cell) × AllByRecursion (λ c. Knows v.names (Some c)) (rest_of later)
+        knows = first_known v.names (rest_of was) (record { first = cell; rest = rest_of later }) d.drops.next known_was.0
 
         runs_next : Runs code v heap mid.below mid.texts (row_of mid) left
         runs_next =
             let lie : Lie code (frame.Dropping was ∷ d.below) (length (row_of old)) = subst (λ fs. Lie code fs (length (row_of old))) was_is runs.lie in
-            let runs_now : Runs code v heap (frame.Dropping now ∷ d.below) old.texts (row_of old) left = record { stands = runs.stands; regions = runs.regions; known = (knows.1, known_was.1); ticks_left = runs.ticks_left; lie = lie } in
-            subst (λ fs. Runs code v heap fs mid.texts (row_of mid) left) (sym now_is)
-            (subst (λ t. Runs code v heap (frame.Dropping now ∷ d.below) t (row_of mid) left) (sym texts_are) (subst (λ r. Runs code v heap (frame.Dropping now ∷ d.below) old.texts r left) (sym row_is) runs_now))
+            let runs_later : Runs code v heap (frame.Dropping later ∷ d.below) old.texts (row_of old) left = record { stands = runs.stands; regions = runs.regions; known = (knows.1, known_was.1); ticks_left = runs.ticks_left; lie = lie } in
+            subst (λ fs. Runs code v heap fs mid.texts (row_of mid) left) (sym later_is)
+            (subst (λ t. Runs code v heap (frame.Dropping later ∷ d.below) t (row_of mid) left) (sym texts_are) (subst (λ r. Runs code v heap (frame.Dropping later ∷ d.below) old.texts r left) (sym row_is) runs_later))
 
-    as_deep : (frozen : ℕ) → depth ≡ length old.below + frozen → depth ≡ length mid.below + frozen
-    as_deep frozen deep = let size : length mid.below ≡ length old.below = ap length now_is ∙ sym (ap length was_is) in omega (arith, deep, size)
+    still_deep : (frozen : ℕ) → depth ≡ length old.below + frozen → depth ≡ length mid.below + frozen
+    still_deep frozen deep = let size : length mid.below ≡ length old.below = ap length later_is ∙ sym (ap length was_is) in omega (arith, deep, size)
 
     pub can_destroy_next : CanDropNext code depth heap old left → CanDestroy code depth heap mid left cell at
     can_destroy_next can = record {
       view = can.view;
       runs = runs_next can.view can.runs;
       known = (knows can.view can.runs).0;
-      deep = as_deep can.view.state.frozen can.deep;
+      deep = still_deep can.view.state.frozen can.deep;
       right = subst IsRight (next_is can.view) can.right;
     }
 
@@ -272,25 +272,25 @@ module _ (code : Parts) (depth : ℕ) (heap : HeapState) (old : Control) (left :
     drops_one_more told after new new_left g v runs deep right =
         subst (λ next. Comes code v (stack_of code v old) told next after new new_left) (sym (next_is v))
         (told_alike code v (stack_of code v mid) (stack_of code v old) told (destroy_next code v mid cell at) after new new_left (calls_alike v)
-            (g v (runs_next v runs) (knows v runs).0 (as_deep v.state.frozen deep) (subst IsRight (next_is v) right)))
+            (g v (runs_next v runs) (knows v runs).0 (still_deep v.state.frozen deep) (subst IsRight (next_is v) right)))
 
     fits_first : (fs : List Frame) → fs ≡ frame.Dropping was ∷ d.below → FitsNext heap fs → FitsNext heap (frame.Dropping was ∷ d.below)
     fits_first fs e f = subst (FitsNext heap) e f
 
     pub fits_next : FitsNext heap old.below → FitsRoots heap cell
-    fits_next f = fits_first old.below was_is f (record { first = cell; rest = rest_of now }) d.drops.next
+    fits_next f = fits_first old.below was_is f (record { first = cell; rest = rest_of later }) d.drops.next
 
     owned_first : (cells : List Cell) (o : OwnedCell) → first_owned_cell cells ≡ Some o → IsOwned o.first
     owned_first [] o e = absurd (let x : ⊥ = cc in x)
-    owned_first (Own p ∷ cs) o e = let is : record { first = Own p; rest = cs } ≡ o = cc in subst (λ (x : OwnedCell). IsOwned x.first) is tt
-    owned_first (Iso p ∷ cs) o e = let is : record { first = Iso p; rest = cs } ≡ o = cc in subst (λ (x : OwnedCell). IsOwned x.first) is tt
+    owned_first (Own p ∷ cs) o e = let is : o ≡ record { first = Own p; rest = cs } = cc in subst (λ (x : OwnedCell). IsOwned x.first) (sym is) tt
+    owned_first (Iso p ∷ cs) o e = let is : o ≡ record { first = Iso p; rest = cs } = cc in subst (λ (x : OwnedCell). IsOwned x.first) (sym is) tt
     owned_first (Int z ∷ cs) o e = owned_first cs o e
     owned_first (Truth b ∷ cs) o e = owned_first cs o e
     owned_first (Text t ∷ cs) o e = owned_first cs o e
     owned_first (Ref p ∷ cs) o e = owned_first cs o e
 
     pub next_owned_is : IsOwned cell
-    next_owned_is = owned_first (rest_of was) (record { first = cell; rest = rest_of now }) d.drops.next
+    next_owned_is = owned_first (rest_of was) (record { first = cell; rest = rest_of later }) d.drops.next
 
   -- ---- nothing is left
 

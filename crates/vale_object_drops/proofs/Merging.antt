@@ -19,11 +19,11 @@ use Rattle.vale_object_cells.specs.Names.{IsKnown, Knows, name_at}
 use Rattle.vale_object_cells.specs.declared.register.Register.{Register}
 use Rattle.vale_object_steps.specs.Views.{Steady, View, nobody}
 use Rattle.vale_object_frames.specs.declared.frame.Frame.{Frame}
-use Rattle.vale_object_flow.specs.Flow.{Comes, GoesOn, Runs, row_of}
+use Rattle.vale_object_flow.specs.Flow.{Comes, GoesOn, Runs, all_frames, row_of}
 use Rattle.vale_object_flow.specs.declared.control.Came.{Came}
 use Rattle.vale_object_flow.specs.declared.control.Came.TheVariants as came
 use Rattle.vale_object_flow.specs.declared.control.Control.{Control}
-use Rattle.vale_object_drops.specs.Destroying.{CanDestroy, Destroys}
+use Rattle.vale_object_drops.specs.Destroying.{CanDestroy, Destroys, destroy_next, stack_of}
 
 -- the objects of an isolate are of the innermost region
 abbrev pub merged : View → Place → View
@@ -45,7 +45,7 @@ stayed : (v : View) (p : Place) (t : State) → Steady (merged v p).state t → 
 stayed v p t s = record { left = s.left; spent = s.spent; pieces = s.pieces; frozen = s.frozen; quiet = s.quiet }
 
 came_on : (code : Parts) (v : View) (p : Place) (frames : List meaning.Frame) (told : Came) (next : Next) (heap : HeapState) (c : Control) (left : ℕ) → Comes code (merged v p) frames told next heap c left → Comes code v frames told next heap c left
-came_on code v p frames came.Running next heap c left g = went_on code v p next heap _ c.texts (row_of c) left g
+came_on code v p frames came.Running next heap c left g = went_on code v p next heap (all_frames c) c.texts (row_of c) left g
 came_on code v p frames came.Dropping next heap c left g = went_on code v p next heap c.below c.texts (row_of c) left g
 came_on code v p frames (came.Trap kind at) next heap c left g = (g.0, stayed v p g.0 g.1, g.2)
 came_on code v p frames came.Done next heap c left g = (g.0, g.1, stayed v p g.1 g.2, g.3)
@@ -91,4 +91,4 @@ module _ (heap new : HeapState) (p : Place) (is : new ≡ with_merged heap p) wh
 
       pub destroys_merged : (told : Came) (after : HeapState) (control : Control) (new_left : ℕ) → Destroys code depth new old left (Own p) at told after control new_left → Destroys code depth heap old left (Iso p) at told after control new_left
       destroys_merged told after control new_left d v runs known deep right =
-          came_on code v p _ told _ after control new_left (d (merged v p) (runs_merged v old.below old.texts (row_of old) left (known p refl) runs) (λ q e. known q e) deep right)
+          came_on code v p (stack_of code v old) told (destroy_next code v old (Iso p) at) after control new_left (d (merged v p) (runs_merged v old.below old.texts (row_of old) left (known p refl) runs) (λ q e. known q e) deep right)
