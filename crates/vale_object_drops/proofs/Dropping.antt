@@ -1,6 +1,7 @@
 -- The instruction that destroys, and the values of an object that has died.
 use Rattle.std.proofs.Common.{◌≡◌, ℕ, zero, suc, ◌+◌, ◌-◌, ◌<◌, ◌≤◌, List, [], ◌∷◌, length, map, take, drop, get_or, Option, Some, None, true, refl, sym, ap, subst, ◌∙◌, arith}
-use Rattle.std.specs.Prelude.{slice_get, slice_set}
+use Rattle.std.specs.Prelude.{IfOk, Result, slice_get, slice_set}
+use Rattle.std.proofs.lemmas.Result.{IfOk-weaker}
 use Rattle.std.specs.List.{AllByRecursion}
 use Rattle.std.proofs.Math.Seq.{take-set-lt}
 use Rattle.std.proofs.lemmas.List.{drop-set-add, length-drop, length-set, length-take-le, take-set-le, take-take}
@@ -54,6 +55,9 @@ told_alike code v fs gs came.Done next heap c left e g = g
 told_alike code v fs gs came.Cut next heap c left e g = g
 
 -- ---- the instruction
+
+one_cell : (o : Option Cell) (c d : Cell) → o ≡ Some c → o ≡ Some d → c ≡ d
+one_cell o c d e h = let x : Some c ≡ Some d = sym e ∙ h in cc
 
 owned_there : (code : Parts) (names : List Place) (at : Spot) (fs : List meaning.Frame) (s : State) (o : Option Cell) → IsRight (with_value (value_in names o) s (λ w. destruction.destroy code w at fs s)) → (cell : Cell) × (o ≡ Some cell) × IsOwned cell
 owned_there code names at fs s None r = absurd r
@@ -180,8 +184,23 @@ module _ (code : Parts) (depth : ℕ) (heap : HeapState) (old : Control) (left :
         (told_alike code v (stack_of code v mid) (frames_of code v old) told (destroy_next code v mid cell at) after new new_left (same_calls v runs)
             (d v (runs_lifted v runs) (lifted_known v runs) (as_deep v runs deep) (subst IsRight is right)))
 
-    pub fits_lifted : FitsRegister heap old a → FitsRoots heap cell
-    fits_lifted fits = fits cell held_it
+    pub can_destroy_as : (same : Cell) → cell ≡ same → CanDrop code depth heap old left a at → CanDestroy code depth heap mid left same at
+    can_destroy_as same e can = subst (λ c. CanDestroy code depth heap mid left c at) e (can_destroy_lifted can)
+
+    pub drops_as : {E : Type 0} (same : Cell) → cell ≡ same → (r : Result Came E) (after : HeapState) (new : Control) (new_left : ℕ) → IfOk r (λ told. Destroys code depth heap mid left same at told after new new_left)
+        → IfOk r (λ told. Drops code depth heap old left a at told after new new_left)
+    drops_as same e r after new new_left h =
+        IfOk-weaker r (λ told. Destroys code depth heap mid left same at told after new new_left) (λ told. Drops code depth heap old left a at told after new new_left)
+        (λ told d. drops_lifted told after new new_left (subst (λ c. Destroys code depth heap mid left c at told after new new_left) (sym e) d)) h
+
+  pub fits_as : (cell : Cell) (new : List Register) → IsLifted base old.end a row cell new → (same : Cell) → cell ≡ same → FitsRegister heap old a → FitsRoots heap same
+  fits_as cell new lifted same e fits = subst (FitsRoots heap) e (fits cell (lifted.held_it (from_base base (text_at old.texts))))
+
+  pub lifted_owned : (cell : Cell) (new : List Register) → IsLifted base old.end a row cell new → CanDrop code depth heap old left a at → IsOwned cell
+  lifted_owned cell new lifted can =
+      let x = holds_owned can in
+      let same : x.1 ≡ cell = one_cell (held (cells_in x.0 (drop base (row_of old))) a) x.1 cell x.2 (lifted.held_it x.0) in
+      subst IsOwned same x.3
 
 -- ---- the next value of a destruction
 
@@ -268,17 +287,26 @@ module _ (code : Parts) (depth : ℕ) (heap : HeapState) (old : Control) (left :
       right = subst IsRight (next_is can.view) can.right;
     }
 
+    pub can_destroy_next_as : (same : Cell) → cell ≡ same → CanDropNext code depth heap old left → CanDestroy code depth heap mid left same at
+    can_destroy_next_as same e can = subst (λ c. CanDestroy code depth heap mid left c at) e (can_destroy_next can)
+
     pub drops_one_more : (told : Came) (after : HeapState) (new : Control) (new_left : ℕ) → Destroys code depth heap mid left cell at told after new new_left → DropsNextOne code depth heap old left told after new new_left
     drops_one_more told after new new_left g v runs deep right =
         subst (λ next. Comes code v (stack_of code v old) told next after new new_left) (sym (next_is v))
         (told_alike code v (stack_of code v mid) (stack_of code v old) told (destroy_next code v mid cell at) after new new_left (calls_alike v)
             (g v (runs_next v runs) (knows v runs).0 (still_deep v.state.frozen deep) (subst IsRight (next_is v) right)))
 
+    pub drops_next_as : {E : Type 0} (same : Cell) → cell ≡ same → (r : Result Came E) (after : HeapState) (new : Control) (new_left : ℕ) → IfOk r (λ told. Destroys code depth heap mid left same at told after new new_left)
+        → IfOk r (λ told. DropsNextOne code depth heap old left told after new new_left)
+    drops_next_as same e r after new new_left h =
+        IfOk-weaker r (λ told. Destroys code depth heap mid left same at told after new new_left) (λ told. DropsNextOne code depth heap old left told after new new_left)
+        (λ told d. drops_one_more told after new new_left (subst (λ c. Destroys code depth heap mid left c at told after new new_left) (sym e) d)) h
+
     fits_first : (fs : List Frame) → fs ≡ frame.Dropping was ∷ d.below → FitsNext heap fs → FitsNext heap (frame.Dropping was ∷ d.below)
     fits_first fs e f = subst (FitsNext heap) e f
 
-    pub fits_next : FitsNext heap old.below → FitsRoots heap cell
-    fits_next f = fits_first old.below was_is f (record { first = cell; rest = rest_of later }) d.drops.next
+    pub fits_next_as : (same : Cell) → cell ≡ same → FitsNext heap old.below → FitsRoots heap same
+    fits_next_as same e f = subst (FitsRoots heap) e (fits_first old.below was_is f (record { first = cell; rest = rest_of later }) d.drops.next)
 
     owned_first : (cells : List Cell) (o : OwnedCell) → first_owned_cell cells ≡ Some o → IsOwned o.first
     owned_first [] o e = absurd (let x : ⊥ = cc in x)
