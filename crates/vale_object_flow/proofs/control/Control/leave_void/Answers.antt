@@ -1,5 +1,5 @@
 use Rattle.vale_object_flow.proofs.Leaving.{leaves_void}
-use Rattle.vale_object_flow.proofs.leave.Control.leave_void.Goals as goal
+use Rattle.vale_object_flow.proofs.control.Control.leave_void.Goals as goal
 
 pub returns-clause-step : goal.returns-clause-step
 returns-clause-step c = λ code last heap v left runs right.

@@ -1,7 +1,7 @@
 use Rattle.std.proofs.Common.{Some, subst, sym, take}
 use Rattle.vale_object_flow.specs.Flow.{GoesOn, leave_next}
 use Rattle.vale_object_flow.proofs.Leaving.{handed_over, is_value, over_destruction, over_nothing, own_within, room_under}
-use Rattle.vale_object_flow.proofs.leave.Control.leave.Goals as goal
+use Rattle.vale_object_flow.proofs.control.Control.leave.Goals as goal
 
 pub hand-requires-clause-from : goal.hand-requires-clause-from
 hand-requires-clause-from c = own_within c.args.self.now c.args.from c.requires.base c.requires.end c.requires.value
