@@ -187,7 +187,7 @@ same_front mid old new le same = sym (take-take mid (length old) new le) ∙ ap 
 
 pub passed_from : (base top end : ℕ) (object : Option Place) (types : List Ty) (args : List ℕ) (row was : List Register) (old : List (List ℕ)) (new : List Register) (newer : List (List ℕ)) → base ≤ top → take top row ≡ take top was
     → IsPassed base top end object types args row old new newer → IsPassed base top end object types args was old new newer
-passed_from base top end object types args row was old new newer le same p = record {
+passed_from base top finish object types args row was old new newer le same p = record {
   given = p.given;
   is = subst (λ l. give_from [] types args (cells_from base old (drop base l)) ≡ Some p.given) same p.is;
   left = p.left;

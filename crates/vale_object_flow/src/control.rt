@@ -94,6 +94,7 @@ impl Control {
         requires few { depth + 1 < 2 ^ 64 }
         requires right { CanCall code.now self.old to function args.now at }
         ensures step { IfOk result (λ told. Calls code.now depth self.old left.old to function args.now at told self.new left.new) }
+        ensures end { OnOk result (self.new.end ≤ length self.new.registers.items) }
         ensures ticks { left.new ≤ left.old }
     {
         if depth as u64 + 1 > DEPTH_LIMIT {

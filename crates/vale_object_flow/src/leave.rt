@@ -36,6 +36,7 @@ impl Control {
         requires value { HoldsCell (own_registers self.old) from }
         requires room { HasRoom self.old.top.dest self.old.top.base self.old.below }
         ensures step { (code : Parts) → Leaves code self.old (Some from) result self.new }
+        ensures end { self.new.end ≤ length self.new.registers.items }
     {
         let frame = self.top;
         match rejoin(&mut self.below, &mut self.top) {
@@ -67,6 +68,7 @@ impl Control {
         requires base { self.old.top.base ≤ self.old.end }
         requires end { self.old.end ≤ length self.old.registers.items }
         ensures step { (code : Parts) → Leaves code self.old None result self.new }
+        ensures end { self.new.end ≤ length self.new.registers.items }
     {
         let base = self.top.base;
         let came = rejoin(&mut self.below, &mut self.top);
