@@ -19,13 +19,12 @@ use Rattle.vale_code.specs.Registers.{Read, Registers, give_all, registers_for}
 use Rattle.vale_code.specs.declared.func.Func.{Func}
 use Rattle.vale_code.specs.declared.ty.Ty.{Ty}
 use Rattle.vale_registers.specs.Cells.{HasRegister}
-use Rattle.vale_registers.specs.Texts as texts
 use Rattle.vale_heap.specs.HeapState.{HeapState}
 use Rattle.vale_heap.specs.declared.body.Cell.{Cell}
 use Rattle.vale_heap.specs.declared.body.Place.{Place}
 use Rattle.vale_turn.specs.View.{IsRight}
 use Rattle.vale_object_cells.specs.Cells.{cells_from, held}
-use Rattle.vale_object_cells.specs.Names.{AllKnown, Knows, value_in, values_in}
+use Rattle.vale_object_cells.specs.Names.{AllKnown, Knows, values_in}
 use Rattle.vale_object_cells.specs.declared.register.Register.{Register}
 use Rattle.vale_object_steps.specs.Views.{Steady, View}
 use Rattle.vale_object_steps.proofs.FieldLaws.{same_names}
@@ -35,12 +34,12 @@ use Rattle.vale_object_turn.proofs.Destroying.{deep_enough, too_deep}
 use Rattle.vale_object_passing.specs.Giving.{give_from}
 use Rattle.vale_object_passing.specs.Passing.{IsPassed, cells_of}
 use Rattle.vale_object_passing.proofs.Giving.{given_by_names, gives_cells}
-use Rattle.vale_object_frames.specs.Frames.{AreKnown, HasRoom, IsPlain, Lie, active_of, call_of, frames_in, name_in, told_of}
+use Rattle.vale_object_frames.specs.Frames.{AreKnown, HasRoom, IsPlain, active_of, frames_in, name_in, told_of}
 use Rattle.vale_object_frames.specs.declared.frame.Active.{Active}
 use Rattle.vale_object_frames.specs.declared.frame.Frame.{Frame}
 use Rattle.vale_object_frames.specs.declared.frame.Frame.TheVariants as frame
 use Rattle.vale_object_frames.proofs.FrameLaws.{as_many_calls, frames_same, known_same}
-use Rattle.vale_object_flow.specs.Flow.{CanCall, GoesOn, IsCallable, Runs, active, all_frames, below, call_next, frames_of, row_of}
+use Rattle.vale_object_flow.specs.Flow.{CanCall, GoesOn, Runs, active, all_frames, below, call_next, frames_of, row_of}
 use Rattle.vale_object_flow.specs.declared.control.Control.{Control}
 use Rattle.vale_object_flow.proofs.Entering.{object_values, registers_are}
 
@@ -177,7 +176,7 @@ module _ (code : Parts) (last : Config → State) (v : View) (heap : HeapState) 
             ∙ deep_enough (behind f regs ∷ bel) at s depth (after_tick s go) depth_is shallow
             ∙ ticked_on s go now
             ∙ (λ i. on (meaning.Running (record { call = record { what = sym name i; at = at }; function = g; dest = result_to func.result to; place = 0; registers = sym callee_regs i }))
-                (meaning.Running (active_of code caller (values_in names (sym caller_cells i))) ∷ sym rest i) w.state);
+            (meaning.Running (active_of code caller (values_in names (sym caller_cells i))) ∷ sym rest i) w.state);
       }
 
 -- ---- room for the registers of a function

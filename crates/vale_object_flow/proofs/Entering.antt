@@ -1,5 +1,5 @@
 -- The registers of a function that is entered, by names.
-use Rattle.std.proofs.Common.{◌≡◌, ℕ, zero, suc, ◌+◌, ◌-◌, ◌<◌, ◌≤◌, ◌++◌, List, [], ◌∷◌, length, map, replicate, Option, Some, None, refl, sym, ap, ◌∙◌, arith, append_assoc}
+use Rattle.std.proofs.Common.{◌≡◌, ℕ, zero, suc, ◌-◌, ◌++◌, List, [], ◌∷◌, length, map, replicate, Option, Some, None, refl, sym, ap, ◌∙◌}
 use Rattle.vale_state_spec.specs.World.{Value}
 use Rattle.vale_state_spec.specs.World.{Ref as reference}
 use Rattle.vale_code.specs.Registers.{registers_for}
@@ -41,8 +41,8 @@ registers_are names object cells values n count is left =
     values_append names (object_cells object ++ cells) (replicate n None)
     ∙ ap (λ l. l ++ values_in names (replicate n None))
     (values_append names (object_cells object) cells
-        ∙ ap (λ l. l ++ values_in names cells) (object_is names object)
-        ∙ ap (λ l. map Some (object_values names object) ++ l) is
-        ∙ sym (some_append (object_values names object) values))
+    ∙ ap (λ l. l ++ values_in names cells) (object_is names object)
+    ∙ ap (λ l. map Some (object_values names object) ++ l) is
+    ∙ sym (some_append (object_values names object) values))
     ∙ ap (λ l. map Some (object_values names object ++ values) ++ l) (values_none names n)
     ∙ ap (λ k. map Some (object_values names object ++ values) ++ replicate k None) (sym left)

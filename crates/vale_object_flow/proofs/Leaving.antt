@@ -1,5 +1,5 @@
 -- How functions are left.
-use Rattle.std.proofs.Common.{◌≡◌, ℕ, zero, suc, ◌+◌, ◌-◌, ◌<◌, ◌≤◌, List, [], ◌∷◌, length, take, drop, get_or, Option, Some, None, true, refl, sym, ap, subst, ◌∙◌, arith}
+use Rattle.std.proofs.Common.{◌≡◌, ℕ, zero, suc, ◌+◌, ◌-◌, ◌<◌, ◌≤◌, List, [], ◌∷◌, length, take, drop, Option, Some, None, true, refl, sym, ap, subst, ◌∙◌, arith}
 use Rattle.std.specs.Prelude.{slice_get}
 use Rattle.std.proofs.lemmas.List.{get_or-drop, get_or-take, length-drop, length-take-le, take-take}
 use Rattle.vale_state_spec.specs.Outcome.{Done}
@@ -21,7 +21,7 @@ use Rattle.vale_heap.specs.HeapState.{HeapState}
 use Rattle.vale_heap.specs.declared.body.Cell.{Cell}
 use Rattle.vale_heap.specs.declared.body.Place.{Place}
 use Rattle.vale_turn.specs.View.{IsRight}
-use Rattle.vale_object_cells.specs.Cells.{HoldsCell, cell_in, cells_from, cells_in, held}
+use Rattle.vale_object_cells.specs.Cells.{HoldsCell, cell_in, cells_in, held}
 use Rattle.vale_object_cells.specs.Names.{AllKnown, Knows, value_in, values_in}
 use Rattle.vale_object_cells.specs.declared.register.Register.{Register}
 use Rattle.vale_object_cells.proofs.Holding.{as_many, cell_within, held_within}
@@ -35,7 +35,7 @@ use Rattle.vale_object_frames.specs.declared.frame.Active.{Active}
 use Rattle.vale_object_frames.specs.declared.frame.Frame.{Frame}
 use Rattle.vale_object_frames.specs.declared.frame.Frame.TheVariants as frame
 use Rattle.vale_object_frames.proofs.FrameLaws.{frames_same, known_same, own_same}
-use Rattle.vale_object_flow.specs.Flow.{Comes, GoesOn, Leaves, Rejoins, Runs, active, all_frames, below, frames_of, leave_next, on_frames, own_registers, row_of}
+use Rattle.vale_object_flow.specs.Flow.{Comes, GoesOn, Rejoins, Runs, active, all_frames, below, frames_of, leave_next, on_frames, own_registers, row_of}
 use Rattle.vale_object_flow.specs.declared.control.Came.{Came}
 use Rattle.vale_object_flow.specs.declared.control.Came.TheVariants as came
 use Rattle.vale_object_flow.specs.declared.control.Control.{Control}
@@ -211,8 +211,7 @@ module _ (code : Parts) (last : Config → State) (v : View) (heap : HeapState) 
     pub is_value : (a : ℕ) → IsRight (leave_next code last v old (Some a)) → (w : Value) × (value_in v.names (held (cells_of top old.end old.texts regs) a) ≡ Some w) × (leave_next code last v old (Some a) ≡ leave (below code v old) old.top.dest (Some w) v.state)
     is_value a right =
         let f = active code v old in
-        let x = value_there code last f (below code v old) v.state a right in
-        (
+        let x = value_there code last f (below code v old) v.state a right in (
           x.0,
           sym (read_values v.names (cells_of top old.end old.texts regs) a) ∙ x.1,
           returned_value code last f (below code v old) v.state runs.lie.0.func a x.0 runs.lie.0.found runs.lie.0.plain x.1,

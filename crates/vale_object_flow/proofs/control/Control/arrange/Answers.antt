@@ -1,4 +1,4 @@
-use Rattle.std.proofs.Common.{◌≡◌, ◌+◌, ◌≤◌, [], None, sym, subst, take}
+use Rattle.std.proofs.Common.{◌+◌, [], None, sym, subst}
 use Rattle.std.specs.Prelude.{IsSome}
 use Rattle.std.proofs.lemmas.Result.{on_ok_weaker}
 use Rattle.vale_object_passing.specs.Giving.{give_from}
@@ -19,5 +19,5 @@ returns-clause-passed c =
     let same = same_front m.end m.registers.items c.reserve.new.registers.items c.requires.end c.in-Ok.ensures.same in
     on_ok_weaker c.pass.result
     (λ p. passed_from m.top.base m.end (m.end + c.args.callee.now.registers) None c.args.callee.now.params c.args.args.now c.reserve.new.registers.items m.registers.items m.texts c.pass.new.registers.items c.pass.new.texts c.requires.base same
-        (subst (λ types. IsPassed m.top.base m.end (m.end + c.args.callee.now.registers) None types c.args.args.now c.reserve.new.registers.items m.texts c.pass.new.registers.items c.pass.new.texts) c.as_slice.ensures p))
+    (subst (λ types. IsPassed m.top.base m.end (m.end + c.args.callee.now.registers) None types c.args.args.now c.reserve.new.registers.items m.texts c.pass.new.registers.items c.pass.new.texts) c.as_slice.ensures p))
     c.pass.ensures.passed

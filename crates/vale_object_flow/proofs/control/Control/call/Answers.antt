@@ -1,5 +1,4 @@
-use Rattle.std.proofs.Common.{◌≡◌, ◌+◌, ◌-◌, ◌<◌, ◌≤◌, List, length, take, Some, refl, sym, ap, ◌∙◌, subst, arith}
-use Rattle.std.specs.Prelude.{slice_get}
+use Rattle.std.proofs.Common.{◌≡◌, ◌+◌, ◌-◌, ◌<◌, ◌≤◌, length, sym, subst, arith}
 use Rattle.vale_base.specs.Limits.{depth_limit}
 use Rattle.vale_code.specs.Kinds.{result_to}
 use Rattle.vale_code.specs.declared.func.Func.{Func}
