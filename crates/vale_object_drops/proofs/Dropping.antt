@@ -56,6 +56,14 @@ told_alike code v fs gs came.Cut next heap c left e g = g
 
 -- ---- the instruction
 
+pub neither : (cell : Cell) → IsOwned cell → ((p : Place) → cell ≡ Own p → ⊥) → ((p : Place) → cell ≡ Iso p → ⊥) → ⊥
+neither (Own p) o a b = a p refl
+neither (Iso p) o a b = b p refl
+neither (Int z) o a b = o
+neither (Truth t) o a b = o
+neither (Text t) o a b = o
+neither (Ref p) o a b = o
+
 one_cell : (o : Option Cell) (c d : Cell) → o ≡ Some c → o ≡ Some d → c ≡ d
 one_cell o c d e h = let x : Some c ≡ Some d = sym e ∙ h in cc
 
@@ -322,10 +330,10 @@ module _ (code : Parts) (depth : ℕ) (heap : HeapState) (old : Control) (left :
 
   -- ---- nothing is left
 
-  left_plainly : (names : List Place) (fs : List Frame) (texts : List (List ℕ)) (row : List Register) (s : State) → leave (frames_in code names fs texts row) None None s ≡ on_frames (frames_in code names fs texts row) s
-  left_plainly names [] texts row s = refl
-  left_plainly names (frame.Running x ∷ fs) texts row s = refl
-  left_plainly names (frame.Dropping l ∷ fs) texts row s = refl
+  left_plainly : (names : List Place) (fs : List Frame) (texts : List (List ℕ)) (rs : List Register) (s : State) → leave (frames_in code names fs texts rs) None None s ≡ on_frames (frames_in code names fs texts rs) s
+  left_plainly names [] texts rs s = refl
+  left_plainly names (frame.Running x ∷ fs) texts rs s = refl
+  left_plainly names (frame.Dropping l ∷ fs) texts rs s = refl
 
   module _ (fs : List Frame) (d : HasDropped old.below fs) (v : View) (runs : Runs code v heap old.below old.texts (row_of old) left) where
     abbrev gone : Leftover

@@ -31,6 +31,18 @@ fn own_first(registers: &mut [Register], base: usize, end: usize, place: Place)
     set_own(own, 0, place);
 }
 
+// The same of a row.
+#[inline(always)]
+fn lay_owner(registers: &mut Vec<Register>, base: usize, end: usize, place: Place)
+    requires base { base < end }
+    requires end { end ≤ length registers.old.items }
+    ensures cells { (u : ℕ → List ℕ) → cells_in u (drop base (take end registers.new.items)) ≡ Some (Cell.Own place) ∷ replicate (end - base - 1) None }
+    ensures row { take base registers.new.items ≡ take base registers.old.items }
+    ensures size { length registers.new.items ≡ length registers.old.items }
+{
+    own_first(registers, base, end, place)
+}
+
 // A destructor is entered with the owner of the object at a place.
 fn enter_destructor(
     control: &mut Control,
@@ -51,7 +63,7 @@ fn enter_destructor(
         Ok(()) => {}
         Err(fault) => return Err(fault),
     }
-    own_first(&mut control.registers, base, end, place);
+    lay_owner(&mut control.registers, base, end, place);
     control.top = Active {
         function,
         at,

@@ -34,6 +34,17 @@ fn lift(registers: &mut [Register], base: usize, end: usize, from: u32) -> Cell
     }
 }
 
+// The same of a row.
+#[inline(always)]
+fn lift_from(registers: &mut Vec<Register>, base: usize, end: usize, from: u32) -> Cell
+    requires base { base ≤ end }
+    requires end { end ≤ length registers.old.items }
+    requires owned { HoldsOwned (drop base (take end registers.old.items)) from }
+    ensures { IsLifted base end from registers.old.items result registers.new.items }
+{
+    lift(registers, base, end, from)
+}
+
 /// What a register of the innermost function leads to, as its owner or as an isolate, begins to be destroyed, where so many
 /// functions, destructions and freezes are under way.
 pub fn destroy(
@@ -55,7 +66,7 @@ pub fn destroy(
     ensures step { IfOk result (λ told. Drops code.now depth heap.old control.old left.old from at told heap.new control.new left.new) }
     ensures ticks { left.new ≤ left.old }
 {
-    let cell = lift(
+    let cell = lift_from(
         &mut control.registers,
         control.top.base,
         control.end,

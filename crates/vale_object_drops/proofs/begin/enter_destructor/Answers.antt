@@ -3,8 +3,8 @@ use Rattle.vale_heap.specs.declared.body.Cell.TheVariants.{Own}
 use Rattle.vale_object_flow.proofs.Calling.{same_front}
 use Rattle.vale_object_drops.proofs.begin.enter_destructor.Goals as goal
 
-pub own_first-requires-clause-base : goal.own_first-requires-clause-base
-own_first-requires-clause-base c =
+pub lay_owner-requires-clause-base : goal.lay_owner-requires-clause-base
+lay_owner-requires-clause-base c =
     let some = c.requires.room c.function_of-callee.result.now c.function_of-callee.ensures in
     omega (arith, some)
 
@@ -16,9 +16,9 @@ returns c =
     record {
       func = c.function_of-callee.result.now;
       found = c.function_of-callee.ensures;
-      cells = λ u. c.own_first.ensures.cells u ∙ ap (λ k. Some (Own c.args.place) ∷ replicate k None) count;
-      row = c.own_first.ensures.row ∙ same_front m.end m.registers.items c.reserve.new.registers.items c.requires.end c.in-Ok.ensures.same;
-      many = omega (arith, c.own_first.ensures.size, c.in-Ok.ensures.size);
+      cells = λ u. c.lay_owner.ensures.cells u ∙ ap (λ k. Some (Own c.args.place) ∷ replicate k None) count;
+      row = c.lay_owner.ensures.row ∙ same_front m.end m.registers.items c.reserve.new.registers.items c.requires.end c.in-Ok.ensures.same;
+      many = omega (arith, c.lay_owner.ensures.size, c.in-Ok.ensures.size);
       end = refl;
       top = refl;
       below = refl;

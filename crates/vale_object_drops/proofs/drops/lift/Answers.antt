@@ -2,8 +2,8 @@ use Rattle.std.proofs.Common.{◌+◌, ◌<◌, length, refl, arith}
 use Rattle.vale_object_drops.proofs.Lifting.{lifted_isolate, lifted_owner, owns, there}
 use Rattle.vale_object_drops.proofs.drops.lift.Goals as goal
 
-pub bounds-registers-holder : goal.bounds-registers-holder
-bounds-registers-holder c =
+pub bounds-registers-base : goal.bounds-registers-base
+bounds-registers-base c =
     let lt = there c.args.base c.args.end c.args.from c.args.registers.now c.requires.end c.requires.owned in
     omega (arith, lt, c.requires.end)
 
