@@ -52,9 +52,18 @@ module _ (heap : HeapState) (cells : List (Option Cell)) (place left : ℕ) (s :
   }
 
 module _ (to : ℕ) (at : Spot) (old : List Register) (place : ℕ) (new : List Register) (room : to < length old) where
-  pub lands_number : (z : ℤ) → ((t : ℕ → List ℕ) → cells_in t new ≡ slice_set (cells_in t old) to (Some (Int z))) → Lands to at (Ok z) old place stop.Going new (place + 1)
-  lands_number z is t heap left s v runs =
-      wrote heap (cells_in t old) place left s v to (Int z) (cells_in t new) _ (λ p e. let x : ⊥ = cc in x) (subst (λ n. to < n) (sym (as_many t old)) room) (is t) runs refl
+  pub lands_number : (outcome : Result ℤ TrapKind) (z y : ℤ) → outcome ≡ Ok z → y ≡ z → ((t : ℕ → List ℕ) → cells_in t new ≡ slice_set (cells_in t old) to (Some (Int y))) → Lands to at outcome old place stop.Going new (place + 1)
+  lands_number outcome z y e same is = subst (λ o. Lands to at o old place stop.Going new (place + 1)) (sym e) landed
+    where
+      landed : Lands to at (Ok z) old place stop.Going new (place + 1)
+      landed t heap left s v runs =
+          let cells = cells_in t old in
+          let regs = values_in v.names cells in
+          let written : cells_in t new ≡ slice_set cells to (Some (Int z)) = is t ∙ ap (λ n. slice_set cells to (Some (Int n))) same in
+          wrote heap cells place left s v to (Int z) (cells_in t new) (answered (active s v place cells) (Some to) regs at s.below v.state (gives_int v.state (Ok z))) (λ p h. let x : ⊥ = cc in x) (subst (λ n. to < n) (sym (as_many t old)) room) written runs refl
+
+pub lands_trap : (to : ℕ) (at : Spot) (old : List Register) (place : ℕ) (outcome : Result ℤ TrapKind) (kind : TrapKind) → outcome ≡ Err kind → Lands to at outcome old place (stop.Trap kind at) old place
+lands_trap to at old place outcome kind e = subst (λ o. Lands to at o old place (stop.Trap kind at) old place) (sym e) (λ t heap left s v runs. refl)
 
 -- ---- operands
 
@@ -129,8 +138,10 @@ module _ (old : List Register) (place : ℕ) (new : List Register) (to left : �
   puts c instr plain is leads t heap s v runs right =
       wrote heap (cells_in t old) place left s v to c (cells_in t new) (next_of s v place (cells_in t old) instr) plain (subst (λ n. to < n) (sym (as_many t old)) room) (is t) runs (leads s v t right)
 
-  pub puts_int : (z : ℤ) (instr : Instr) → instr ≡ i.Int to z → ((t : ℕ → List ℕ) → cells_in t new ≡ slice_set (cells_in t old) to (Some (Int z))) → ObeysAll instr old place left stop.Going new (place + 1) left
-  puts_int z instr e is = subst (λ j. ObeysAll j old place left stop.Going new (place + 1) left) (sym e) (puts (Int z) (i.Int to z) (λ p h. let x : ⊥ = cc in x) is (λ s v t r. refl))
+  pub puts_int : (z y : ℤ) (instr : Instr) → instr ≡ i.Int to z → y ≡ z → ((t : ℕ → List ℕ) → cells_in t new ≡ slice_set (cells_in t old) to (Some (Int y))) → ObeysAll instr old place left stop.Going new (place + 1) left
+  puts_int z y instr e same is =
+      subst (λ j. ObeysAll j old place left stop.Going new (place + 1) left) (sym e)
+      (puts (Int z) (i.Int to z) (λ p h. let x : ⊥ = cc in x) (λ t. is t ∙ ap (λ n. slice_set (cells_in t old) to (Some (Int n))) same) (λ s v t r. refl))
 
   chosen : (choice : ℕ) (b : Bool) → b ≡ (choice == 1) → (s : Scene) (v : View) (cells : List (Option Cell)) → IsRight (next_of s v place cells (i.Truth to choice))
       → next_of s v place cells (i.Truth to choice) ≡ onward (active s v place cells) (put (values_in v.names cells) to (Some (truth b))) s.below v.state

@@ -2,6 +2,7 @@
 ghost use Rattle.std.specs.Prelude.{◌≡◌, ℕ, ◌+◌, ◌<◌, ◌^◌, length, true};
 ghost use Rattle.vale_registers.specs.Cells.{HasRegister};
 ghost use Rattle.vale_turn.specs.Served.{register_of};
+ghost use Rattle.vale_turn.specs.View.{Stays};
 ghost use Rattle.vale_object_numbers.specs.Numbers.{HasRuleIn, Lands, ObeysAll, is_number};
 
 use vale_base::{Spot, TrapKind};
@@ -20,7 +21,8 @@ fn land(
 ) -> Stop
     requires room { to < length registers.old }
     requires place { place.old + 1 < 2 ^ 64 }
-    ensures { Lands to at outcome registers.old place.old result registers.new place.new }
+    ensures step { Lands to at outcome registers.old place.old result registers.new place.new }
+    ensures stays { Stays result }
 {
     match outcome {
         Ok(number) => {
@@ -40,6 +42,7 @@ pub fn obey_number(registers: &mut [Register], place: &mut usize, instr: &Instr)
     requires place { place.old + 1 < 2 ^ 64 }
     requires right { (left : ℕ) × HasRuleIn registers.old place.old left instr.now }
     ensures step { (left : ℕ) → ObeysAll instr.now registers.old place.old left result registers.new place.new left }
+    ensures stays { Stays result }
 {
     match instr {
         Instr::Int { to, number } => {
