@@ -24,7 +24,7 @@ use Rattle.vale_heap.specs.declared.body.Cell.{Cell}
 use Rattle.vale_heap.specs.declared.body.Cell.TheVariants.{Own}
 use Rattle.vale_heap.specs.declared.body.Place.{Place}
 use Rattle.vale_turn.specs.View.{IsRight}
-use Rattle.vale_object_cells.specs.Cells.{cells_from, cells_in, held}
+use Rattle.vale_object_cells.specs.Cells.{cells_from}
 use Rattle.vale_object_cells.specs.Names.{AllKnown, Knows, name_at, value_of, values_in}
 use Rattle.vale_object_cells.specs.declared.register.Register.{Register}
 use Rattle.vale_object_steps.specs.Drops.{CanEnd}
@@ -34,13 +34,13 @@ use Rattle.vale_object_turn.specs.Destroying.{Begins, Begun, after_tick_of}
 use Rattle.vale_object_turn.specs.Steps as turn
 use Rattle.vale_object_turn.specs.declared.destroy.Onset.{Onset}
 use Rattle.vale_object_turn.specs.declared.destroy.Onset.TheVariants as onset
-use Rattle.vale_object_frames.specs.Frames.{AreKnown, IsPlain, Lie, active_of, dropped_text, emptying_of, frames_in, name_in, told_of}
-use Rattle.vale_object_frames.specs.Stacks.{IsLeft, rest_of}
+use Rattle.vale_object_frames.specs.Frames.{AreKnown, IsPlain, Lie, dropped_text, emptying_of, frames_in, name_in, told_of}
+use Rattle.vale_object_frames.specs.Stacks.{IsLeft}
 use Rattle.vale_object_frames.specs.declared.frame.Active.{Active}
 use Rattle.vale_object_frames.specs.declared.frame.Frame.{Frame}
 use Rattle.vale_object_frames.specs.declared.frame.Frame.TheVariants as frame
 use Rattle.vale_object_frames.proofs.FrameLaws.{as_many_calls}
-use Rattle.vale_object_flow.specs.Flow.{Comes, GoesOn, Runs, all_frames, row_of}
+use Rattle.vale_object_flow.specs.Flow.{GoesOn, Runs, all_frames, row_of}
 use Rattle.vale_object_flow.specs.declared.control.Came.TheVariants as came
 use Rattle.vale_object_flow.specs.declared.control.Control.{Control}
 use Rattle.vale_object_flow.proofs.Calling.{padded_known, same_func, steady}

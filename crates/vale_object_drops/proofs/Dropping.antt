@@ -1,40 +1,38 @@
 -- The instruction that destroys, and the values of an object that has died.
-use Rattle.std.proofs.Common.{◌≡◌, ℕ, zero, suc, ◌+◌, ◌-◌, ◌<◌, ◌≤◌, List, [], ◌∷◌, length, map, take, drop, get_or, Option, Some, None, true, refl, sym, ap, subst, ◌∙◌, arith}
-use Rattle.std.specs.Prelude.{IfOk, Result, slice_get, slice_set}
+use Rattle.std.proofs.Common.{◌≡◌, ℕ, ◌+◌, ◌-◌, ◌<◌, ◌≤◌, List, [], ◌∷◌, length, map, take, drop, Option, Some, None, refl, sym, ap, subst, ◌∙◌, arith}
+use Rattle.std.specs.Prelude.{IfOk, Result, slice_set}
 use Rattle.std.proofs.lemmas.Result.{IfOk-weaker}
 use Rattle.std.specs.List.{AllByRecursion}
 use Rattle.std.proofs.Math.Seq.{take-set-lt}
 use Rattle.std.proofs.lemmas.List.{drop-set-add, length-drop, length-set, length-take-le, take-set-le, take-take}
 use Rattle.vale_base.specs.declared.spot.Spot.{Spot}
-use Rattle.vale_state_spec.specs.Outcome.{Done}
 use Rattle.vale_state_spec.specs.State.{State, drop_frame, trap_under}
-use Rattle.vale_state_spec.specs.World.{Value}
 use Rattle.vale_code.specs.Destroy as destruction
 use Rattle.vale_code.specs.Frames as meaning
 use Rattle.vale_code.specs.Frames.{Config, Next, Over, leave, on, under}
 use Rattle.vale_code.specs.Instructions.{behind, with_value}
 use Rattle.vale_code.specs.Kinds.{kind_text}
 use Rattle.vale_code.specs.Parts.{Parts}
-use Rattle.vale_code.specs.Registers.{put, read}
+use Rattle.vale_code.specs.Registers.{put}
 use Rattle.vale_registers.specs.Passing.{from_base}
 use Rattle.vale_registers.specs.Texts.{text_at}
-use Rattle.vale_heap.specs.HeapState.{HeapState, IsRoot}
+use Rattle.vale_heap.specs.HeapState.{HeapState}
 use Rattle.vale_heap.specs.declared.body.Cell.{Cell}
 use Rattle.vale_heap.specs.declared.body.Cell.TheVariants.{Int, Truth, Text, Own, Ref, Iso}
 use Rattle.vale_heap.specs.declared.body.Place.{Place}
 use Rattle.vale_turn.specs.View.{IsRight}
-use Rattle.vale_object_cells.specs.Cells.{cell_in, cells_from, cells_in, held}
+use Rattle.vale_object_cells.specs.Cells.{cells_from, cells_in, held}
 use Rattle.vale_object_cells.specs.Names.{AllKnown, Knows, value_in, value_of, values_in}
 use Rattle.vale_object_cells.specs.declared.register.Register.{Register}
 use Rattle.vale_object_cells.proofs.Holding.{as_many, put_register, within}
 use Rattle.vale_object_cells.proofs.Naming.{known_put, put_values, read_values}
 use Rattle.vale_object_steps.specs.Drops.{OwnedCell, first_owned_cell, owned_by}
-use Rattle.vale_object_steps.specs.Views.{Steady, View}
+use Rattle.vale_object_steps.specs.Views.{View}
 use Rattle.vale_object_steps.proofs.DropLaws.{owned_is}
 use Rattle.vale_object_steps.proofs.FieldLaws.{same_names}
 use Rattle.vale_object_passing.specs.Passing.{cells_of}
-use Rattle.vale_object_frames.specs.Frames.{AreKnown, Lie, active_of, call_of, emptying_of, frames_in}
-use Rattle.vale_object_frames.specs.Stacks.{DropsNext, DropsOne, HasDropped, HasNone, is_dropping, rest_of}
+use Rattle.vale_object_frames.specs.Frames.{AreKnown, Lie, active_of, emptying_of, frames_in}
+use Rattle.vale_object_frames.specs.Stacks.{DropsNext, HasDropped, rest_of}
 use Rattle.vale_object_frames.specs.declared.frame.Active.{Active}
 use Rattle.vale_object_frames.specs.declared.frame.Frame.{Frame}
 use Rattle.vale_object_frames.specs.declared.frame.Frame.TheVariants as frame

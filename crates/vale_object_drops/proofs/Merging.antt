@@ -1,21 +1,20 @@
 -- How the destruction of an isolate begins: its objects join the innermost region, and its root has an owner.
-use Rattle.std.proofs.Common.{◌≡◌, ℕ, ◌+◌, ◌-◌, ◌<◌, ◌≤◌, List, length, get_or, Bool, true, if◌then◌else◌, Option, Some, None, refl, sym, ap, subst, ◌∙◌, arith}
+use Rattle.std.proofs.Common.{◌≡◌, ℕ, ◌+◌, List, Bool, if◌then◌else◌, Some, None, refl, sym, ap, subst, ◌∙◌, arith}
 use Rattle.vale_base.specs.declared.spot.Spot.{Spot}
 use Rattle.vale_state_spec.specs.State.{State, join_isolate}
 use Rattle.vale_state_spec.specs.World.{Freeze, Isolate, relabelled}
 use Rattle.vale_code.specs.Frames as meaning
 use Rattle.vale_code.specs.Frames.{Next}
 use Rattle.vale_code.specs.Parts.{Parts}
-use Rattle.vale_heap.specs.HeapState.{HeapState, IsRoot, home_eq, innermost, rehomed, seat_at, with_merged}
+use Rattle.vale_heap.specs.HeapState.{HeapState, IsRoot, innermost, rehomed, seat_at, with_merged}
 use Rattle.vale_heap.specs.Standing.{Stands, StandsIsoMerged}
 use Rattle.vale_heap.specs.declared.body.Cell.TheVariants.{Iso, Own}
 use Rattle.vale_heap.specs.declared.body.Place.{Place}
-use Rattle.vale_heap.specs.declared.seat.Home.{Home}
 use Rattle.vale_heap.specs.declared.seat.Home.TheVariants.{Kept, Open}
 use Rattle.vale_heap.specs.declared.seat.Seat.{Seat}
 use Rattle.vale_heap.proofs.MoveLaws.{home_eq-refl}
 use Rattle.vale_heap.proofs.RegionLaws.{seat_moved}
-use Rattle.vale_object_cells.specs.Names.{IsKnown, Knows, name_at}
+use Rattle.vale_object_cells.specs.Names.{IsKnown, name_at}
 use Rattle.vale_object_cells.specs.declared.register.Register.{Register}
 use Rattle.vale_object_steps.specs.Views.{Steady, View, nobody}
 use Rattle.vale_object_frames.specs.declared.frame.Frame.{Frame}

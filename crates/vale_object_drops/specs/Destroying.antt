@@ -14,7 +14,7 @@ use Rattle.vale_code.specs.declared.instr.Instr.TheVariants as i
 use Rattle.vale_code.specs.declared.ty.Ty.TheVariants as t
 use Rattle.vale_heap.specs.HeapState.{HeapState, IsRoot}
 use Rattle.vale_heap.specs.declared.body.Cell.{Cell}
-use Rattle.vale_heap.specs.declared.body.Cell.TheVariants.{Int, Truth, Text, Own, Ref, Iso}
+use Rattle.vale_heap.specs.declared.body.Cell.TheVariants.{Own, Iso}
 use Rattle.vale_heap.specs.declared.body.Place.{Place}
 use Rattle.vale_turn.specs.View.{IsRight}
 use Rattle.vale_object_cells.specs.Cells.{cell_in, cells_in, held}

@@ -91,6 +91,7 @@ pub(crate) fn destroy_owner(
     requires no_root { IsRoot heap.old place → ⊥ }
     requires right { CanDestroy code.now depth heap.old control.old left.old (Cell.Own place) at }
     ensures step { IfOk result (λ told. Destroys code.now depth heap.old control.old left.old (Cell.Own place) at told heap.new control.new left.new) }
+    ensures end { OnOk result (control.new.end ≤ length control.new.registers.items) }
     ensures ticks { left.new ≤ left.old }
 {
     match begin(code, heap, place, depth, left) {
@@ -123,6 +124,7 @@ pub(crate) fn destroy_isolate(
     requires root { IsRoot heap.old place }
     requires right { CanDestroy code.now depth heap.old control.old left.old (Cell.Iso place) at }
     ensures step { IfOk result (λ told. Destroys code.now depth heap.old control.old left.old (Cell.Iso place) at told heap.new control.new left.new) }
+    ensures end { OnOk result (control.new.end ≤ length control.new.registers.items) }
     ensures ticks { left.new ≤ left.old }
 {
     heap.merge(place);

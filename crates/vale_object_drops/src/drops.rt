@@ -40,7 +40,8 @@ fn lift_from(registers: &mut Vec<Register>, base: usize, end: usize, from: u32) 
     requires base { base ≤ end }
     requires end { end ≤ length registers.old.items }
     requires owned { HoldsOwned (drop base (take end registers.old.items)) from }
-    ensures { IsLifted base end from registers.old.items result registers.new.items }
+    ensures lifted { IsLifted base end from registers.old.items result registers.new.items }
+    ensures size { length registers.new.items ≡ length registers.old.items }
 {
     lift(registers, base, end, from)
 }
@@ -64,6 +65,7 @@ pub fn destroy(
     requires roots { FitsRegister heap.old control.old from }
     requires right { CanDrop code.now depth heap.old control.old left.old from at }
     ensures step { IfOk result (λ told. Drops code.now depth heap.old control.old left.old from at told heap.new control.new left.new) }
+    ensures end { OnOk result (control.new.end ≤ length control.new.registers.items) }
     ensures ticks { left.new ≤ left.old }
 {
     let cell = lift_from(
@@ -106,6 +108,7 @@ pub fn drop_next(
     requires roots { FitsNext heap.old control.old.below }
     requires right { CanDropNext code.now depth heap.old control.old left.old }
     ensures step { IfOk result (λ told. DropsNextOne code.now depth heap.old control.old left.old told heap.new control.new left.new) }
+    ensures end { OnOk result (control.new.end ≤ length control.new.registers.items) }
     ensures ticks { left.new ≤ left.old }
 {
     match control.below.next_owned() {

@@ -1,3 +1,4 @@
+use Rattle.std.proofs.Common.{arith}
 use Rattle.vale_object_drops.proofs.Beginning.{can_end, destroys_by_death, destroys_by_entering, destroys_cut, destroys_trap, destructor_room, destructor_there}
 use Rattle.vale_object_drops.proofs.begin.destroy_owner.Goals as goal
 
@@ -27,3 +28,6 @@ returns-in-Trap-clause-step c =
 pub returns-in-Cut-clause-step : goal.returns-in-Cut-clause-step
 returns-in-Cut-clause-step c =
     destroys_cut c.args.code.now c.args.depth c.args.heap.now c.args.control.now c.args.left.now c.args.place c.args.at c.begin.new.heap c.args.control.now c.begin.new.left c.in-Cut.ensures.step
+
+pub returns-in-Ok-clause-end : goal.returns-in-Ok-clause-end
+returns-in-Ok-clause-end c = let e = c.in-Ok.ensures in omega (arith, e.end, e.many)

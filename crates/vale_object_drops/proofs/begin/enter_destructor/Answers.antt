@@ -1,4 +1,4 @@
-use Rattle.std.proofs.Common.{◌≡◌, ◌+◌, ◌-◌, ◌<◌, ◌∷◌, replicate, Some, None, refl, ap, ◌∙◌, arith}
+use Rattle.std.proofs.Common.{◌≡◌, ◌+◌, ◌-◌, ◌∷◌, replicate, Some, None, refl, ap, ◌∙◌, arith}
 use Rattle.vale_heap.specs.declared.body.Cell.TheVariants.{Own}
 use Rattle.vale_object_flow.proofs.Calling.{same_front}
 use Rattle.vale_object_drops.proofs.begin.enter_destructor.Goals as goal

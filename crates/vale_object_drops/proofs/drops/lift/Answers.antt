@@ -1,4 +1,4 @@
-use Rattle.std.proofs.Common.{◌+◌, ◌<◌, length, refl, arith}
+use Rattle.std.proofs.Common.{refl, arith}
 use Rattle.vale_object_drops.proofs.Lifting.{lifted_isolate, lifted_owner, owns, there}
 use Rattle.vale_object_drops.proofs.drops.lift.Goals as goal
 
