@@ -161,7 +161,7 @@ module _ (code : Parts) (depth : ℕ) (heap : HeapState) (old : Control) (left :
           let row_is : row ≡ row_of new = ap (λ n. take n new.registers.items) (sym e.end) in
           subst (λ fs. GoesOn code v next new_heap fs new.texts (row_of new) new_left) frames_are
           (subst (λ t. GoesOn code v next new_heap (frame.Running callee ∷ old.below) t (row_of new) new_left) (sym e.texts)
-              (subst (λ r. GoesOn code v next new_heap (frame.Running callee ∷ old.below) old.texts r new_left) row_is runs_on))
+          (subst (λ r. GoesOn code v next new_heap (frame.Running callee ∷ old.below) old.texts r new_left) row_is runs_on))
 
     pub destroys_by_entering : HasDestructors code → Begins code p depth heap left (onset.Enters f) new_heap new_left → Destroys code depth heap old left (Own p) at came.Running new_heap new new_left
     destroys_by_entering has b v runs known deep right =

@@ -188,7 +188,7 @@ module _ (code : Parts) (depth : ℕ) (heap : HeapState) (old : Control) (left :
         let is = lifted_is v runs last in
         subst (λ next. Comes code v (frames_of code v old) told next after new new_left) (sym is)
         (told_alike code v (stack_of code v mid) (frames_of code v old) told (destroy_next code v mid cell at) after new new_left (same_calls v runs)
-            (d v (runs_lifted v runs) (lifted_known v runs) (as_deep v runs deep) (subst IsRight is right)))
+        (d v (runs_lifted v runs) (lifted_known v runs) (as_deep v runs deep) (subst IsRight is right)))
 
     pub can_destroy_as : (same : Cell) → cell ≡ same → CanDrop code depth heap old left a at → CanDestroy code depth heap mid left same at
     can_destroy_as same e can = subst (λ c. CanDestroy code depth heap mid left c at) e (can_destroy_lifted can)
@@ -300,7 +300,7 @@ module _ (code : Parts) (depth : ℕ) (heap : HeapState) (old : Control) (left :
     drops_one_more told after new new_left g v runs deep right =
         subst (λ next. Comes code v (stack_of code v old) told next after new new_left) (sym (next_is v))
         (told_alike code v (stack_of code v mid) (stack_of code v old) told (destroy_next code v mid cell at) after new new_left (calls_alike v)
-            (g v (runs_next v runs) (knows v runs).0 (still_deep v.state.frozen deep) (subst IsRight (next_is v) right)))
+        (g v (runs_next v runs) (knows v runs).0 (still_deep v.state.frozen deep) (subst IsRight (next_is v) right)))
 
     pub drops_next_as : {E : Type 0} (same : Cell) → cell ≡ same → (r : Result Came E) (after : HeapState) (new : Control) (new_left : ℕ) → IfOk r (λ told. Destroys code depth heap mid left same at told after new new_left)
         → IfOk r (λ told. DropsNextOne code depth heap old left told after new new_left)

@@ -68,12 +68,7 @@ pub fn destroy(
     ensures end { OnOk result (control.new.end ≤ length control.new.registers.items) }
     ensures ticks { left.new ≤ left.old }
 {
-    let cell = lift_from(
-        &mut control.registers,
-        control.top.base,
-        control.end,
-        from,
-    );
+    let cell = lift_from(&mut control.registers, control.top.base, control.end, from);
     let caller = Active {
         function: control.top.function,
         at: control.top.at,

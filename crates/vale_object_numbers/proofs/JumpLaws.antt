@@ -102,12 +102,12 @@ module _ (body : List Instr) (registers : List Register) (place left : ℕ) (ins
 
   pub goes_through : (b : Bool) → b ≡ true → ((t : ℕ → List ℕ) → held (cells_in t registers) a ≡ Some (Truth b)) → ObeysOf body instr registers place left stop.Going (place + 1) left
   goes_through b e holds = subst (λ j. ObeysOf body j registers place left stop.Going (place + 1) left) (sym is)
-    (λ t heap s v in_body runs right. placed heap (cells_in t registers) place left s v runs (place + 1) (next_of s v place (cells_in t registers) (i.Unless a target))
+      (λ t heap s v in_body runs right. placed heap (cells_in t registers) place left s v runs (place + 1) (next_of s v place (cells_in t registers) (i.Unless a target))
       (condition_is b holds t s v ∙ ap (jump_unless s.code (active s v place (cells_in t registers)) target s.below v.state) e))
 
   pub goes_by_jump : (b : Bool) (told : Stop) (new_place new_left : ℕ) → b ≡ false → ((t : ℕ → List ℕ) → held (cells_in t registers) a ≡ Some (Truth b)) → Leaps body registers target place left told new_place new_left → ObeysOf body instr registers place left told new_place new_left
   goes_by_jump b told new_place new_left e holds leaps = subst (λ j. ObeysOf body j registers place left told new_place new_left) (sym is)
-    (λ t heap s v in_body runs right. subst (λ next. Stepped s v place (cells_in t registers) told next heap (cells_in t registers) new_place new_left)
+      (λ t heap s v in_body runs right. subst (λ next. Stepped s v place (cells_in t registers) told next heap (cells_in t registers) new_place new_left)
       (sym (condition_is b holds t s v ∙ ap (jump_unless s.code (active s v place (cells_in t registers)) target s.below v.state) e)) (leaps t heap s v in_body runs))
 
 -- ---- the instructions
@@ -118,8 +118,8 @@ module _ (body : List Instr) (registers : List Register) (place left : ℕ) (ins
 
   pub ticks_on : instr ≡ i.Tick → 0 < left → ObeysOf body instr registers place left stop.Going (place + 1) (left - 1)
   ticks_on is some = subst (λ j. ObeysOf body j registers place left stop.Going (place + 1) (left - 1)) (sym is)
-    (λ t heap s v in_body runs right. placed_by_tick heap (cells_in t registers) place left s v runs (place + 1) (next_of s v place (cells_in t registers) i.Tick) some refl)
+      (λ t heap s v in_body runs right. placed_by_tick heap (cells_in t registers) place left s v runs (place + 1) (next_of s v place (cells_in t registers) i.Tick) some refl)
 
   pub ticks_out : (new_place new_left : ℕ) → instr ≡ i.Tick → left ≡ 0 → ObeysOf body instr registers place left stop.Cut new_place new_left
   ticks_out new_place new_left is none = subst (λ j. ObeysOf body j registers place left stop.Cut new_place new_left) (sym is)
-    (λ t heap s v in_body runs right. cut_by_tick heap (cells_in t registers) place left s v runs (λ x. onward (active s v place (cells_in t registers)) (active s v place (cells_in t registers)).registers s.below x) (next_of s v place (cells_in t registers) i.Tick) none refl)
+      (λ t heap s v in_body runs right. cut_by_tick heap (cells_in t registers) place left s v runs (λ x. onward (active s v place (cells_in t registers)) (active s v place (cells_in t registers)).registers s.below x) (next_of s v place (cells_in t registers) i.Tick) none refl)

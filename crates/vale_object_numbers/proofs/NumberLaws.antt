@@ -157,7 +157,7 @@ module _ (old : List Register) (place : ℕ) (new : List Register) (to left : �
       subst (λ j. ObeysAll j old place left stop.Going new (place + 1) left) (sym e)
       (puts (Truth (not b)) (i.Not to a) (λ p x. let y : ⊥ = cc in y) is
       (λ s v t r. ap (λ o. with_value o v.state (λ w. certain (active s v place (cells_in t old)) (Some to) (values_in v.names (cells_in t old)) s.below v.state (opposite w v.state)))
-          (read_values v.names (cells_in t old) a ∙ ap (value_in v.names) (holds t))))
+      (read_values v.names (cells_in t old) a ∙ ap (value_in v.names) (holds t))))
 
 -- ---- a truth
 
