@@ -1,8 +1,10 @@
-use Rattle.std.proofs.Common.{Some, ap, arith, refl, rules, to_z, of_z, ◌∙◌}
+use Rattle.std.proofs.Common.{Some, ap, length, refl, rules, subst, to_z, of_z, ◌∙◌}
 use Rattle.std.proofs.lemmas.Int.{to_z-of_z}
 use mir.Syntax.{w64}
 use Rattle.vale_text.specs.Operations as o
 use Rattle.vale_code.specs.declared.instr.Instr.TheVariants as i
+use Rattle.vale_registers.specs.Cells.{HasRegister}
+use Rattle.vale_turn.specs.Served.{register_of}
 use Rattle.vale_object_numbers.proofs.NumberLaws.{holds_truth, operands, operated, puts_choice, puts_int, puts_opposite}
 use Rattle.vale_object_numbers.proofs.numbers.obey_number.Goals as goal
 
@@ -72,13 +74,13 @@ returns-in-Rem-clause-step c =
     operated c.args.instr.now (i.Rem c.in-Rem.to c.in-Rem.left c.in-Rem.right c.in-Rem.at) o.rem c.in-Rem.to c.in-Rem.left c.in-Rem.right c.in-Rem.at c.in-Rem.is (λ s v place cells. refl) c.args.registers.now c.args.place.now c.int_at-numerator.result c.int_at-modulus.result c.rem-remainder.result c.land-in-Rem.result c.land-in-Rem.new.registers c.land-in-Rem.new.place c.int_at-numerator.ensures c.int_at-modulus.ensures e c.land-in-Rem.ensures.step
 
 pub returns-in-Int-clause-step : goal.returns-in-Int-clause-step
-returns-in-Int-clause-step c = λ left. puts_int c.args.registers.now c.args.place.now c.set_int.new.registers c.in-Int.to left (omega (arith, c.requires.room)) c.in-Int.number (to_z w64 (of_z w64 c.in-Int.number)) c.args.instr.now c.in-Int.is (to_z-of_z w64 c.in-Int.number (search rules)) c.set_int.ensures
+returns-in-Int-clause-step c = λ left. puts_int c.args.registers.now c.args.place.now c.set_int.new.registers c.in-Int.to left (subst (λ j. HasRegister (register_of j) (length c.args.registers.now)) c.in-Int.is c.requires.room) c.in-Int.number (to_z w64 (of_z w64 c.in-Int.number)) c.args.instr.now c.in-Int.is (to_z-of_z w64 c.in-Int.number (search rules)) c.set_int.ensures
 
 pub returns-in-Truth-clause-step : goal.returns-in-Truth-clause-step
-returns-in-Truth-clause-step c = λ left. puts_choice c.args.registers.now c.args.place.now c.set_truth.new.registers c.in-Truth.to left (omega (arith, c.requires.room)) c.in-Truth.choice _ c.args.instr.now refl c.in-Truth.is c.set_truth.ensures
+returns-in-Truth-clause-step c = λ left. puts_choice c.args.registers.now c.args.place.now c.set_truth.new.registers c.in-Truth.to left (subst (λ j. HasRegister (register_of j) (length c.args.registers.now)) c.in-Truth.is c.requires.room) c.in-Truth.choice _ c.args.instr.now refl c.in-Truth.is c.set_truth.ensures
 
 pub truth_at-truth-requires : goal.truth_at-truth-requires
 truth_at-truth-requires c = holds_truth c.args.registers.now c.args.place.now c.args.instr.now c.in-Not.to c.in-Not.from c.in-Not.is c.requires.right
 
 pub returns-in-Not-clause-step : goal.returns-in-Not-clause-step
-returns-in-Not-clause-step c = λ left. puts_opposite c.args.registers.now c.args.place.now c.set_truth-in-Not.new.registers c.in-Not.to left (omega (arith, c.requires.room)) c.in-Not.from c.truth_at-truth.result c.args.instr.now c.in-Not.is c.truth_at-truth.ensures c.set_truth-in-Not.ensures
+returns-in-Not-clause-step c = λ left. puts_opposite c.args.registers.now c.args.place.now c.set_truth-in-Not.new.registers c.in-Not.to left (subst (λ j. HasRegister (register_of j) (length c.args.registers.now)) c.in-Not.is c.requires.room) c.in-Not.from c.truth_at-truth.result c.args.instr.now c.in-Not.is c.truth_at-truth.ensures c.set_truth-in-Not.ensures
