@@ -1,15 +1,11 @@
 -- Jumps and ticks.
-use Rattle.std.proofs.Common.{◌≡◌, ℕ, ◌+◌, ◌-◌, ◌<◌, ◌≤◌, List, Bool, true, false, Option, Some, None, refl, sym, ap, subst, ◌∙◌, arith}
+use Rattle.std.proofs.Common.{◌≡◌, ℕ, ◌+◌, ◌-◌, ◌<◌, List, Bool, true, false, Option, Some, None, refl, sym, ap, subst, ◌∙◌, arith}
 use Rattle.std.specs.Prelude.{◌||◌, nat_lt, slice_get}
 use Rattle.vale_state_spec.specs.Outcome.{Cut}
 use Rattle.vale_state_spec.specs.State.{State}
-use Rattle.vale_state_spec.specs.World.{Value}
-use Rattle.vale_state_spec.specs.World.{Truth as truth}
-use Rattle.vale_code.specs.Frames.{Active, Frame, Next, On, Over, after_tick}
+use Rattle.vale_code.specs.Frames.{Next, On, Over, after_tick}
 use Rattle.vale_code.specs.Instructions.{at_place, instruction_in, is_tick, jump, jump_by, jump_unless, onward, with_truth}
 use Rattle.vale_code.specs.Instructions as meaning
-use Rattle.vale_code.specs.Parts.{Parts}
-use Rattle.vale_code.specs.Registers.{read}
 use Rattle.vale_code.specs.declared.instr.Instr.{Instr}
 use Rattle.vale_code.specs.declared.instr.Instr.TheVariants as i
 use Rattle.vale_heap.specs.HeapState.{HeapState}
@@ -20,13 +16,13 @@ use Rattle.vale_turn.specs.View.{IsBody, IsRight}
 use Rattle.vale_turn.specs.declared.stop.Stop.{Stop}
 use Rattle.vale_turn.specs.declared.stop.Stop.TheVariants as stop
 use Rattle.vale_object_cells.specs.Cells.{HoldsTruth, cells_in, held}
-use Rattle.vale_object_cells.specs.Names.{value_in, values_in}
+use Rattle.vale_object_cells.specs.Names.{value_in}
 use Rattle.vale_object_cells.specs.declared.register.Register.{Register}
 use Rattle.vale_object_cells.proofs.Naming.{read_values}
 use Rattle.vale_object_steps.specs.Views.{View}
 use Rattle.vale_object_steps.proofs.FieldLaws.{same_names}
 use Rattle.vale_object_turn.specs.Destroying.{after_tick_of}
-use Rattle.vale_object_turn.specs.Steps.{GoesOn, HasRule, Runs, Scene, Stepped, active, config, next_of}
+use Rattle.vale_object_turn.specs.Steps.{GoesOn, Runs, Scene, Stepped, active, config, next_of}
 use Rattle.vale_object_turn.proofs.BirthLaws.{not_ticked, still_agrees, ticked_on}
 use Rattle.vale_object_numbers.specs.Numbers.{HasRuleOf, Leaps, ObeysOf}
 

@@ -1,12 +1,12 @@
 -- Numbers and truths that go to registers, and operands that registers hold.
-use Rattle.std.proofs.Common.{◌≡◌, ℕ, zero, suc, ◌+◌, ◌<◌, ℤ, List, length, Bool, true, false, Option, Some, None, refl, sym, ap, subst, ◌∙◌}
+use Rattle.std.proofs.Common.{◌≡◌, ℕ, zero, suc, ◌+◌, ◌<◌, ℤ, List, length, Bool, Option, Some, None, refl, sym, ap, subst, ◌∙◌}
 use Rattle.std.specs.Prelude.{◌==◌, Err, Ok, Result, not, slice_set}
 use Rattle.vale_base.specs.declared.spot.Spot.{Spot}
 use Rattle.vale_base.specs.declared.trap.TrapKind.{TrapKind}
-use Rattle.vale_state_spec.specs.State.{Answer, State}
+use Rattle.vale_state_spec.specs.State.{State}
 use Rattle.vale_state_spec.specs.World.{Value}
 use Rattle.vale_state_spec.specs.World.{Int as number, Truth as truth}
-use Rattle.vale_code.specs.Frames.{Active, Frame, Next, On}
+use Rattle.vale_code.specs.Frames.{Active, Frame, Next}
 use Rattle.vale_code.specs.Instructions.{answered, certain, onward, with_value}
 use Rattle.vale_code.specs.Registers.{Registers, put, read}
 use Rattle.vale_code.specs.declared.instr.Instr.{Instr}
@@ -26,7 +26,7 @@ use Rattle.vale_object_cells.proofs.Holding.{as_many}
 use Rattle.vale_object_cells.proofs.Naming.{known_put, put_values, read_values}
 use Rattle.vale_object_steps.specs.Views.{View}
 use Rattle.vale_object_steps.proofs.FieldLaws.{same_names}
-use Rattle.vale_object_turn.specs.Steps.{GoesOn, HasRule, Obeys, Runs, Scene, Stepped, active, config, next_of}
+use Rattle.vale_object_turn.specs.Steps.{GoesOn, Runs, Scene, Stepped, active, next_of}
 use Rattle.vale_object_numbers.specs.Numbers.{HasRuleIn, Lands, ObeysAll}
 
 -- ---- what goes to a register

@@ -1,6 +1,6 @@
 -- Which instructions on numbers and truths go on within their function, and which jump or spend a tick, over registers that may
 -- lead to objects.
-use Rattle.std.specs.Prelude.{◌≡◌, ℕ, ℤ, List, Option, Some, Result, Bool, true, false}
+use Rattle.std.specs.Prelude.{ℕ, ℤ, List, Some, Result, Bool, true, false}
 use Rattle.vale_base.specs.declared.spot.Spot.{Spot}
 use Rattle.vale_base.specs.declared.trap.TrapKind.{TrapKind}
 use Rattle.vale_code.specs.Instructions.{answered, jump}
@@ -8,7 +8,6 @@ use Rattle.vale_code.specs.declared.instr.Instr.{Instr}
 use Rattle.vale_code.specs.declared.instr.Instr.TheVariants as i
 use Rattle.vale_text.specs.Steps.{gives_int}
 use Rattle.vale_heap.specs.HeapState.{HeapState}
-use Rattle.vale_heap.specs.declared.body.Cell.{Cell}
 use Rattle.vale_turn.specs.View.{IsBody, IsRight}
 use Rattle.vale_turn.specs.declared.stop.Stop.{Stop}
 use Rattle.vale_object_cells.specs.Cells.{cells_in}

@@ -1,4 +1,4 @@
-use Rattle.std.proofs.Common.{Some, ap, length, refl, rules, subst, to_z, of_z, ◌∙◌}
+use Rattle.std.proofs.Common.{ap, length, refl, rules, subst, to_z, of_z, ◌∙◌}
 use Rattle.std.proofs.lemmas.Int.{to_z-of_z}
 use mir.Syntax.{w64}
 use Rattle.vale_text.specs.Operations as o
