@@ -1,21 +1,18 @@
 -- What is copied, by names.
-use Rattle.std.proofs.Common.{◌≡◌, ℕ, ◌+◌, ◌<◌, List, [], length, Option, Some, None, refl, sym, ap, subst, ◌∙◌}
+use Rattle.std.proofs.Common.{◌≡◌, ℕ, ◌+◌, ◌<◌, List, length, Option, Some, None, refl, sym, ap, subst, ◌∙◌}
 use Rattle.std.specs.Prelude.{slice_set}
 use Rattle.vale_state_spec.specs.State.{State}
-use Rattle.vale_state_spec.specs.World.{Value}
-use Rattle.vale_code.specs.Frames.{Active, Frame, Next}
+use Rattle.vale_code.specs.Frames.{Active, Frame}
 use Rattle.vale_code.specs.Instructions.{copied, gets, onward, with_value}
-use Rattle.vale_code.specs.Registers.{Registers, put, read}
+use Rattle.vale_code.specs.Registers.{Registers, put}
 use Rattle.vale_code.specs.declared.instr.Instr.TheVariants as i
-use Rattle.vale_registers.specs.Passing.{from_base}
-use Rattle.vale_registers.specs.Texts.{text_at}
 use Rattle.vale_heap.specs.HeapState.{HeapState}
 use Rattle.vale_heap.specs.declared.body.Cell.{Cell}
 use Rattle.vale_heap.specs.declared.body.Cell.TheVariants.{Int, Truth, Text, Own, Ref, Iso}
 use Rattle.vale_heap.specs.declared.body.Place.{Place}
 use Rattle.vale_turn.specs.View.{IsRight}
 use Rattle.vale_turn.specs.declared.stop.Stop.TheVariants as stop
-use Rattle.vale_object_cells.specs.Cells.{cell_of, cells_from, cells_in, held}
+use Rattle.vale_object_cells.specs.Cells.{cell_of, cells_in, held}
 use Rattle.vale_object_cells.specs.Cells.{IsShaped}
 use Rattle.vale_object_cells.specs.Names.{AllKnown, value_in, value_of, values_in}
 use Rattle.vale_object_cells.specs.declared.register.Register.{Register}
@@ -23,9 +20,8 @@ use Rattle.vale_object_cells.specs.declared.register.Shape.{Shape}
 use Rattle.vale_object_cells.specs.declared.register.Shape.TheVariants as shape
 use Rattle.vale_object_cells.proofs.Holding.{within}
 use Rattle.vale_object_cells.proofs.Naming.{known_put, put_values, read_values}
-use Rattle.vale_object_steps.specs.Views.{View}
 use Rattle.vale_object_steps.proofs.FieldLaws.{same_names}
-use Rattle.vale_object_turn.specs.Steps.{GoesOn, HasRule, Obeys, Runs, active, next_of}
+use Rattle.vale_object_turn.specs.Steps.{HasRule, Obeys, active}
 use Rattle.vale_object_copies.specs.Copies.{HoldsCopied, IsCopied}
 
 copied_there : (names : List Place) (o : Option Cell) (f : Active) (to : ℕ) (regs : Registers) (below : List Frame) (s : State) → IsRight (with_value (value_in names o) s (λ v. gets f to (copied v) regs below s)) → (c : Cell) × (o ≡ Some c) × IsCopied c

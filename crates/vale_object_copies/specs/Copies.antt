@@ -1,7 +1,7 @@
 -- What is copied from register to register: numbers, truths, texts and references.
 use Rattle.std.specs.Prelude.{◌≡◌, ℕ, List, Some}
 use Rattle.vale_heap.specs.declared.body.Cell.{Cell}
-use Rattle.vale_heap.specs.declared.body.Cell.TheVariants.{Int, Truth, Text, Own, Ref, Iso}
+use Rattle.vale_heap.specs.declared.body.Cell.TheVariants.{Own, Iso}
 use Rattle.vale_object_cells.specs.Cells.{cells_in, held}
 use Rattle.vale_object_cells.specs.declared.register.Register.{Register}
 

@@ -1,4 +1,4 @@
-use Rattle.std.proofs.Common.{◌+◌, Some, ap, rules, sym, ◌∙◌}
+use Rattle.std.proofs.Common.{◌+◌, ◌<◌, Some, ap, arith, length, rules, sym, ◌∙◌}
 use Rattle.std.specs.Prelude.{slice_set}
 use Rattle.std.proofs.lemmas.Int.{to_z-of_z}
 use mir.Syntax.{w64}
@@ -48,3 +48,8 @@ returns-in-Ok-clause-cells c =
     let t = from_base c.args.base (text_at c.args.texts.now) in
     text_to c.args.base c.args.to (text_at c.args.texts.now (c.args.base + c.args.from)) c.args.texts.now c.share.new.self c.args.registers.now c.set_text.new.registers c.in-Ok.ensures c.set_text.ensures
     ∙ ap (slice_set (cells_from c.args.base c.args.texts.now c.args.registers.now) c.args.to) (sym (text_shaped c.args.registers.now c.args.from c.shape_at.result c.shape_at.ensures c.in-Text.is t))
+
+pub overflow_add-base : goal.overflow_add-base
+overflow_add-base c =
+    let lt : c.args.from < length c.args.registers.now = copied_within c.args.registers.now c.args.from c.requires.copied in
+    omega (arith, lt, c.requires.few)
