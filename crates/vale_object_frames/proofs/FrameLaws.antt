@@ -69,7 +69,7 @@ take_fewer (suc n) i [] lt = lt
 take_fewer (suc n) zero (x ∷ xs) lt = omega arith
 take_fewer (suc n) (suc i) (x ∷ xs) lt = let h = take_fewer n i xs (omega (arith, lt)) in omega (arith, h)
 
-own_same : (base : ℕ) (old new : List (List ℕ)) (row : List Register) → ((i : ℕ) → i < length row → text_at new i ≡ text_at old i) → cells_from base new (drop base row) ≡ cells_from base old (drop base row)
+pub own_same : (base : ℕ) (old new : List (List ℕ)) (row : List Register) → ((i : ℕ) → i < length row → text_at new i ≡ text_at old i) → cells_from base new (drop base row) ≡ cells_from base old (drop base row)
 own_same base old new row same =
     same_cells (from_base base (text_at old)) (from_base base (text_at new)) (drop base row) (λ i lt. same (base + i) (let e = length-drop base row in omega (arith, lt, e)))
 

@@ -99,9 +99,11 @@ module _ (code : Parts) (p : Place) (depth : ℕ) (heap : HeapState) (left : ℕ
       let now : 0 < v.state.left = subst (λ k. 0 < k) (sym runs.ticks_left) some in
       let go = λ (t : State). on (destructor_frame code f x.0 o at (name_at v.names p)) frames t in (
         x.0,
+        d,
         x.1,
         x.2 ∙ deep_enough frames at v.state depth (after_tick v.state go) e few ∙ ticked_on v.state go now,
         record { agrees = still_agrees v heap cells runs.agrees; ticks_left = ap (λ k. k - 1) runs.ticks_left ∙ sym h },
+        now,
       )
 
   pub begin_dies : (kind : Kind) (body : Body) (new : HeapState) (new_left : ℕ) → depth + 1 ≤ depth_limit → 0 < left → IsKindAt heap p kind → destructor_of code kind ≡ None → Ends heap p new body → new_left ≡ left - 1
@@ -119,4 +121,5 @@ module _ (code : Parts) (p : Place) (depth : ℕ) (heap : HeapState) (left : ℕ
             ∙ ap (λ vs. on (Dropping (record { call = drop_frame (kind_text code o.kind) at; rest = vs })) frames (dies n (after_tick_of v).state)) (sym ended.values),
         ended,
         ap (λ k. k - 1) runs.ticks_left ∙ sym h,
+        now,
       )

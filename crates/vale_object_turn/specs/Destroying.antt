@@ -1,5 +1,5 @@
 -- How the destruction of an object begins: its destructor is entered, or it dies and what it held is to be dropped.
-use Rattle.std.specs.Prelude.{◌≡◌, ℕ, ◌+◌, ◌-◌, List, [], ◌∷◌, length, map, Option, Some, None, slice_get}
+use Rattle.std.specs.Prelude.{◌≡◌, ℕ, ◌+◌, ◌-◌, ◌<◌, List, [], ◌∷◌, length, map, Option, Some, None, slice_get}
 use Rattle.vale_base.specs.declared.spot.Spot.{Spot}
 use Rattle.vale_state_spec.specs.Outcome.{Cut}
 use Rattle.vale_state_spec.specs.State.{dies, drop_frame}
@@ -31,10 +31,10 @@ destructor_frame code f func o at n = Running (record { call = drop_frame (kind_
 
 abbrev pub Begun : Parts → View → Object → Place → Spot → List Frame → List (Option Cell) → Onset → Next → HeapState → ℕ → Type 0
 Begun code v o p at frames cells (onset.Enters f) next heap left =
-    (func : Func) × (slice_get code.funcs f ≡ Some func) × (next ≡ on (destructor_frame code f func o at (name_at v.names p)) frames (after_tick_of v).state) × Runs (after_tick_of v) heap cells left
+    (func : Func) × (destructor_of code o.kind ≡ Some f) × (slice_get code.funcs f ≡ Some func) × (next ≡ on (destructor_frame code f func o at (name_at v.names p)) frames (after_tick_of v).state) × Runs (after_tick_of v) heap cells left × (0 < v.state.left)
 Begun code v o p at frames cells (onset.Dies body) next heap left =
     (next ≡ on (Dropping (record { call = drop_frame (kind_text code o.kind) at; rest = map (value_of v.names) body.cells })) frames (dies (name_at v.names p) (after_tick_of v).state))
-    × HasEnded (after_tick_of v) o p cells heap body × ((after_tick_of v).state.left ≡ left)
+    × HasEnded (after_tick_of v) o p cells heap body × ((after_tick_of v).state.left ≡ left) × (0 < v.state.left)
 Begun code v o p at frames cells (onset.Trap kind) next heap left = next ≡ trap kind at frames v.state
 Begun code v o p at frames cells onset.Cut next heap left = next ≡ Over Cut None v.state
 

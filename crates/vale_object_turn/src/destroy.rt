@@ -1,5 +1,5 @@
 // How the destruction of an object begins.
-ghost use Rattle.std.specs.Prelude.{◌≡◌, ◌<◌, ◌^◌, ◌+◌};
+ghost use Rattle.std.specs.Prelude.{◌≡◌, ◌<◌, ◌≤◌, ◌^◌, ◌+◌};
 ghost use Rattle.vale_code.specs.Kinds.{destructor_of};
 ghost use Rattle.vale_heap.specs.HeapState.{IsRoot};
 ghost use Rattle.vale_object_steps.specs.Drops.{CanEnd};
@@ -40,7 +40,8 @@ pub fn begin(code: &Code, heap: &mut Heap, place: Place, depth: usize, left: &mu
     requires lives { CanEnd heap.old place }
     requires no_root { IsRoot heap.old place → ⊥ }
     requires few { depth + 1 < 2 ^ 64 }
-    ensures { Begins code.now place depth heap.old left.old result heap.new left.new }
+    ensures step { Begins code.now place depth heap.old left.old result heap.new left.new }
+    ensures ticks { left.new ≤ left.old }
 {
     let kind = kind_at(heap, place);
     let destructor = destructor_of(code, kind);
