@@ -86,7 +86,7 @@ module _ (k : Site) where
       there : is_gone h g ≡ false
       there =
           ap (is_gone h) (sym last)
-          ∙ args_keep h es (h + 1) (waiting h (gives_of (type x)) ∷ scope_at s) (without h c) (omega arith) (record { each = λ n z e' q. let lt = find_below k h s.slots n z f e' in omega (arith, lt, q) })
+          ∙ args_keep h false 0 es (h + 1) (waiting h (gives_of (type x)) ∷ scope_at s) (without h c) (omega arith) (record { each = λ n z e' q. let lt = find_below k h s.slots n z f e' in absurd (omega (arith, lt, q)) }) refl
           ∙ not_gone h c
 
       first : at k (with_gone g (with_args es (h + 1) (with_waiting h (type x) s))) h ≡ held k (type x) s.depth

@@ -9,7 +9,7 @@ use Rattle.vale_syntax.specs.declared.tree.NameAt.{NameAt}
 use Rattle.vale_rules_spec.specs.Judged.{Judged, fine, faulty}
 use Rattle.vale_rules_spec.specs.Typed.{Typed}
 use Rattle.vale_rules_spec.specs.Typing.{typed}
-use Rattle.vale_syntax.specs.Tree.{TypeExpr, int_type, named_type, ref_type, Expr, set, chain, unary, steps, number, truth, name, call, array, form, Exprs, no_exprs, more_exprs, link, no_links, more_links, Step, field, index, no_steps, more_steps, branch, pure, otherwise, no_else, Block, block, Stmt, declare, destructure, return_value, return_nothing, while, foreach, form_stmt, express, Stmts, no_stmts, last, more_stmts, Param, param, head, function, field_decl, Item, struct_item, function_item, tree}
+use Rattle.vale_syntax.specs.Tree.{TypeExpr, int_type, named_type, array_type, ref_type, Expr, set, chain, unary, steps, number, truth, name, call, array, form, Exprs, no_exprs, more_exprs, link, no_links, more_links, Step, field, index, no_steps, more_steps, branch, pure, otherwise, no_else, Block, block, Stmt, declare, destructure, return_value, return_nothing, while, foreach, form_stmt, express, Stmts, no_stmts, last, more_stmts, Param, param, head, function, field_decl, Item, struct_item, function_item, tree}
 use Rattle.vale_cert.specs.Certificate.{first_fault}
 use Rattle.vale_cert.specs.declared.facts.FuncFacts.{FuncFacts}
 use Rattle.vale_cert.specs.declared.fault.Fault.{Fault}
@@ -71,10 +71,16 @@ i = 14
 abbrev Q : ℕ
 Q = 15
 
+abbrev S : ℕ
+S = 16
+
+abbrev c : ℕ
+c = 17
+
 abbrev names : List (List ℕ)
 names =
     codes "P" ∷ codes "a" ∷ codes "b" ∷ codes "f" ∷ codes "p" ∷ codes "main" ∷ codes "x" ∷ codes "y" ∷ codes "r" ∷ codes "println" ∷ codes "drop" ∷ codes "len"
-    ∷ codes "push" ∷ codes "pop" ∷ codes "i" ∷ codes "Q" ∷ []
+    ∷ codes "push" ∷ codes "pop" ∷ codes "i" ∷ codes "Q" ∷ codes "S" ∷ codes "c" ∷ []
 
 abbrev v : ℕ → Expr
 v k = name (n k)
@@ -90,6 +96,9 @@ from e s = steps e (more_steps s no_steps)
 
 abbrev from2 : Expr → Step → Step → Expr
 from2 e s t = steps e (more_steps s (more_steps t no_steps))
+
+abbrev from3 : Expr → Step → Step → Step → Expr
+from3 e s t u = steps e (more_steps s (more_steps t (more_steps u no_steps)))
 
 abbrev all_of : List Expr → Exprs
 all_of [] = no_exprs
@@ -136,6 +145,10 @@ struct_p = struct_item (n P) (field_decl (n a) false int ∷ field_decl (n b) tr
 -- struct Q { p! P; a int }
 abbrev struct_q : Item
 struct_q = struct_item (n Q) (field_decl (n p) true (kind P) ∷ field_decl (n a) false int ∷ [])
+
+-- struct S { c! []P; p P }
+abbrev struct_s : Item
+struct_s = struct_item (n S) (field_decl (n c) true (array_type at (kind P)) ∷ field_decl (n p) false (kind P) ∷ [])
 
 abbrev new_p : Expr → Expr → Expr
 new_p d e = calls P (d ∷ e ∷ [])
@@ -234,6 +247,34 @@ references : fault_in
     ∷ does (calls println (from2 (v r) (dot p) (dot b) ∷ [])) ∷ declare (n p) (set at (from (v x) (dot p)) (new_p (num 7) (num 8))) ∷ []))
     ∷ []) ≡ Some None
 references = refl
+
+-- an index with labels, which say what leads to the place that it is of
+abbrev either : ℕ → ℕ → Expr
+either k l = if_else (truth at true) (gives [] (num k)) (gives [] (num l))
+
+-- func main() {
+--   x = S([]P(P(1, 2), P(3, 4)), P(5, 6));
+--   println(x.c[if true { 0 } else { 1 }].b); set x.c[if true { 1 } else { 0 }].b = 4; r = &x.c[if true { 0 } else { 1 }];
+--   set r.b = 7; y = set x.c[if true { 0 } else { 1 }] = P(8, 9); println(x.p.a); set x.c = []P(P(1, 1));
+-- }
+nested_places : fault_in
+    (struct_p ∷ struct_s ∷ func main [] None (run
+    (declare (n x) (calls S (array at (kind P) (all_of (new_p (num 1) (num 2) ∷ new_p (num 3) (num 4) ∷ [])) ∷ new_p (num 5) (num 6) ∷ []))
+    ∷ does (calls println (from3 (v x) (dot c) (index at (either 0 1)) (dot b) ∷ [])) ∷ does (set at (from3 (v x) (dot c) (index at (either 1 0)) (dot b)) (num 4))
+    ∷ declare (n r) (unary at Borrow (from2 (v x) (dot c) (index at (either 0 1)))) ∷ does (set at (from (v r) (dot b)) (num 7))
+    ∷ declare (n y) (set at (from2 (v x) (dot c) (index at (either 0 1))) (new_p (num 8) (num 9))) ∷ does (calls println (from2 (v x) (dot p) (dot a) ∷ []))
+    ∷ does (set at (from (v x) (dot c)) (array at (kind P) (all_of (new_p (num 1) (num 1) ∷ [])))) ∷ []))
+    ∷ []) ≡ Some None
+nested_places = refl
+
+-- func main() { x = [][]int([]int(1)); println(x[0][if true { 0 } else { 0 }]); set x[0][if true { 0 } else { 0 }] = 2; println(x[if true { return; 0 } else { return; 0 }][0]); }
+nested_arrays : fault_in
+    (func main [] None (run
+    (declare (n x) (array at (array_type at int) (all_of (array at int (all_of (num 1 ∷ [])) ∷ []))) ∷ does (calls println (from2 (v x) (index at (num 0)) (index at (either 0 0)) ∷ []))
+    ∷ does (set at (from2 (v x) (index at (num 0)) (index at (either 0 0))) (num 2))
+    ∷ does (calls println (from2 (v x) (index at (if_else (truth at true) (gives (return_nothing at ∷ []) (num 0)) (gives (return_nothing at ∷ []) (num 0)))) (index at (num 0)) ∷ [])) ∷ []))
+    ∷ []) ≡ Some None
+nested_arrays = refl
 
 -- func main() { x = P(1, 2); set x = P(3, 4); y = set x = P(5, 6); i = 1; p = set i = 2; set i = p; println(set i = 3); }
 sets : fault_in

@@ -2,6 +2,7 @@ mod Agreeing
 mod Arguments
 pub mod Bodies
 mod Callees
+mod Cells
 mod Covering
 mod Entries
 mod Examples
@@ -17,6 +18,8 @@ mod Rows
 mod Runs
 mod Scopes
 mod Sets
+mod Starts
+mod Steps
 mod Taking
 mod Tree
 mod Turns

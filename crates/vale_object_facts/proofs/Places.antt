@@ -50,17 +50,13 @@ module _ (cell : Kind → Option CodeTy) (kd : Kind) (ty : CodeTy) (is : cell kd
   read_leads false depth d live f e same = subst (λ f. Fine (leads_to_read cell depth f)) (sym e) (record { types = ap is_known is; present = refl; depths = readable false depth d live same })
 
 -- what is read of a cell
-module _ (depth to : ℕ) (frozen : Bool) (effect : Effect) (ty : CodeTy) (f : Fine effect.kept) (some : is_isolate ty ≡ false) (free : is_free (fact_of effect.after to) ≡ true) where
+module _ (depth to : ℕ) (frozen : Bool) (effect : Effect) (ty : CodeTy) (f : Fine effect.kept) (some : (frozen || not (is_isolate ty)) ≡ true) (free : is_free (fact_of effect.after to) ≡ true) where
   pub cell_fine : Fine (reads_cell depth frozen (Some ty) to effect).kept
   cell_fine = record {
-    types = and_from _ _ f.types (either frozen (not (is_isolate ty)) (ap not some));
+    types = and_from _ _ f.types some;
     present = and_from _ _ f.present free;
     depths = f.depths;
   }
-    where
-      either : (a b : Bool) → b ≡ true → (a || b) ≡ true
-      either true b e = refl
-      either false b e = e
 
 module _ (k : Site) where
   -- ---- what an owner's object holds is read
@@ -69,7 +65,7 @@ module _ (k : Site) where
       → (room_for instr ≤ room k → (h < room k) × (a < room k))
       → ((known : Known) → row_at k instr known ≡ reads_own cell known.depth known.regs h a (kept known))
       → (room_for instr ≤ room k → (known : Known) → Covers k known s → Fine (kept known))
-      → at k s a ≡ Held (t.Own kd) s.depth false → cell kd ≡ Some ty → is_isolate ty ≡ false → code_type k.parts x ≡ seen false ty → is_free (at k s h) ≡ true → s.depth ≡ u.depth → Beside k h s u
+      → at k s a ≡ Held (t.Own kd) s.depth false → cell kd ≡ Some ty → not (is_isolate ty) ≡ true → code_type k.parts x ≡ seen false ty → is_free (at k s h) ≡ true → s.depth ≡ u.depth → Beside k h s u
       → Runs k p (instr ∷ []) (s ∷ []) s (falls (holding h x u))
   owner_read {s = s} {u} instr h a kd x ty cell kept on none inside lt is f ha there some same free d b = single k instr on none (in_order k instr inside) does
     where
@@ -116,7 +112,7 @@ module _ (k : Site) where
       → (room_for instr ≤ room k → (h < room k) × (a < room k))
       → ((known : Known) → row_at k instr known ≡ reads_found cell known.depth known.regs h a (kept known))
       → (room_for instr ≤ room k → (known : Known) → Covers k known s → Fine (kept known))
-      → at k s a ≡ Held (leading frozen kd) s.depth false → cell kd ≡ Some ty → is_isolate ty ≡ false → code_type k.parts x ≡ seen frozen ty → is_free (at k s h) ≡ true → s.depth ≡ u.depth → Beside k h s u
+      → at k s a ≡ Held (leading frozen kd) s.depth false → cell kd ≡ Some ty → (frozen || not (is_isolate ty)) ≡ true → code_type k.parts x ≡ seen frozen ty → is_free (at k s h) ≡ true → s.depth ≡ u.depth → Beside k h s u
       → Runs k p (instr ∷ []) (s ∷ []) s (falls (holding h x u))
   found_read {s = s} {u} instr h a frozen kd x ty cell kept on none inside lt is f ha there some same free d b = single k instr on none (in_order k instr inside) does
     where
