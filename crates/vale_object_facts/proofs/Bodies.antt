@@ -100,7 +100,7 @@ module _ (k : Site) (c : Context k) (f : Function) (gives : head_gives (head_of 
   body_in (block at end x ss) suits clean =
       comes_stops k (block_after (block at end x ss) (count + 1) (scope_at start) []) 0 (block_code (around_of k c) void (block at end x ss) 0 count (count + 1) (scope_at start) []) (block_stands (block at end x ss) count (count + 1) start)
       (λ place g. only_if (agree c.gives void) count (drop_scope (scope_at start) g end ++ (i.RetVoid ∷ []))) (λ g. with_gone g start) (λ g. leave_stands count y.void (with_gone g start)) start clean
-      (λ cl. block_runs k c (env_entry (head_of f)) (block at end x ss) y.void void 0 count (count + 1) start refl (omega arith) (λ g. nothing_above k count start.slots g count below (omega arith)) starts suits cl)
+      (λ cl. block_runs k c (env_entry (head_of f)) (block at end x ss) y.void void 0 count (count + 1) start refl (omega arith) (λ v g. nothing_above k count start.slots g count below (omega arith)) starts suits cl)
       (λ g q cl. chosen k (agree c.gives void) count cl (λ t cl. leaves k count (with_gone g start) end q below (params_sit (head_params (head_of f)) 0 [] tt) refl (c.typed ∙ ap (code_type k.parts) (void_of k.result (sym c.sort ∙ agree_is c.gives void t)))))
 
   in_scope : (b : Block) → body_code (around_of k c) (names_in f) (param_gives f) b ≡ code_in b (parameters 0 (names_in f) (param_gives f) [])

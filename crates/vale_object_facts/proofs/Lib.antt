@@ -1,8 +1,10 @@
 mod Agreeing
 mod Arguments
 pub mod Bodies
+mod BuiltIns
 mod Callees
 mod Cells
+mod Counting
 mod Covering
 mod Entries
 mod Examples
@@ -10,6 +12,8 @@ mod Functions
 mod Labels
 mod Leaving
 mod Locals
+mod Made
+mod Opening
 mod Operators
 mod Owners
 mod Parts

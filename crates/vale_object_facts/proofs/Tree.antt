@@ -14,33 +14,35 @@ use Rattle.vale_syntax.specs.Bytes.{is_byte}
 use Rattle.vale_rules_spec.specs.Types.{Ty, View, Seen}
 use Rattle.vale_rules_spec.specs.Types as y
 use Rattle.vale_rules_spec.specs.Typed.{Form, branch, pure, parallel_range, parallel_each, else_if, Elses, no_else, otherwise, more_elses, Block, block, Stmt, declare, destructure, return_nothing, return_value, while, foreach, form_stmt, express, Stmts, no_stmts, last, more_stmts, Expr, expr, Node, set, chain, unary, steps, number, quote, truth, name, call, paren, array, iso, form, Function, Exprs, no_exprs, more_exprs, link, Links, no_links, more_links, Step, field, method, index, Steps, no_steps, more_steps, type, types, chain_seen, step_seen}
-use Rattle.vale_rules_spec.specs.Typing.{Env, with_local as env_with_local}
-use Rattle.vale_model.specs.Expressions.{expr_spot}
+use Rattle.vale_rules_spec.specs.Typing.{Env, with_local as env_with_local, with_locals}
+use Rattle.vale_model.specs.Expressions.{expr_spot, numbers_of}
 use Rattle.vale_model.specs.Parts.{Parts}
 use Rattle.vale_code.specs.Parts.{Parts as Code}
 use Rattle.vale_code.specs.declared.instr.Instr.{Instr}
 use Rattle.vale_code.specs.declared.instr.Instr.TheVariants as i
 use Rattle.vale_cert.specs.Rules.{is_short}
 use Rattle.vale_cert.specs.declared.facts.RegFact.TheVariants.{Empty}
-use Rattle.vale_lowering.specs.Instructions.{only_if, unary_code}
+use Rattle.vale_lowering.specs.Instructions.{only_if, unary_code, registers_from}
 use Rattle.vale_lowering.specs.Scopes.{number_of_text}
 use Rattle.vale_lowering.specs.Texts.{is_lawful_text}
-use Rattle.vale_lowering_objects.specs.Lowered.{then_code, if_comes, args_code, args_after, callee_code, gives_list, first_type, sides, hand, drop_value, store, drop_entry, drop_scope, form_code, elses_code, block_code, stmts_code, stmt_code, form_after, elses_after, block_after, stmts_after, stmt_after, moved_out, truth_number, expr_code, node_code, links_code, link_code, link_after, step_view, Origin, reference, load_element, swap_element, start_code, step_code, steps_code, place_code, targets_code, swap_code, expr_after, node_after, start_after, step_after, steps_after, place_after, targets_after, links_after}
+use Rattle.vale_lowering_objects.specs.Lowered.{all_gives, locals_after, locals_code, count_code, then_code, if_comes, args_code, args_after, callee_code, make_code, gives_list, first_type, sides, hand, drop_value, store, drop_entry, drop_scope, form_code, elses_code, block_code, stmts_code, stmt_code, form_after, elses_after, block_after, stmts_after, stmt_after, moved_out, truth_number, expr_code, node_code, links_code, link_code, link_after, step_view, Origin, reference, load_element, swap_element, start_code, step_code, steps_code, place_code, targets_code, swap_code, expr_after, node_after, start_after, step_after, steps_after, place_after, targets_after, links_after}
 use Rattle.vale_lowering_objects.specs.Changes.{step_changes}
 use Rattle.vale_lowering_objects.specs.Scopes.{Gives, void, copy, owner, gives_of, is_value, agree, entry, waiting, find, Gone, is_gone, without, After, comes, never, then_after, met, may_meet, closes, Around}
 use Rattle.vale_lowering_objects.specs.Program.{code_type}
 use Rattle.vale_object_facts.specs.Slots.{local, waits, Stand, scope_at, with_gone, holding, given, with_local, with_waiting, slot_fact, fact_in}
-use Rattle.vale_object_facts.specs.Stands.{Stands as Marks, with_args, args_stands, then_stands, comes_stands, sides_stands, hand_stands, drop_stands, store_stands, drop_local, leave_stands, form_stands, elses_stands, block_stands, stmts_stands, stmt_stands, unary_stands, expr_stands, node_stands, links_stands, link_stands, gone_of, lent, lent_last, start_stands, step_stands, steps_stands, place_stands, targets_stands, swap_stands}
+use Rattle.vale_object_facts.specs.Stands.{Stands as Marks, with_args, args_stands, then_stands, comes_stands, sides_stands, hand_stands, drop_stands, store_stands, drop_local, leave_stands, form_stands, elses_stands, block_stands, stmts_stands, stmt_stands, unary_stands, expr_stands, node_stands, links_stands, link_stands, gone_of, lent, lent_last, start_stands, step_stands, steps_stands, place_stands, targets_stands, swap_stands, locals_stands, count_stands}
 use Rattle.vale_object_facts.specs.Suits.{IsLocal, refers, start_suits, step_suits, steps_suit, place_suits, targets_suit, set_suits, exprs_suit, expr_suits, node_suits, links_suit, form_suits, elses_suit, block_suits, stmts_suit, stmt_suits}
 use Rattle.vale_object_facts.proofs.Arguments.{args_gone, args_fall, args_wait}
-use Rattle.vale_object_facts.proofs.Callees.{callee_runs}
+use Rattle.vale_object_facts.proofs.Callees.{callee_runs, array_runs}
+use Rattle.vale_object_facts.proofs.Counting.{counted, count_runs}
 use Rattle.vale_object_facts.proofs.Covering.{Site, at as says_at, held as says_held, Says, says_same, says_holding, says_role, nothing_above, not_gone, holding_here, holding_there}
 use Rattle.vale_object_facts.proofs.Leaving.{leaves_with, leaves}
 use Rattle.vale_object_facts.proofs.Locals.{Named, named, Stands, none_at, free_at, stands_up, stands_gone, stands_holding, stands_waiting, stands_local, move_runs, load_runs}
+use Rattle.vale_object_facts.proofs.Opening.{locals_alike, opens_run, locals_run}
 use Rattle.vale_object_facts.proofs.Operators.{operands_plain, not_runs, minus_runs}
 use Rattle.vale_object_facts.proofs.Parts.{value_some, copy_some, copy_value, copy_of, owner_of, owned_some, agree_is, chosen, as_given, as_value, says_still, next_free, link_runs, sides_go, turns_go}
 use Rattle.vale_object_facts.proofs.Rows.{int_runs, truth_runs, text_runs}
-use Rattle.vale_object_facts.proofs.Runs.{falls, ending, Runs, runs_less, runs_from, ends_less, nothing}
+use Rattle.vale_object_facts.proofs.Runs.{falls, ending, Runs, runs_less, runs_from, ends_less, both, nothing}
 use Rattle.vale_object_facts.proofs.Sets.{exchange_runs, store_runs}
 use Rattle.vale_object_facts.proofs.Cells.{Leads}
 use Rattle.vale_object_facts.proofs.Starts.{From, stays, lies, Continues, Keeps, local_starts, lends_place}
@@ -213,6 +215,34 @@ module _ (k : Site) (c : Context k) where
   two_free : {env : Env} {h : ℕ} {s : Stand} (x z : Ty) → Stands k env h s → (g : Gone) → says_at k (holding (h + 1) x (with_gone g (with_waiting h z s))) (h + 2) ≡ Empty
   two_free {h = h} {s} x z st g = holding_there k (h + 1) x (with_gone g (with_waiting h z s)) (h + 2) (omega arith) ∙ none_at k (h + 2) (stands_gone k g (stands_waiting k z st)) (omega arith)
 
+  -- ---- a loop over numbers
+
+  -- its turns, once its ends stand in h and after it
+  abbrev number_code : NameAt → Block → Spot → ℕ → ℕ → Stand → Gone → List Instr
+  number_code n bl at place h s g =
+      only_if (closes (scope_at s) g (block_after bl (h + 2 + 1) (entry n.name.0 (h + 2) copy ∷ scope_at s) (without (h + 2) g))) h
+      (count_code place h at (block_after bl (h + 2 + 1) (entry n.name.0 (h + 2) copy ∷ scope_at s) (without (h + 2) g)) (λ place. block_code a void bl place h (h + 2 + 1) (entry n.name.0 (h + 2) copy ∷ scope_at s) (without (h + 2) g)))
+
+  abbrev number_marks : NameAt → Block → ℕ → Stand → Ty → Ty → Marks
+  number_marks n bl h s t u =
+      count_stands h (holding (h + 1) u (holding h t s)) (block_stands bl h (h + 2 + 1) (with_local n.name.0 (h + 2) y.int (holding (h + 1) u (holding h t s)))) (block_after bl (h + 2 + 1) (entry n.name.0 (h + 2) copy ∷ scope_at s) (without (h + 2) s.gone))
+
+  numbers_run : (env : Env) (n : NameAt) (bl : Block) (at : Spot) (p h : ℕ) (s : Stand) → Stands k env h s → (t u : Ty) → t ≡ y.int → u ≡ y.int → Clean (number_code n bl at p h s s.gone)
+      → ((q : ℕ) → Clean (block_code a void bl q h (h + 2 + 1) (entry n.name.0 (h + 2) copy ∷ scope_at s) (without (h + 2) s.gone))
+      → Runs k q (block_code a void bl q h (h + 2 + 1) (entry n.name.0 (h + 2) copy ∷ scope_at s) (without (h + 2) s.gone)) (block_stands bl h (h + 2 + 1) (with_local n.name.0 (h + 2) y.int (counted h s))) (with_local n.name.0 (h + 2) y.int (counted h s))
+      (ending (block_after bl (h + 2 + 1) (entry n.name.0 (h + 2) copy ∷ scope_at s) (without (h + 2) s.gone)) (λ g. with_gone g (with_local n.name.0 (h + 2) y.int (counted h s)))))
+      → Runs k p (number_code n bl at p h s s.gone) (number_marks n bl h s t u) (holding (h + 1) u (holding h t s)) (falls (with_gone s.gone s))
+  numbers_run env n bl at p h s st t u et eu clean body =
+      let after = block_after bl (h + 2 + 1) (entry n.name.0 (h + 2) copy ∷ scope_at s) (without (h + 2) s.gone) in
+      subst (λ t. Runs k p (number_code n bl at p h s s.gone) (number_marks n bl h s t u) (holding (h + 1) u (holding h t s)) (falls (with_gone s.gone s))) (sym et)
+      (subst (λ u. Runs k p (number_code n bl at p h s s.gone) (number_marks n bl h s y.int u) (holding (h + 1) u (holding h y.int s)) (falls (with_gone s.gone s))) (sym eu)
+      (chosen k (closes (scope_at s) s.gone after) h clean
+      (λ closed cl.
+      count_runs k env h s st n.name.0 at p (λ place. block_code a void bl place h (h + 2 + 1) (entry n.name.0 (h + 2) copy ∷ scope_at s) (without (h + 2) s.gone)) (block_stands bl h (h + 2 + 1) (with_local n.name.0 (h + 2) y.int (counted h s))) after closed cl body)))
+
+  third_free : {env : Env} {h : ℕ} {s : Stand} (t u : Ty) → Stands k env h s → (g : Gone) → says_at k (holding (h + 1) u (holding h t (with_gone g s))) (h + 2) ≡ Empty
+  third_free {h = h} {s} t u st g = holding_there k (h + 1) u (holding h t (with_gone g s)) (h + 2) (omega arith) ∙ holding_there k h t (with_gone g s) (h + 2) (omega arith) ∙ none_at k (h + 2) (stands_gone k g st) (omega arith)
+
   -- a value that isn't used
   unused_stmt : (e : Expr) (p h : ℕ) (s : Stand) {env : Env} → Stands k env h s → Clean (if_comes p (expr_code a e p h (scope_at s) s.gone) (expr_after e h (scope_at s) s.gone) (λ place g. drop_value (gives_of (type e)) h (expr_spot e)))
       → (Clean (expr_code a e p h (scope_at s) s.gone) → ExprRuns e p h s)
@@ -329,7 +359,7 @@ module _ (k : Site) (c : Context k) where
         (then_runs_known k (args_after es h (scope_at s) s.gone) p (h + length (gives_list es)) (args_code a es p h (scope_at s) s.gone) (args_stands es h s) (λ place g. callee_code a q n f (first_type es) (gives_list es) h)
         (λ g. with_gone g (with_args es h s)) (λ g. with_gone g (with_args es h s) ∷ []) (λ g. comes g) (λ g. given h x (with_gone g s)) s clean
         (λ cl. args_run env es p h s st suits.1 cl)
-        (λ g r is cl. callee_runs k env h s st g a n f es x q e suits.0 (args_wait k es h s g st.falls is) cl)
+        (λ g r is cl. callee_runs k env h s st g es (args_wait k es h s g st.falls is) fs c.gives n f x q e suits.0 cl)
         (λ g. nothing_above k (h + length (types es)) (with_args es h s).slots g (h + length (gives_list es)) (args_fall k es h s st.falls) (many es h)))
     node_runs env (form f) x q p h s e st suits clean = form_runs env f x q p h s e st suits clean
     node_runs env (steps e1 no_steps) x q p h s e st suits clean = absurd suits
@@ -348,7 +378,14 @@ module _ (k : Site) (c : Context k) where
         (λ o q j g t from kept leads cl. step_runs env y o q h j g s t (stands_gone k g st) from leads suits.1 cl) cl)
         (λ g q cl. steps_run env ys (lent (step_seen y)) q h (with_gone g s) (stands_gone k g st) suits.2 cl)
         (λ g. next_free k (lent (step_seen y)) st g))))
-    node_runs env (array at z es) x q p h s e st suits clean = absurd suits
+    node_runs env (array at z es) x q p h s e st suits clean =
+        as_given k (args_after es h (scope_at s) s.gone) h x (λ g. with_gone g s) (ap y.is_void suits.0)
+        (subst (λ d. Runs k p (node_code a x q (array at z es) p h (scope_at s) s.gone) (node_stands x (array at z es) h s) s d) (then_comes (args_after es h (scope_at s) s.gone) (λ g. holding h x (with_gone g s)))
+        (then_runs_known k (args_after es h (scope_at s) s.gone) p (h + length (gives_list es)) (args_code a es p h (scope_at s) s.gone) (args_stands es h s) (λ place g. make_code k.parts q x (gives_list es) h)
+        (λ g. with_gone g (with_args es h s)) (λ g. with_gone g (with_args es h s) ∷ []) (λ g. comes g) (λ g. holding h x (with_gone g s)) s clean
+        (λ cl. args_run env es p h s st suits.3 cl)
+        (λ g r is cl. array_runs k env h s st g es (args_wait k es h s g st.falls is) q z x suits.0 suits.1 suits.2 cl)
+        (λ g. nothing_above k (h + length (types es)) (with_args es h s).slots g (h + length (gives_list es)) (args_fall k es h s st.falls) (many es h))))
     node_runs env (iso at bl) x q p h s e st suits clean = absurd suits
 
     -- ---- steps
@@ -518,7 +555,7 @@ module _ (k : Site) (c : Context k) where
         (λ meets c.
         sides_go k env h (with_gone g s) (stands_gone k g st) x (type e1) r (block_after bl (h + 1) (scope_at s) g) (elses_after es s.gone h (scope_at s) g) s.gone (λ place. block_code a q bl place h (h + 1) (scope_at s) g) (λ place. elses_code a q es s.gone place h (scope_at s) g)
         (block_stands bl h (h + 1) (with_gone g s)) (elses_stands x es s.gone h (with_gone g s)) suits.0 meets c
-        (λ place c. block_runs env bl x q place h (h + 1) (with_gone g s) e (omega arith) (λ g. nothing_above k h s.slots g h st.falls (omega arith)) (stands_up k (h + 1) (omega arith) (stands_gone k g st)) suits.2 c)
+        (λ place c. block_runs env bl x q place h (h + 1) (with_gone g s) e (omega arith) (λ v g. nothing_above k h s.slots g h st.falls (omega arith)) (stands_up k (h + 1) (omega arith) (stands_gone k g st)) suits.2 c)
         (λ place c. elses_run env es x q s.gone place h (with_gone g s) e (stands_gone k g st) suits.3 c)))
         (λ g. next_free k (type e1) st g))
     form_runs env (pure at bl) x q p h s e st suits clean = absurd suits
@@ -530,7 +567,7 @@ module _ (k : Site) (c : Context k) where
     elses_run env no_else x q before p h s e st suits clean =
         chosen k (agree q void) h clean (λ t c. subst (λ z. Runs k p [] [] s (falls (given h z (with_gone s.gone s)))) (sym suits) (runs_less k (nothing k p s) (says_still k s)))
     elses_run env (otherwise bl) x q before p h s e st suits clean =
-        block_runs env bl x q p h (h + 1) s e (omega arith) (λ g. nothing_above k h s.slots g h st.falls (omega arith)) (stands_up k (h + 1) (omega arith) st) suits clean
+        block_runs env bl x q p h (h + 1) s e (omega arith) (λ v g. nothing_above k h s.slots g h st.falls (omega arith)) (stands_up k (h + 1) (omega arith) st) suits clean
     elses_run env (more_elses (else_if at e1 bl) es) x q before p h s e st suits clean =
         chosen k (is_value (gives_of (type e1))) h clean
         (λ some c.
@@ -545,17 +582,17 @@ module _ (k : Site) (c : Context k) where
         (λ meets c.
         sides_go k env h (with_gone g s) (stands_gone k g st) x (type e1) r (block_after bl (h + 1) (scope_at s) g) (elses_after es before h (scope_at s) g) before (λ place. block_code a q bl place h (h + 1) (scope_at s) g) (λ place. elses_code a q es before place h (scope_at s) g)
         (block_stands bl h (h + 1) (with_gone g s)) (elses_stands x es before h (with_gone g s)) suits.0 meets c
-        (λ place c. block_runs env bl x q place h (h + 1) (with_gone g s) e (omega arith) (λ g. nothing_above k h s.slots g h st.falls (omega arith)) (stands_up k (h + 1) (omega arith) (stands_gone k g st)) suits.2 c)
+        (λ place c. block_runs env bl x q place h (h + 1) (with_gone g s) e (omega arith) (λ v g. nothing_above k h s.slots g h st.falls (omega arith)) (stands_up k (h + 1) (omega arith) (stands_gone k g st)) suits.2 c)
         (λ place c. elses_run env es x q before place h (with_gone g s) e (stands_gone k g st) suits.3 c)))
         (λ g. next_free k (type e1) st g))
 
-    pub block_runs : (env : Env) (bl : Block) (x : Ty) (q : Gives) (p to h : ℕ) (s : Stand) → q ≡ gives_of x → to < h → Fresh k to s → Stands k env h s → block_suits k.parts k.code fs env x bl → Clean (block_code a q bl p to h (scope_at s) s.gone)
+    pub block_runs : (env : Env) (bl : Block) (x : Ty) (q : Gives) (p to h : ℕ) (s : Stand) → q ≡ gives_of x → to < h → (y.is_void x ≡ false → Fresh k to s) → Stands k env h s → block_suits k.parts k.code fs env x bl → Clean (block_code a q bl p to h (scope_at s) s.gone)
         → Runs k p (block_code a q bl p to h (scope_at s) s.gone) (block_stands bl to h s) s (ending (block_after bl h (scope_at s) s.gone) (λ g. given to x (with_gone g s)))
     block_runs env (block at end z ss) x q p to h s e lt fresh st suits clean =
         subst (λ w. Runs k p (stmts_code a q end ss p to h (scope_at s) s.gone) (stmts_stands w ss to h s) s (ending (stmts_after ss h (scope_at s) s.gone) (λ g. given to x (with_gone g s)))) (sym suits.0)
         (stmts_run env ss x q end p to h s e lt fresh st suits.1 clean)
 
-    pub stmts_run : (env : Env) (ss : Stmts) (x : Ty) (q : Gives) (end : Spot) (p to h : ℕ) (s : Stand) → q ≡ gives_of x → to < h → Fresh k to s → Stands k env h s → stmts_suit k.parts k.code fs env x ss → Clean (stmts_code a q end ss p to h (scope_at s) s.gone)
+    pub stmts_run : (env : Env) (ss : Stmts) (x : Ty) (q : Gives) (end : Spot) (p to h : ℕ) (s : Stand) → q ≡ gives_of x → to < h → (y.is_void x ≡ false → Fresh k to s) → Stands k env h s → stmts_suit k.parts k.code fs env x ss → Clean (stmts_code a q end ss p to h (scope_at s) s.gone)
         → Runs k p (stmts_code a q end ss p to h (scope_at s) s.gone) (stmts_stands x ss to h s) s (ending (stmts_after ss h (scope_at s) s.gone) (λ g. given to x (with_gone g s)))
     stmts_run env no_stmts x q end p to h s e lt fresh st suits clean =
         chosen k (agree q void) h clean (λ t c. subst (λ z. Runs k p [] [] s (falls (given to z (with_gone s.gone s)))) (sym suits) (runs_less k (nothing k p s) (says_still k s)))
@@ -567,7 +604,7 @@ module _ (k : Site) (c : Context k) where
         (λ g r c.
         subst (λ z. Runs k r (hand z to h) (hand_stands (type e1) (holding h (type e1) (with_gone g s))) (given h (type e1) (with_gone g s)) (falls (given to x (with_gone g s)))) (sym e)
         (subst (λ z. Runs k r (hand (gives_of x) to h) (hand_stands z (holding h z (with_gone g s))) (given h z (with_gone g s)) (falls (given to x (with_gone g s)))) (sym suits.0)
-        (hand_runs k env h (with_gone g s) (stands_gone k g st) to lt fresh x))))
+        (hand_runs k env h (with_gone g s) (stands_gone k g st) to lt x fresh))))
     stmts_run env (more_stmts (declare n z e1) ss) x q end p to h s e lt fresh st suits clean =
         chosen k (is_value (gives_of (type e1)) && is_value (gives_of z)) h clean
         (λ t c.
@@ -581,21 +618,36 @@ module _ (k : Site) (c : Context k) where
         (λ g r c.
         comes_runs k (stmts_after ss (h + 1) (entry n.name.0 h (gives_of z) ∷ scope_at s) (without h g)) r (stmts_code a q end ss r to (h + 1) (entry n.name.0 h (gives_of z) ∷ scope_at s) (without h g)) (stmts_stands x ss to (h + 1) (with_local n.name.0 h z (with_gone g s)))
         (λ place g. drop_entry (entry n.name.0 h (gives_of z)) g end) (λ g. given to x (with_gone g (with_local n.name.0 h z s))) (λ g. drop_local z h (given to x (with_gone g (with_local n.name.0 h z s)))) (λ g. given to x (with_gone g s)) (with_local n.name.0 h z (with_gone g s)) c
-        (λ c. stmts_run (env_with_local n z env) ss x q end r to (h + 1) (with_local n.name.0 h z (with_gone g s)) e (omega (arith, lt)) (fresh_slot k to (with_gone g s) n.name.0 h z (omega (arith, lt)) fresh) (stands_local k n z g st) suits.1 c)
+        (λ c. stmts_run (env_with_local n z env) ss x q end r to (h + 1) (with_local n.name.0 h z (with_gone g s)) e (omega (arith, lt)) (λ v. fresh_slot k to (with_gone g s) n.name.0 h z (omega (arith, lt)) (fresh v)) (stands_local k n z g st) suits.1 c)
         (λ g r c. scope_ends k env h s st n.name.0 z g to lt x end))
         (λ g. local_free n.name.0 z st g))
-    stmts_run env (more_stmts (destructure at ns zs e1) ss) x q end p to h s e lt fresh st suits clean = absurd suits.0
+    stmts_run env (more_stmts (destructure at ns zs e1) ss) x q end p to h s e lt fresh st suits clean =
+        chosen k (is_value (gives_of (type e1))) h clean
+        (λ some cl.
+        then_runs k (expr_after e1 h (scope_at s) s.gone) p (h + 1) (expr_code a e1 p h (scope_at s) s.gone) (expr_stands e1 h s)
+        (λ place g. i.Open (registers_from h (length (numbers_of ns))) h ∷ locals_code (numbers_of ns) (all_gives zs) end (place + 1) h (scope_at s) g (λ h s g. stmts_after ss h s g) (λ place h s g. stmts_code a q end ss place to h s g))
+        (λ g. holding h (type e1) (with_gone g s))
+        (λ g. holding h (type e1) (with_gone g s) ∷ locals_stands (numbers_of ns) zs h (with_gone g s) (λ h s. stmts_stands x ss to h s) (λ h s g. stmts_after ss h s g) (λ s. given to x s))
+        (λ g. locals_after (numbers_of ns) (all_gives zs) h (scope_at s) g (λ h s g. stmts_after ss h s g)) (λ g. given to x (with_gone g s)) s cl
+        (λ cl. value_runs env e1 p h s some st suits.0.1 cl)
+        (λ g r cl.
+        both k {a = i.Open (registers_from h (length (numbers_of ns))) h ∷ []} {b = locals_code (numbers_of ns) (all_gives zs) end (r + 1) h (scope_at s) g (λ h s g. stmts_after ss h s g) (λ place h s g. stmts_code a q end ss place to h s g)} {ma = holding h (type e1) (with_gone g s) ∷ []}
+        {mb = locals_stands (numbers_of ns) zs h (with_gone g s) (λ h s. stmts_stands x ss to h s) (λ h s g. stmts_after ss h s g) (λ s. given to x s)}
+        (opens_run k env h (with_gone g s) (stands_gone k g st) (numbers_of ns) zs (type e1) fs (locals_alike (numbers_of ns) zs end (r + 1) h (scope_at s) g (λ h s g. stmts_after ss h s g) (λ place h s g. stmts_code a q end ss place to h s g) cl) suits.0.0)
+        (locals_run k to x end (λ place h s g. stmts_code a q end ss place to h s g) (λ h s. stmts_stands x ss to h s) (λ h s g. stmts_after ss h s g) ns zs env (r + 1) h (with_gone g s) (stands_gone k g st) lt fresh
+        (λ r j u st lt fresh cl. stmts_run (with_locals ns zs env) ss x q end r to j u e lt fresh st suits.1 cl) cl))
+        (λ g. next_free k (type e1) st g))
     stmts_run env (more_stmts (return_nothing at) ss) x q end p to h s e lt fresh st suits clean = after_stmt env (return_nothing at) ss x q end p to h s st clean (λ c. stmt_runs env (return_nothing at) p h s st suits.0 c) (λ g r c. stmts_run env ss x q end r to h (with_gone g s) e lt fresh (stands_gone k g st) suits.1 c)
     stmts_run env (more_stmts (return_value at e1) ss) x q end p to h s e lt fresh st suits clean = after_stmt env (return_value at e1) ss x q end p to h s st clean (λ c. stmt_runs env (return_value at e1) p h s st suits.0 c) (λ g r c. stmts_run env ss x q end r to h (with_gone g s) e lt fresh (stands_gone k g st) suits.1 c)
     stmts_run env (more_stmts (while at e1 bl) ss) x q end p to h s e lt fresh st suits clean = after_stmt env (while at e1 bl) ss x q end p to h s st clean (λ c. stmt_runs env (while at e1 bl) p h s st suits.0 c) (λ g r c. stmts_run env ss x q end r to h (with_gone g s) e lt fresh (stands_gone k g st) suits.1 c)
-    stmts_run env (more_stmts (foreach at n e1 e2 bl) ss) x q end p to h s e lt fresh st suits clean = absurd suits.0
+    stmts_run env (more_stmts (foreach at n e1 e2 bl) ss) x q end p to h s e lt fresh st suits clean = after_stmt env (foreach at n e1 e2 bl) ss x q end p to h s st clean (λ c. stmt_runs env (foreach at n e1 e2 bl) p h s st suits.0 c) (λ g r c. stmts_run env ss x q end r to h (with_gone g s) e lt fresh (stands_gone k g st) suits.1 c)
     stmts_run env (more_stmts (form_stmt f) ss) x q end p to h s e lt fresh st suits clean = after_stmt env (form_stmt f) ss x q end p to h s st clean (λ c. stmt_runs env (form_stmt f) p h s st suits.0 c) (λ g r c. stmts_run env ss x q end r to h (with_gone g s) e lt fresh (stands_gone k g st) suits.1 c)
     stmts_run env (more_stmts (express e1) ss) x q end p to h s e lt fresh st suits clean = after_stmt env (express e1) ss x q end p to h s st clean (λ c. stmt_runs env (express e1) p h s st suits.0 c) (λ g r c. stmts_run env ss x q end r to h (with_gone g s) e lt fresh (stands_gone k g st) suits.1 c)
 
     pub stmt_runs : (env : Env) (z : Stmt) (p h : ℕ) (s : Stand) → Stands k env h s → stmt_suits k.parts k.code fs env z → Clean (stmt_code a z p h (scope_at s) s.gone)
         → Runs k p (stmt_code a z p h (scope_at s) s.gone) (stmt_stands z h s) s (ending (stmt_after z h (scope_at s) s.gone) (λ g. with_gone g s))
     stmt_runs env (declare n z e1) p h s st suits clean = absurd (cc)
-    stmt_runs env (destructure at ns zs e1) p h s st suits clean = absurd suits
+    stmt_runs env (destructure at ns zs e1) p h s st suits clean = absurd (cc)
     stmt_runs env (return_nothing at) p h s st suits clean =
         chosen k (agree a.gives void) h clean (λ t cl. leaves k h s at p st.falls st.sits st.depth (c.typed ∙ ap (code_type k.parts) (void_of k.result (sym c.sort ∙ agree_is a.gives void t))))
     stmt_runs env (return_value at e1) p h s st suits clean =
@@ -613,8 +665,27 @@ module _ (k : Site) (c : Context k) where
         let back = and_parts (closes (scope_at s) s.gone (expr_after e1 h (scope_at s) s.gone)) (closes (scope_at s) s.gone (block_after bl (h + 1) (scope_at s) s.gone)) some.1 in
         turns_go k env h s st (type e1) (expr_after e1 h (scope_at s) s.gone) (block_after bl (h + 1) (scope_at s) s.gone) p (λ place. expr_code a e1 place h (scope_at s) s.gone) (λ place. block_code a void bl place h (h + 1) (scope_at s) s.gone) (expr_stands e1 h s) (block_stands bl h (h + 1) s) suits.0 back.0 back.1 c
         (λ place c. value_runs env e1 place h s some.0 st suits.1 c)
-        (λ place c. block_runs env bl y.void void place h (h + 1) s refl (omega arith) (λ g. nothing_above k h s.slots g h st.falls (omega arith)) (stands_up k (h + 1) (omega arith) st) suits.2 c))
-    stmt_runs env (foreach at n e1 e2 bl) p h s st suits clean = absurd suits
+        (λ place c. block_runs env bl y.void void place h (h + 1) s refl (omega arith) (λ v g. nothing_above k h s.slots g h st.falls (omega arith)) (stands_up k (h + 1) (omega arith) st) suits.2 c))
+    stmt_runs env (foreach at n e1 e2 bl) p h s st suits clean =
+        chosen k (is_value (gives_of (type e1)) && is_value (gives_of (type e2))) h clean
+        (λ t cl.
+        let some = and_parts (is_value (gives_of (type e1))) (is_value (gives_of (type e2))) t in
+        then_runs k (expr_after e1 h (scope_at s) s.gone) p (h + 1) (expr_code a e1 p h (scope_at s) s.gone) (expr_stands e1 h s)
+        (λ place g. then_code place (h + 2) (expr_code a e2 place (h + 1) (scope_at s) g) (expr_after e2 (h + 1) (scope_at s) g) (λ place g. number_code n bl at place h s g)) (λ g. holding h (type e1) (with_gone g s))
+        (λ g. then_stands (h + 2) (expr_stands e2 (h + 1) (holding h (type e1) (with_gone g s))) (expr_after e2 (h + 1) (scope_at s) g) (λ g. holding (h + 1) (type e2) (holding h (type e1) (with_gone g s))) (λ g. number_marks n bl h (with_gone g s) (type e1) (type e2)) (λ g. comes g) (λ g. with_gone g s))
+        (λ g. expr_after e2 (h + 1) (scope_at s) g) (λ g. with_gone g s) s cl
+        (λ cl. value_runs env e1 p h s some.0 st suits.2 cl)
+        (λ g r cl.
+        let above = stands_holding k (type e1) (ap y.is_owned suits.0) (stands_gone k g st) in
+        subst (λ d. Runs k r (then_code r (h + 2) (expr_code a e2 r (h + 1) (scope_at s) g) (expr_after e2 (h + 1) (scope_at s) g) (λ place g. number_code n bl at place h s g)) (then_stands (h + 2) (expr_stands e2 (h + 1) (holding h (type e1) (with_gone g s))) (expr_after e2 (h + 1) (scope_at s) g) (λ g. holding (h + 1) (type e2) (holding h (type e1) (with_gone g s))) (λ g. number_marks n bl h (with_gone g s) (type e1) (type e2)) (λ g. comes g) (λ g. with_gone g s)) (holding h (type e1) (with_gone g s)) d) (then_comes (expr_after e2 (h + 1) (scope_at s) g) (λ g. with_gone g s))
+        (then_runs k (expr_after e2 (h + 1) (scope_at s) g) r (h + 2) (expr_code a e2 r (h + 1) (scope_at s) g) (expr_stands e2 (h + 1) (holding h (type e1) (with_gone g s))) (λ place g. number_code n bl at place h s g) (λ g. holding (h + 1) (type e2) (holding h (type e1) (with_gone g s)))
+        (λ g. number_marks n bl h (with_gone g s) (type e1) (type e2)) (λ g. comes g) (λ g. with_gone g s) (holding h (type e1) (with_gone g s)) cl
+        (λ cl. value_runs env e2 r (h + 1) (holding h (type e1) (with_gone g s)) some.1 above suits.3 cl)
+        (λ c q cl.
+        numbers_run env n bl at q h (with_gone c s) (stands_gone k c st) (type e1) (type e2) suits.0 suits.1 cl
+        (λ q cl. block_runs (env_with_local n y.int env) bl y.void void q h (h + 2 + 1) (with_local n.name.0 (h + 2) y.int (counted h (with_gone c s))) refl (omega arith) (λ v. absurd (cc)) (stands_local k n y.int c (stands_up k (h + 2) (omega arith) (stands_holding k y.int refl (stands_holding k y.int refl (stands_gone k c st))))) suits.4 cl))
+        (λ c. third_free (type e1) (type e2) st c)))
+        (λ g. next_free k (type e1) st g))
     stmt_runs env (form_stmt f) p h s st suits clean = form_runs env f y.void void p h s refl st suits clean
     stmt_runs env (express (expr x (set at (expr z (name n is_outer moved)) e1))) p h s st suits clean =
         chosen k (is_value (gives_of (type e1)) && agree (gives_of x.value) (gives_of (type e1))) h clean

@@ -301,7 +301,7 @@ abbrev mutual
       then_stands (h + 1) (expr_stands a h s) (expr_after a h (scope_at s) s.gone) (λ g. holding h (type a) (with_gone g s))
       (λ g. then_stands (h + 2) (expr_stands e (h + 1) (holding h (type a) (with_gone g s))) (expr_after e (h + 1) (scope_at s) g) (λ g. holding (h + 1) (type e) (holding h (type a) (with_gone g s)))
       (λ g. let counted = holding (h + 1) (type e) (holding h (type a) (with_gone g s)) in let inner = with_local n.name.0 (h + 2) y.int counted in
-      count_stands h counted (block_stands b h (h + 3) inner) (block_after b (h + 3) (scope_at inner) inner.gone)) (λ g. comes g) (λ g. with_gone g s))
+      count_stands h counted (block_stands b h (h + 2 + 1) inner) (block_after b (h + 2 + 1) (scope_at inner) inner.gone)) (λ g. comes g) (λ g. with_gone g s))
       (λ g. expr_after e (h + 1) (scope_at s) g) (λ g. with_gone g s)
   stmt_stands (express (expr x (set at (expr y (name n is_outer moved)) e))) h s =
       comes_stands (expr_stands e h s) (expr_after e h (scope_at s) s.gone) (λ g. store_stands (find n.name.0 (scope_at s)) (type e) h (with_gone g s))
