@@ -1,5 +1,5 @@
 -- How the walk goes through what is called, once its values wait.
-use Rattle.std.proofs.Common.{◌≡◌, ℕ, suc, List, [], ◌∷◌, length, map, replicate, Some, Bool, true, false, ◌&&◌, refl, sym, ap, ◌∙◌, subst}
+use Rattle.std.proofs.Common.{◌≡◌, ℕ, List, [], ◌∷◌, length, replicate, Some, true, false, ◌&&◌, refl, sym, ap, ◌∙◌, subst}
 use Rattle.std.specs.Prelude.{nat_le}
 use Rattle.std.proofs.lemmas.Bool.{and_parts}
 use Rattle.vale_base.specs.Limits.{width_limit}
@@ -13,11 +13,11 @@ use Rattle.vale_code.specs.Kinds as code
 use Rattle.vale_code.specs.declared.instr.Instr.TheVariants as i
 use Rattle.vale_code.specs.declared.ty.Ty.TheVariants as t
 use Rattle.vale_cert.specs.Objects.{cells_of, has_room}
-use Rattle.vale_lowering.specs.Instructions.{only_if, registers_from}
+use Rattle.vale_lowering.specs.Instructions.{registers_from}
 use Rattle.vale_lowering.specs.Scopes.{number_of_function}
 use Rattle.vale_lowering_objects.specs.Lowered.{gives_list, first_type, callee_code, make_code, may_be_called}
 use Rattle.vale_lowering_objects.specs.Program.{code_type}
-use Rattle.vale_lowering_objects.specs.Scopes.{Gives, owner, gives_of, agree, Gone, Around}
+use Rattle.vale_lowering_objects.specs.Scopes.{Gives, owner, gives_of, agree, Gone}
 use Rattle.vale_object_facts.specs.Slots.{Stand, with_gone, holding, given}
 use Rattle.vale_object_facts.specs.Stands.{with_args}
 use Rattle.vale_object_facts.specs.Suits.{all_are, code_types, HasItems, callee_suits}

@@ -1,14 +1,12 @@
 -- How the walk goes through the instructions of a step, from what a local or a register holds: a field or an element is read, or
 -- gets a new value.
-use Rattle.std.proofs.Common.{◌≡◌, ℕ, [], ◌∷◌, Option, Some, None, Bool, true, false, not, ◌||◌, refl, sym, ap, ◌∙◌, subst, arith, ◌<◌, ◌≤◌}
+use Rattle.std.proofs.Common.{◌≡◌, ℕ, [], ◌∷◌, Option, Some, Bool, true, false, not, ◌||◌, refl, sym, ap, ◌∙◌, subst, arith, ◌<◌}
 use Rattle.vale_base.specs.declared.name.Kind.{Kind}
 use Rattle.vale_base.specs.declared.spot.Spot.{Spot}
 use Rattle.vale_rules_spec.specs.TypeRules.{is_iso, borrow_gives}
 use Rattle.vale_rules_spec.specs.Types.{Ty, View, blind, direct, shared, frozen, seen_object, is_frozen, is_owner, object_of, as_shared, as_frozen, part_seen}
 use Rattle.vale_rules_spec.specs.Types as y
 use Rattle.vale_model.specs.Parts.{Parts, kind_of, field_place}
-use Rattle.vale_code.specs.Operands.{room_for}
-use Rattle.vale_code.specs.declared.instr.Instr.{Instr}
 use Rattle.vale_code.specs.declared.instr.Instr.TheVariants as i
 use Rattle.vale_code.specs.declared.ty.Ty.{Ty as CodeTy}
 use Rattle.vale_code.specs.declared.ty.Ty.TheVariants as t
@@ -17,7 +15,6 @@ use Rattle.vale_cert.specs.Objects.{cell_by, field_of, item_of, owner_kind, refe
 use Rattle.vale_cert.specs.Rules.{reads, leads_as_owner, leads_as_reference, leads_to_read}
 use Rattle.vale_cert.specs.Types.{is_isolate}
 use Rattle.vale_cert.specs.declared.facts.RegFact.TheVariants.{Held}
-use Rattle.vale_cert.specs.declared.rules.Kept.{Kept}
 use Rattle.vale_lowering_objects.specs.Lowered.{Origin, at_hand, reference, load_field, load_element, swap_field, swap_element}
 use Rattle.vale_lowering_objects.specs.Program.{code_type}
 use Rattle.vale_object_facts.specs.Slots.{Stand, holding}
@@ -122,15 +119,15 @@ module _ (k : Site) where
 
   -- ---- what is read
 
-  module _ {q : ℕ} {s u : Stand} (v : View) (x : Ty) (spot : Spot) (h : ℕ) (some : (is_frozen v || not (is_iso x)) ≡ true) (free : is_free (at k s h) ≡ true) (d : s.depth ≡ u.depth) (b : Beside k h s u) where
+  module _ (s u : Stand) (v : View) (x : Ty) (spot : Spot) (h : ℕ) (some : (is_frozen v || not (is_iso x)) ≡ true) (free : is_free (at k s h) ≡ true) (d : s.depth ≡ u.depth) (b : Beside k h s u) where
     unfrozen_here : (r : ℕ) → Leads s (at_hand r) v → not (is_isolate (code_type k.parts x)) ≡ true
     unfrozen_here r l = ap (λ z. z || not (is_isolate (code_type k.parts x))) (sym (ap is_frozen l.1)) ∙ no_isolate k.parts (is_frozen v) x some
 
     lent_here : (r : ℕ) → Leads s (at_hand r) v → code_type k.parts (lent (part_seen v x)) ≡ seen false (code_type k.parts x)
     lent_here r l = lent_code k.parts v x some ∙ ap (λ z. seen z (code_type k.parts x)) (ap is_frozen l.1)
 
-    pub field_read : (o : Origin) (m : ℕ) → HasField k.parts k.code v m x → Leads s o v → Runs k q (load_field o (field_place k.parts v m) spot h) (s ∷ []) s (falls (holding h (lent (part_seen v x)) u))
-    field_read o m f l = subst (λ z. Runs k q (load_field o z spot h) (s ∷ []) s (falls (holding h (lent (part_seen v x)) u))) (sym f.found) (by o l)
+    pub field_read : {q : ℕ} (o : Origin) (m : ℕ) → HasField k.parts k.code v m x → Leads s o v → Runs k q (load_field o (field_place k.parts v m) spot h) (s ∷ []) s (falls (holding h (lent (part_seen v x)) u))
+    field_read {q} o m f l = subst (λ z. Runs k q (load_field o z spot h) (s ∷ []) s (falls (holding h (lent (part_seen v x)) u))) (sym f.found) (by o l)
       where
         by : (o : Origin) → Leads s o v → Runs k q (load_field o (Some f.place) spot h) (s ∷ []) s (falls (holding h (lent (part_seen v x)) u))
         by (at_hand r) l =
@@ -143,8 +140,8 @@ module _ (k : Site) where
             (reference_here s v (y.kind f.struct) x f.object refl (field_of k.code f.place) f.cell r l) f.cell (no_isolate k.parts (is_frozen v) x some) (lent_code k.parts v x some) free d b
 
     -- its index stands in j
-    pub element_read : (o : Origin) (j : ℕ) → HasItems k.parts k.code v x → at k s j ≡ held k y.int s.depth → Leads s o v → Runs k q (load_element o j spot h) (s ∷ []) s (falls (holding h (lent (part_seen v x)) u))
-    element_read o j f here l = by o l
+    pub element_read : {q : ℕ} (o : Origin) (j : ℕ) → HasItems k.parts k.code v x → at k s j ≡ held k y.int s.depth → Leads s o v → Runs k q (load_element o j spot h) (s ∷ []) s (falls (holding h (lent (part_seen v x)) u))
+    element_read {q} o j f here l = by o l
       where
         by : (o : Origin) → Leads s o v → Runs k q (load_element o j spot h) (s ∷ []) s (falls (holding h (lent (part_seen v x)) u))
         by (at_hand r) l =
@@ -158,9 +155,9 @@ module _ (k : Site) where
 
   -- ---- what gets a new value, which stands in h, where then the old one is
 
-  module _ {q : ℕ} {s u : Stand} (v : View) (x : Ty) (spot : Spot) (h : ℕ) (unfrozen : is_frozen v ≡ false) (value : at k s h ≡ held k x s.depth) (d : s.depth ≡ u.depth) (b : Beside k h s u) where
-    pub field_swapped : (o : Origin) (m : ℕ) → HasField k.parts k.code v m x → Leads s o v → Runs k q (swap_field o (field_place k.parts v m) spot h) (s ∷ []) s (falls (holding h x u))
-    field_swapped o m f l = subst (λ z. Runs k q (swap_field o z spot h) (s ∷ []) s (falls (holding h x u))) (sym f.found) (by o l)
+  module _ (s u : Stand) (v : View) (x : Ty) (spot : Spot) (h : ℕ) (unfrozen : is_frozen v ≡ false) (value : at k s h ≡ held k x s.depth) (d : s.depth ≡ u.depth) (b : Beside k h s u) where
+    pub field_swapped : {q : ℕ} (o : Origin) (m : ℕ) → HasField k.parts k.code v m x → Leads s o v → Runs k q (swap_field o (field_place k.parts v m) spot h) (s ∷ []) s (falls (holding h x u))
+    field_swapped {q} o m f l = subst (λ z. Runs k q (swap_field o z spot h) (s ∷ []) s (falls (holding h x u))) (sym f.found) (by o l)
       where
         by : (o : Origin) → Leads s o v → Runs k q (swap_field o (Some f.place) spot h) (s ∷ []) s (falls (holding h x u))
         by (at_hand r) l =
@@ -170,8 +167,8 @@ module _ (k : Site) where
             swap_runs k (i.Swap h r f.place h spot) h x (λ known. cell_by (field_of k.code f.place) (reference_kind (fact_of known.regs r))) (λ known. leads_as_reference (field_of k.code f.place) known.depth (fact_of known.regs r)) refl refl refl (λ lt. omega (arith, lt)) (λ known. refl)
             (λ lt known c. from_set s v (y.kind f.struct) x f.object refl (field_of k.code f.place) f.cell known c r (omega (arith, lt)) unfrozen l) value d b
 
-    pub element_swapped : (o : Origin) (j : ℕ) → HasItems k.parts k.code v x → at k s j ≡ held k y.int s.depth → Leads s o v → Runs k q (swap_element o j spot h) (s ∷ []) s (falls (holding h x u))
-    element_swapped o j f here l = by o l
+    pub element_swapped : {q : ℕ} (o : Origin) (j : ℕ) → HasItems k.parts k.code v x → at k s j ≡ held k y.int s.depth → Leads s o v → Runs k q (swap_element o j spot h) (s ∷ []) s (falls (holding h x u))
+    element_swapped {q} o j f here l = by o l
       where
         by : (o : Origin) → Leads s o v → Runs k q (swap_element o j spot h) (s ∷ []) s (falls (holding h x u))
         by (at_hand r) l =

@@ -1,5 +1,5 @@
 -- How the walk goes through the turns of a loop over numbers.
-use Rattle.std.proofs.Common.{◌≡◌, ◌≢◌, ℕ, ◌+◌, ◌<◌, pos, List, [], ◌∷◌, ◌++◌, length, Bool, true, false, not, ◌&&◌, ◌==◌, if◌then◌else◌, refl, sym, ap, ◌∙◌, subst, arith, ⊎_elim}
+use Rattle.std.proofs.Common.{◌≡◌, ℕ, ◌+◌, pos, List, [], ◌∷◌, ◌++◌, length, Bool, true, false, if◌then◌else◌, refl, sym, ap, ◌∙◌, subst, arith, ⊎_elim}
 use Rattle.std.proofs.lemmas.Bool.{cases_eq, eq-eqb, ne_eqb}
 use Rattle.vale_base.specs.declared.spot.Spot.{Spot}
 use Rattle.vale_rules_spec.specs.Types.{Ty}
@@ -9,9 +9,9 @@ use Rattle.vale_code.specs.declared.instr.Instr.{Instr}
 use Rattle.vale_code.specs.declared.instr.Instr.TheVariants as i
 use Rattle.vale_code.specs.declared.ty.Ty.TheVariants as t
 use Rattle.vale_cert.specs.Known.{is_free, agrees}
-use Rattle.vale_cert.specs.declared.facts.RegFact.TheVariants.{Empty, Held}
+use Rattle.vale_cert.specs.declared.facts.RegFact.TheVariants.{Empty}
 use Rattle.vale_lowering_objects.specs.Lowered.{if_comes, count_code}
-use Rattle.vale_lowering_objects.specs.Scopes.{Gone, After, comes, never, closes}
+use Rattle.vale_lowering_objects.specs.Scopes.{Gone, After, comes, closes}
 use Rattle.vale_object_facts.specs.Slots.{local, Slot, Slots, scope_at, Stand, with_gone, holding, with_local, is_lost, slot_fact, fact_in}
 use Rattle.vale_object_facts.specs.Stands.{Stands as Marks, comes_stands, loop_stands, count_stands}
 use Rattle.vale_object_facts.proofs.Agreeing.{agrees_same}

@@ -1,16 +1,15 @@
 -- How the walk goes through objects that are made of the values that wait, and through calls of functions.
-use Rattle.std.proofs.Common.{◌≡◌, ◌≢◌, ℕ, zero, suc, ◌+◌, ◌<◌, ◌≤◌, List, [], ◌∷◌, length, map, replicate, Option, Some, None, Bool, true, false, not, ◌&&◌, ◌||◌, ◌==◌, if◌then◌else◌, max, refl, sym, ap, ◌∙◌, subst, arith, ⊎_elim}
-use Rattle.std.specs.Prelude.{slice_get, slice_set, nat_le, nat_lt}
-use Rattle.std.proofs.lemmas.Bool.{and_from, lt-ltb, cases_eq, eq-eqb}
+use Rattle.std.proofs.Common.{◌≡◌, ℕ, zero, suc, ◌+◌, ◌<◌, ◌≤◌, List, [], ◌∷◌, length, map, replicate, Option, Some, None, Bool, true, false, if◌then◌else◌, refl, sym, ap, ◌∙◌, subst, arith}
+use Rattle.std.specs.Prelude.{slice_get, nat_le}
+use Rattle.std.proofs.lemmas.Bool.{and_from, lt-ltb, eq-eqb}
 use Rattle.std.proofs.lemmas.Option.{slice_get_within}
 use Rattle.vale_base.specs.Limits.{width_limit}
 use Rattle.vale_base.specs.declared.name.Kind.{Kind}
 use Rattle.vale_base.specs.declared.spot.Spot.{Spot}
 use Rattle.vale_rules_spec.specs.Types.{Ty}
 use Rattle.vale_rules_spec.specs.Types as y
-use Rattle.vale_rules_spec.specs.Typed.{Exprs, no_exprs, more_exprs, type, types}
+use Rattle.vale_rules_spec.specs.Typed.{Exprs, no_exprs, more_exprs, types}
 use Rattle.vale_rules_spec.specs.Typing.{Env}
-use Rattle.vale_model.specs.Parts.{kind_of}
 use Rattle.vale_code.specs.Kinds as code
 use Rattle.vale_code.specs.Operands.{room_of, room_for}
 use Rattle.vale_code.specs.declared.func.Func.{Func}
@@ -22,10 +21,9 @@ use Rattle.vale_code.specs.declared.ty.Ty.{Ty as CodeTy}
 use Rattle.vale_code.specs.declared.ty.Ty.TheVariants as t
 use Rattle.vale_cert.specs.Known.{Known, fact_of, is_there, is_free, agrees}
 use Rattle.vale_cert.specs.Objects.{cells_of, fields_of, has_room, item_in}
-use Rattle.vale_cert.specs.Rules.{Effect, fine, gives_frozen, passes, passes_all, passed, takes_all, taken, after_passing, comes_back, calls, call_by_form, gets, makes, makes_of, if_types, all_fine}
+use Rattle.vale_cert.specs.Rules.{Effect, gives_frozen, passes, passes_all, passed, takes_all, taken, comes_back, calls, call_by_form, gets, makes_of, if_types, all_fine}
 use Rattle.vale_cert.specs.declared.facts.RegFact.{RegFact}
 use Rattle.vale_cert.specs.declared.facts.RegFact.TheVariants.{Empty, Held}
-use Rattle.vale_cert.specs.declared.rules.Kept.{Kept}
 use Rattle.vale_lowering.specs.Instructions.{registers_from}
 use Rattle.vale_lowering_objects.specs.Lowered.{gives_list}
 use Rattle.vale_lowering_objects.specs.Program.{code_type}
@@ -33,7 +31,7 @@ use Rattle.vale_lowering_objects.specs.Scopes.{Gone}
 use Rattle.vale_object_facts.specs.Slots.{Stand, with_gone, holding, given}
 use Rattle.vale_object_facts.specs.Stands.{with_args}
 use Rattle.vale_object_facts.specs.Suits.{code_types}
-use Rattle.vale_object_facts.proofs.Agreeing.{agrees_same, Facts, put, put_here, put_there, Hold, hold_less, hold_put, hold_at, hold_free}
+use Rattle.vale_object_facts.proofs.Agreeing.{agrees_same, Facts, put, put_there, Hold, hold_less, hold_put, hold_at, hold_free}
 use Rattle.vale_object_facts.proofs.Arguments.{args_below, args_fall, args_depth, Wait}
 use Rattle.vale_object_facts.proofs.Covering.{Site, at, held, Covers, nothing_above, holding_here, holding_there}
 use Rattle.vale_object_facts.proofs.Locals.{Stands, none_at, stands_gone}
@@ -63,13 +61,13 @@ room_for_all h n (suc m) le lt =
 
 -- ---- kinds that have cells
 
-struct_cells : (o : Option KindInfo) (tys : List CodeTy) (n : ℕ) → fields_of o ≡ Some tys → (cells_of o n ≡ Some tys) × (has_room o n ≡ true)
+pub struct_cells : (o : Option KindInfo) (tys : List CodeTy) (n : ℕ) → fields_of o ≡ Some tys → (cells_of o n ≡ Some tys) × (has_room o n ≡ true)
 struct_cells (Some (k.Struct name destructor fields)) tys n e = (e, refl)
 struct_cells (Some (k.Interface name methods)) tys n e = absurd (cc)
 struct_cells (Some (k.Array item)) tys n e = absurd (cc)
 struct_cells None tys n e = absurd (cc)
 
-array_cells : (o : Option KindInfo) (ty : CodeTy) (n : ℕ) → item_in o ≡ Some ty → nat_le n width_limit ≡ true → (cells_of o n ≡ Some (replicate n ty)) × (has_room o n ≡ true)
+pub array_cells : (o : Option KindInfo) (ty : CodeTy) (n : ℕ) → item_in o ≡ Some ty → nat_le n width_limit ≡ true → (cells_of o n ≡ Some (replicate n ty)) × (has_room o n ≡ true)
 array_cells (Some (k.Array item)) ty n e few = let same : item ≡ ty = cc in (ap (λ z. Some (replicate n z)) same, few)
 array_cells (Some (k.Interface name methods)) ty n e few = absurd (cc)
 array_cells (Some (k.Struct name destructor fields)) ty n e few = absurd (cc)
@@ -93,8 +91,10 @@ module _ (k : Site) where
   pub takes_each : (depth d : ℕ) (ts : List Ty) (h : ℕ) (F : Facts) (e : Effect) → depth ≡ d → Fine e.kept → Hold (room k) e.after F → h + length ts ≤ room k → Wait k ts h d F → Taken F ts h (takes_all depth (map (code_type k.parts) ts) (registers_from h (length ts)) e)
   takes_each depth d [] h F e same f hold le w = record { fine = f; hold = hold }
   takes_each depth d (t ∷ ts) h F e same f hold le w =
+      let rest =
       takes_each depth d ts (h + 1) (put h Empty F) (taken depth h (code_type k.parts t) e) same (uses_fine (room k) depth h (code_type k.parts t) d f hold (omega (arith, le)) w.0 same)
-      (passed_hold k (room k) e.after F h (code_type k.parts t) d hold w.0) (omega (arith, le)) (wait_above ts (h + 1) h d F Empty (omega arith) w.1)
+      (passed_hold k (room k) e.after F h (code_type k.parts t) d hold w.0) (omega (arith, le)) (wait_above ts (h + 1) h d F Empty (omega arith) w.1) in
+      record { fine = rest.fine; hold = rest.hold }
 
   -- ---- and given to a function
 
@@ -121,8 +121,10 @@ module _ (k : Site) where
   passes_each : (depth d : ℕ) (ts : List Ty) (h : ℕ) (F : Facts) (e : Effect) → depth ≡ d → Fine e.kept → Hold (room k) e.after F → h + length ts ≤ room k → Wait k ts h d F → Taken F ts h (passes_all depth (map (code_type k.parts) ts) (registers_from h (length ts)) e)
   passes_each depth d [] h F e same f hold le w = record { fine = f; hold = hold }
   passes_each depth d (t ∷ ts) h F e same f hold le w =
+      let rest =
       passes_each depth d ts (h + 1) (put h Empty F) (passed depth h (code_type k.parts t) e) same (one_passes depth d (code_type k.parts t) h F e same f hold (omega (arith, le)) w.0)
-      (passed_hold k (room k) e.after F h (code_type k.parts t) d hold w.0) (omega (arith, le)) (wait_above ts (h + 1) h d F Empty (omega arith) w.1)
+      (passed_hold k (room k) e.after F h (code_type k.parts t) d hold w.0) (omega (arith, le)) (wait_above ts (h + 1) h d F Empty (omega arith) w.1) in
+      record { fine = rest.fine; hold = rest.hold }
 
   -- ---- what comes of them
 
@@ -206,7 +208,7 @@ module _ (k : Site) where
     -- ---- objects
 
     -- of a kind with cells of these types
-    module _ {p : ℕ} (x : Ty) (kd : Kind) (own : code_type k.parts x ≡ t.Own kd) (some : y.is_void x ≡ false) (cells : cells_of (code.kind_of k.code kd) count ≡ Some (code_types k.parts (types es))) (enough : has_room (code.kind_of k.code kd) count ≡ true) where
+    module _ (x : Ty) (kd : Kind) (own : code_type k.parts x ≡ t.Own kd) (some : y.is_void x ≡ false) (cells : cells_of (code.kind_of k.code kd) count ≡ Some (code_types k.parts (types es))) (enough : has_room (code.kind_of k.code kd) count ≡ true) where
       abbrev make : Instr
       make = i.Make h kd (registers_from h count)
 
@@ -229,14 +231,14 @@ module _ (k : Site) where
           (takes_each known.depth s.depth (types es) h (at k args) (start known) (c.depth ∙ args_same) (record { types = enough; present = refl; depths = refl }) c.regs (room_for_all h (room k) count (omega (arith, r)) (omega (arith, r))) wait)
           x (gets known.depth (all_taken known).after h (code_type k.parts x) (all_taken known).kept) some refl)
 
-      pub make_runs : Runs k p (make ∷ []) (args ∷ []) args (falls (given h x before))
+      pub make_runs : {p : ℕ} → Runs k p (make ∷ []) (args ∷ []) args (falls (given h x before))
       make_runs =
           let info = some_kind (code.kind_of k.code kd) (code_types k.parts (types es)) count cells in
           single k make refl refl (in_order k make (lt-ltb kd.0 (length k.code.kinds) (slice_get_within k.code.kinds kd.0 info.0 info.1))) make_does
 
     -- ---- functions
 
-    module _ {p : ℕ} (n : ℕ) (f : Func) (x : Ty) (spot : Spot) (here : slice_get k.code.funcs n ≡ Some f) (plain : f.form ≡ 0) (takes : f.params ≡ code_types k.parts (types es)) (gives : f.result ≡ code_type k.parts x) where
+    module _ (n : ℕ) (f : Func) (x : Ty) (spot : Spot) (here : slice_get k.code.funcs n ≡ Some f) (plain : f.form ≡ 0) (takes : f.params ≡ code_types k.parts (types es)) (gives : f.result ≡ code_type k.parts x) where
       abbrev call : Instr
       call = i.Call h n (registers_from h count) spot
 
@@ -257,5 +259,5 @@ module _ (k : Site) where
           (passes_each known.depth s.depth (types es) h (at k args) (all_fine known.regs) (c.depth ∙ args_same) all_kept c.regs (room_for_all h (room k) count (omega (arith, r)) (omega (arith, r))) wait)
           x)
 
-      pub call_runs : Runs k p (call ∷ []) (args ∷ []) args (falls (given h x before))
+      pub call_runs : {p : ℕ} → Runs k p (call ∷ []) (args ∷ []) args (falls (given h x before))
       call_runs = single k call refl refl (in_order k call (lt-ltb n (length k.code.funcs) (slice_get_within k.code.funcs n f here))) call_does

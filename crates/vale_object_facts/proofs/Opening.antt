@@ -1,7 +1,7 @@
 -- How the walk goes through the destructuring of an owner, and through the scope of its names.
-use Rattle.std.proofs.Common.{◌≡◌, ◌≢◌, ℕ, suc, ◌+◌, ◌<◌, ◌≤◌, List, [], ◌∷◌, ◌++◌, length, map, Option, Some, Bool, true, false, not, ◌&&◌, ◌||◌, ◌==◌, if◌then◌else◌, refl, sym, ap, ◌∙◌, subst, arith, ⊎_elim}
+use Rattle.std.proofs.Common.{◌≡◌, ℕ, suc, ◌+◌, ◌<◌, ◌≤◌, List, [], ◌∷◌, length, map, Some, Bool, true, false, ◌&&◌, ◌==◌, if◌then◌else◌, refl, sym, ap, ◌∙◌, subst, arith, ⊎_elim}
 use Rattle.std.specs.Prelude.{slice_set}
-use Rattle.std.proofs.lemmas.Bool.{cases_eq, eq-eqb, ne_eqb}
+use Rattle.std.proofs.lemmas.Bool.{cases_eq}
 use Rattle.vale_base.specs.declared.name.Kind.{Kind}
 use Rattle.vale_base.specs.declared.spot.Spot.{Spot}
 use Rattle.vale_syntax.specs.declared.tree.NameAt.{NameAt}
@@ -11,24 +11,23 @@ use Rattle.vale_rules_spec.specs.Typed.{Function}
 use Rattle.vale_rules_spec.specs.Typing.{Env, with_local as env_with_local, with_locals}
 use Rattle.vale_model.specs.Expressions.{numbers_of}
 use Rattle.vale_model.specs.Parts.{kind_of}
-use Rattle.vale_code.specs.Kinds as code
 use Rattle.vale_code.specs.Operands.{room_for}
 use Rattle.vale_code.specs.declared.instr.Instr.{Instr}
 use Rattle.vale_code.specs.declared.instr.Instr.TheVariants as i
 use Rattle.vale_code.specs.declared.ty.Ty.{Ty as CodeTy}
 use Rattle.vale_code.specs.declared.ty.Ty.TheVariants as t
 use Rattle.vale_cert.specs.Known.{Known, fact_of, is_free, agrees}
-use Rattle.vale_cert.specs.Objects.{owner_kind, fields_of}
+use Rattle.vale_cert.specs.Objects.{owner_kind}
 use Rattle.vale_cert.specs.Rules.{Effect, is_usable, gets, leads, fields_by, opens_of, puts_all}
 use Rattle.vale_cert.specs.declared.facts.RegFact.{RegFact}
 use Rattle.vale_cert.specs.declared.facts.RegFact.TheVariants.{Empty, Held}
 use Rattle.vale_cert.specs.declared.rules.Kept.{Kept}
-use Rattle.vale_lowering.specs.Instructions.{only_if, registers_from}
+use Rattle.vale_lowering.specs.Instructions.{registers_from}
 use Rattle.vale_lowering_objects.specs.Lowered.{all_gives, locals_after, locals_code, if_comes, drop_entry}
 use Rattle.vale_lowering_objects.specs.Program.{code_type}
-use Rattle.vale_lowering_objects.specs.Scopes.{Gives, gives_of, is_value, entry, Scope, Gone, without, After, comes, never}
-use Rattle.vale_object_facts.specs.Slots.{local, Stand, scope_at, with_gone, holding, given, with_local, is_lost, slot_fact, fact_in}
-use Rattle.vale_object_facts.specs.Stands.{Stands as Marks, comes_stands, drop_local, locals_stands}
+use Rattle.vale_lowering_objects.specs.Scopes.{gives_of, is_value, entry, Scope, Gone, without, After, comes, never}
+use Rattle.vale_object_facts.specs.Slots.{Stand, scope_at, with_gone, holding, given, with_local, fact_in}
+use Rattle.vale_object_facts.specs.Stands.{Stands as Marks, drop_local, locals_stands}
 use Rattle.vale_object_facts.specs.Suits.{code_types, is_opened}
 use Rattle.vale_object_facts.proofs.Agreeing.{agrees_same, Facts, put, put_here, put_there, Hold, hold_put, hold_at}
 use Rattle.vale_object_facts.proofs.Covering.{Site, at, held, Covers, Falls, alike_facts, alike_without, not_gone, holding_here, holding_there}
@@ -81,9 +80,11 @@ module _ (k : Site) where
   puts_each : (depth d : ℕ) (xs : List Ty) (h : ℕ) (F : Facts) (e : Effect) → depth ≡ d → Fine e.kept → Hold (room k) e.after F → h + length xs ≤ room k → ((q : ℕ) → h ≤ q → F q ≡ Empty) → Filled F xs h d (puts_all depth (map (code_type k.parts) xs) (registers_from h (length xs)) e)
   puts_each depth d [] h F e same f hold le none = record { fine = f; hold = hold }
   puts_each depth d (x ∷ xs) h F e same f hold le none =
+      let rest =
       puts_each depth d xs (h + 1) (put h (held k x d) F) (gets depth e.after h (code_type k.parts x) e.kept) same (overwrites_fine (room k) h f hold (omega (arith, le)) (ap is_free (none h (omega arith))))
       (hold_put (room k) h (Held (code_type k.parts x) depth false) (held k x d) (subst (λ z. agrees (held k x d) (Held (code_type k.parts x) z false) ≡ true) (sym same) (agrees_same (held k x d))) hold)
-      (omega (arith, le)) (λ q lt. put_there h (held k x d) F q (omega (arith, lt)) ∙ none q (omega (arith, lt)))
+      (omega (arith, le)) (λ q lt. put_there h (held k x d) F q (omega (arith, lt)) ∙ none q (omega (arith, lt))) in
+      record { fine = rest.fine; hold = rest.hold }
 
   -- they are what the locals hold
   local_is : (n h : ℕ) (x : Ty) (s : Stand) (q : ℕ) → Falls k h s.slots → at k (with_local n h x s) q ≡ put h (held k x s.depth) (at k s) q
@@ -112,9 +113,9 @@ module _ (k : Site) where
 
   -- ---- an owner is taken apart
 
-  module _ {p : ℕ} (env : Env) (h : ℕ) (s : Stand) (st : Stands k env h s) (ns : List ℕ) (xs : List Ty) (z : Ty) (fs : List Function) (same : length ns ≡ length xs) (opened : is_opened k.parts k.code fs z xs) where
-    abbrev open : Instr
-    open = i.Open (registers_from h (length ns)) h
+  module _ (env : Env) (h : ℕ) (s : Stand) (st : Stands k env h s) (ns : List ℕ) (xs : List Ty) (z : Ty) (fs : List Function) (same : length ns ≡ length xs) (opened : is_opened k.parts k.code fs z xs) where
+    abbrev taking : Instr
+    taking = i.Open (registers_from h (length ns)) h
 
     abbrev kd : Kind
     kd = kind_of k.parts (y.kind opened.0)
@@ -148,26 +149,26 @@ module _ (k : Site) where
     abbrev put_in : Known → Bool → Effect
     put_in known live = puts_all known.depth fields (registers_from h (length xs)) (record { kept = led known.depth live; after = slice_set known.regs h Empty })
 
-    row_is : (known : Known) (live : Bool) → fact_of known.regs h ≡ Held (t.Own kd) s.depth live → row_at k open known ≡ put_in known live
+    row_is : (known : Known) (live : Bool) → fact_of known.regs h ≡ Held (t.Own kd) s.depth live → row_at k taking known ≡ put_in known live
     row_is known live e =
         ap (λ f. opens_of known.depth (fields_by k.code (owner_kind f)) (registers_from h (length ns)) (record { kept = leads (is_usable known.depth f) f (fields_by k.code (owner_kind f)); after = slice_set known.regs h Empty })) e
         ∙ ap (λ o. opens_of known.depth o (registers_from h (length ns)) (record { kept = leads (is_usable known.depth (Held (t.Own kd) s.depth live)) (Held (t.Own kd) s.depth live) o; after = slice_set known.regs h Empty })) opened.2
         ∙ ap (λ n. puts_all known.depth fields (registers_from h n) (record { kept = led known.depth live; after = slice_set known.regs h Empty })) same
 
-    by : room_for open ≤ room k → (known : Known) → Covers k known whole → (live : Bool) × (fact_of known.regs h ≡ Held (t.Own kd) s.depth live) → Does k open known (all_locals ns xs h s)
+    by : room_for taking ≤ room k → (known : Known) → Covers k known whole → (live : Bool) × (fact_of known.regs h ≡ Held (t.Own kd) s.depth live) → Does k taking known (all_locals ns xs h s)
     by r known c e =
         let row = row_is known e.0 e.1 in
         let enough = room_for_all h (room k) (length ns) (omega (arith, r)) (omega (arith, r)) in
         let done = puts_each known.depth s.depth xs h empty (record { kept = led known.depth e.0; after = slice_set known.regs h Empty }) c.depth (record { types = refl; present = refl; depths = usable (t.Own kd) known.depth s.depth e.0 c.depth }) (hold_put (room k) h Empty Empty refl c.regs) (omega (arith, enough, same)) empty_none in
-        does_by k open (put_in known e.0).after (filled xs h s.depth empty)
+        does_by k taking (put_in known e.0).after (filled xs h s.depth empty)
         (record { types = ap (λ x. x.kept.types) row ∙ done.fine.types; present = ap (λ x. x.kept.present) row ∙ done.fine.present; depths = ap (λ x. x.kept.depths) row ∙ done.fine.depths })
         (ap (λ x. x.after) row) done.hold (c.depth ∙ sym (all_depth ns xs h s)) (filled_says ns xs h s empty same st.falls empty_says)
 
-    does : room_for open ≤ room k → (known : Known) → Covers k known whole → Does k open known (all_locals ns xs h s)
+    does : room_for taking ≤ room k → (known : Known) → Covers k known whole → Does k taking known (all_locals ns xs h s)
     does r known c = by r known c (hold_at (room k) h (t.Own kd) s.depth c.regs (omega (arith, r)) here)
 
-    pub opens_run : Runs k p (open ∷ []) (whole ∷ []) whole (falls (all_locals ns xs h s))
-    opens_run = single k open refl refl (in_order k open refl) does
+    pub opens_run : {p : ℕ} → Runs k p (taking ∷ []) (whole ∷ []) whole (falls (all_locals ns xs h s))
+    opens_run = single k taking refl refl (in_order k taking refl) does
 
   -- ---- and its names end with their scope
 

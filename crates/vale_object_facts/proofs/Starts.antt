@@ -1,32 +1,24 @@
 -- What a first step starts from: a local in its register, or a reference.
-use Rattle.std.proofs.Common.{◌≡◌, ◌≢◌, ℕ, ◌+◌, ◌<◌, ◌≤◌, List, [], ◌∷◌, length, Option, Some, None, Bool, true, false, not, ◌&&◌, ◌||◌, ◌==◌, if◌then◌else◌, refl, sym, ap, ◌∙◌, subst, arith, ⊎_elim, ◌⊎◌}
-use Rattle.std.proofs.lemmas.Bool.{and_parts, cases_eq, eq-eqb, eqb-true, ne_eqb}
-use Rattle.vale_syntax.specs.declared.tree.NameAt.{NameAt}
+use Rattle.std.proofs.Common.{◌≡◌, ℕ, ◌+◌, ◌<◌, ◌≤◌, List, [], ◌∷◌, length, Option, Some, Bool, true, false, not, ◌&&◌, ◌||◌, ◌==◌, if◌then◌else◌, refl, sym, ap, ◌∙◌, subst, arith, ⊎_elim}
+use Rattle.std.proofs.lemmas.Bool.{and_parts, eqb-true}
 use Rattle.vale_rules_spec.specs.TypeRules.{borrow_gives}
 use Rattle.vale_rules_spec.specs.Types.{Ty, View, blind, direct, shared, frozen, is_frozen, is_direct, is_owner, Seen}
 use Rattle.vale_rules_spec.specs.Types as y
-use Rattle.vale_rules_spec.specs.Typed.{expr, name}
 use Rattle.vale_rules_spec.specs.Typing.{Env}
 use Rattle.vale_code.specs.declared.instr.Instr.{Instr}
-use Rattle.vale_code.specs.declared.instr.Instr.TheVariants as i
-use Rattle.vale_cert.specs.Known.{is_free, agrees}
-use Rattle.vale_cert.specs.declared.facts.RegFact.TheVariants.{Empty, Held}
 use Rattle.vale_lowering.specs.Instructions.{only_if}
-use Rattle.vale_lowering_objects.specs.Lowered.{stays_of, free_register, Origin, at_hand, reference, origin_of, lend, lend_local, is_there, from_local, then_code}
-use Rattle.vale_lowering_objects.specs.Program.{code_type}
-use Rattle.vale_lowering_objects.specs.Scopes.{Gives, gives_of, is_owner as owner_gives, Entry, entry, find, Gone, is_gone, After, comes}
-use Rattle.vale_object_facts.specs.Slots.{Role, local, waits, at_hand as role_at_hand, is_listed, list_slot, Slot, Slots, scope_of, scope_at, Stand, with_gone, holding, is_lost, slot_fact, fact_in}
+use Rattle.vale_lowering_objects.specs.Lowered.{stays_of, free_register, Origin, at_hand, reference, lend_local, from_local}
+use Rattle.vale_lowering_objects.specs.Scopes.{gives_of, is_owner as owner_gives, Entry, entry, find, Gone, is_gone, After}
+use Rattle.vale_object_facts.specs.Slots.{Role, local, waits, at_hand as role_at_hand, is_listed, list_slot, Slots, scope_of, scope_at, Stand, with_gone, holding}
 use Rattle.vale_object_facts.specs.Stands.{Stands as Marks, gone_of}
 use Rattle.vale_object_facts.specs.Suits.{starts_from, lent_from}
 use Rattle.vale_object_facts.proofs.Arguments.{find_below}
 use Rattle.vale_object_facts.proofs.Cells.{Leads}
-use Rattle.vale_object_facts.proofs.Covering.{Site, at, held, Says, Falls, holding_here, holding_there}
+use Rattle.vale_object_facts.proofs.Covering.{Site, held, Falls, holding_here}
 use Rattle.vale_object_facts.proofs.Leaving.{owner_is}
 use Rattle.vale_object_facts.proofs.Locals.{Named, Stands, stands_gone, below, holds, load_runs, lend_runs}
-use Rattle.vale_object_facts.proofs.Owners.{free_type}
 use Rattle.vale_object_facts.proofs.Parts.{chosen}
-use Rattle.vale_object_facts.proofs.Rows.{Beside, beside_same, beside_one}
-use Rattle.vale_object_facts.proofs.Runs.{End, ending, Runs, both, falls}
+use Rattle.vale_object_facts.proofs.Runs.{ending, Runs, both, falls}
 use Rattle.vale_object_facts.proofs.Waits.{Unnamed}
 use Rattle.vale_object_facts.proofs.Ways.{Clean, clean_both}
 

@@ -1,17 +1,17 @@
 -- What a step does from where it starts, once its index stands in a register.
-use Rattle.std.proofs.Common.{◌≡◌, ◌≢◌, ℕ, ◌+◌, ◌<◌, ◌≤◌, [], ◌∷◌, Some, None, Bool, true, false, not, ◌&&◌, ◌||◌, ◌==◌, if◌then◌else◌, refl, sym, ap, ◌∙◌, subst, arith, ⊎_elim}
-use Rattle.std.proofs.lemmas.Bool.{cases_eq, eq-eqb, ne_eqb}
+use Rattle.std.proofs.Common.{◌≡◌, ◌≢◌, ℕ, ◌+◌, ◌<◌, [], ◌∷◌, Bool, true, false, ◌&&◌, if◌then◌else◌, refl, sym, ap, ◌∙◌, subst, arith}
+use Rattle.std.proofs.lemmas.Bool.{eq-eqb, ne_eqb}
 use Rattle.vale_base.specs.declared.spot.Spot.{Spot}
-use Rattle.vale_rules_spec.specs.TypeRules.{is_iso, borrow_gives}
+use Rattle.vale_rules_spec.specs.TypeRules.{borrow_gives}
 use Rattle.vale_rules_spec.specs.Types.{Ty, View, blind, direct, shared, frozen, is_frozen, part_seen, Seen}
 use Rattle.vale_rules_spec.specs.Types as y
 use Rattle.vale_rules_spec.specs.Typing.{Env}
 use Rattle.vale_model.specs.Parts.{field_place}
 use Rattle.vale_cert.specs.Known.{is_free, agrees}
-use Rattle.vale_cert.specs.declared.facts.RegFact.TheVariants.{Empty, Held}
+use Rattle.vale_cert.specs.declared.facts.RegFact.TheVariants.{Empty}
 use Rattle.vale_lowering_objects.specs.Lowered.{Origin, at_hand, reference, load_field, load_element, swap_field, swap_element}
-use Rattle.vale_lowering_objects.specs.Scopes.{Gives, gives_of, waiting, Gone, is_gone}
-use Rattle.vale_object_facts.specs.Slots.{waits, Slots, scope_of, scope_at, Stand, with_gone, holding, with_waiting, is_lost, slot_fact, fact_in}
+use Rattle.vale_lowering_objects.specs.Scopes.{Gives, waiting, is_gone}
+use Rattle.vale_object_facts.specs.Slots.{waits, Slots, scope_of, Stand, with_gone, holding, with_waiting, slot_fact, fact_in}
 use Rattle.vale_object_facts.specs.Stands.{lent}
 use Rattle.vale_object_facts.specs.Suits.{HasField, HasItems, refers, is_read}
 use Rattle.vale_object_facts.proofs.Agreeing.{agrees_same}
@@ -56,7 +56,7 @@ module _ (k : Site) where
 
   -- ---- a field or an element is read
 
-  module _ {q : ℕ} {env : Env} (h : ℕ) (over : Stand) (st : Stands k env h over) (v : View) (t : Ty) (x : Seen) (spot : Spot) (o : Origin) (read : is_read v t x) where
+  module _ {env : Env} (h : ℕ) (over : Stand) (st : Stands k env h over) (v : View) (t : Ty) (x : Seen) (spot : Spot) (o : Origin) (read : is_read v t x) where
     free_by : {j : ℕ} {s : Stand} → From h over j s → is_free (at k s h) ≡ true
     free_by stays = free_at k h st (omega arith)
     free_by (lies u e) = ap is_free (holding_here k h u over) ∙ free_type k.parts u over.depth e
@@ -69,10 +69,10 @@ module _ (k : Site) where
     depth_by stays = refl
     depth_by (lies u e) = refl
 
-    pub field_steps : {j : ℕ} {s : Stand} (m : ℕ) → From h over j s → HasField k.parts k.code v m t → Leads k s o v → Runs k q (load_field o (field_place k.parts v m) spot h) (s ∷ []) s (falls (holding h (lent x) over))
-    field_steps {s = s} m from f l =
+    pub field_steps : {q j : ℕ} {s : Stand} (m : ℕ) → From h over j s → HasField k.parts k.code v m t → Leads k s o v → Runs k q (load_field o (field_place k.parts v m) spot h) (s ∷ []) s (falls (holding h (lent x) over))
+    field_steps {q} {s = s} m from f l =
         subst (λ z. Runs k q (load_field o (field_place k.parts v m) spot h) (s ∷ []) s (falls (holding h (lent z) over))) (sym read.0)
-        (field_read k v t spot h read.1 (free_by from) (depth_by from) (beside_by from) o m f l)
+        (field_read k s over v t spot h read.1 (free_by from) (depth_by from) (beside_by from) o m f l)
 
     -- with its index in the first free register
     indexed_free : {j : ℕ} {s : Stand} → From h over j s → is_free (at k (holding j y.int s) h) ≡ true
@@ -83,15 +83,15 @@ module _ (k : Site) where
     indexed_beside stays = beside_one k h y.int over
     indexed_beside (lies u e) = beside_above k h (h + 1) y.int (holding h u over) over refl (none_at k (h + 1) st (omega arith)) (beside_one k h u over)
 
-    pub element_steps : {j : ℕ} {s : Stand} (z : Ty) → z ≡ y.int → From h over j s → HasItems k.parts k.code v t → Leads k s o v → Runs k q (load_element o j spot h) (holding j z s ∷ []) (holding j z s) (falls (holding h (lent x) over))
-    element_steps {j} {s} z is from f l =
+    pub element_steps : {q j : ℕ} {s : Stand} (z : Ty) → z ≡ y.int → From h over j s → HasItems k.parts k.code v t → Leads k s o v → Runs k q (load_element o j spot h) (holding j z s ∷ []) (holding j z s) (falls (holding h (lent x) over))
+    element_steps {q} {j} {s} z is from f l =
         subst (λ z. Runs k q (load_element o j spot h) (holding j z s ∷ []) (holding j z s) (falls (holding h (lent x) over))) (sym is)
         (subst (λ z. Runs k q (load_element o j spot h) (holding j y.int s ∷ []) (holding j y.int s) (falls (holding h (lent z) over))) (sym read.0)
-        (element_read k v t spot h read.1 (indexed_free from) (depth_by from) (indexed_beside from) o j f (holding_here k j y.int s) (leads_holding s j y.int o v (none_at k j (from_stands st from) (omega arith)) l)))
+        (element_read k (holding j y.int s) over v t spot h read.1 (indexed_free from) (depth_by from) (indexed_beside from) o j f (holding_here k j y.int s) (leads_holding s j y.int o v (none_at k j (from_stands st from) (omega arith)) l)))
 
   -- ---- a field or an element gets what waits in a register, which gets the old value
 
-  module _ {q : ℕ} {env : Env} (new : ℕ) (z : Ty) (over : Stand) (st : Stands k env new over) (there : is_gone new over.gone ≡ false) (v : View) (spot : Spot) (o : Origin) (unfrozen : is_frozen v ≡ false) where
+  module _ {env : Env} (new : ℕ) (z : Ty) (over : Stand) (st : Stands k env new over) (there : is_gone new over.gone ≡ false) (v : View) (spot : Spot) (o : Origin) (unfrozen : is_frozen v ≡ false) where
     -- with what waits
     abbrev pub wait : Stand
     wait = with_gone over.gone (with_waiting new z over)
@@ -134,12 +134,12 @@ module _ (k : Site) where
     none_next stays = wait_none (new + 1) (omega arith)
     none_next (lies u e) = holding_there k (new + 1) u wait (new + 1 + 1) (omega arith) ∙ wait_none (new + 1 + 1) (omega arith)
 
-    pub field_sets : {j : ℕ} {s : Stand} (m : ℕ) → From (new + 1) wait j s → HasField k.parts k.code v m z → Leads k s o v → Runs k q (swap_field o (field_place k.parts v m) spot new) (s ∷ []) s (falls (holding new z over))
-    field_sets m from f l = field_swapped k v z spot new unfrozen (value_by from) (new_depth from) (new_beside from) o m f l
+    pub field_sets : {q j : ℕ} {s : Stand} (m : ℕ) → From (new + 1) wait j s → HasField k.parts k.code v m z → Leads k s o v → Runs k q (swap_field o (field_place k.parts v m) spot new) (s ∷ []) s (falls (holding new z over))
+    field_sets {s = s} m from f l = field_swapped k s over v z spot new unfrozen (value_by from) (new_depth from) (new_beside from) o m f l
 
-    pub element_sets : {j : ℕ} {s : Stand} (w : Ty) → w ≡ y.int → From (new + 1) wait j s → HasItems k.parts k.code v z → Leads k s o v → Runs k q (swap_element o j spot new) (holding j w s ∷ []) (holding j w s) (falls (holding new z over))
-    element_sets {j} {s} w is from f l =
+    pub element_sets : {q j : ℕ} {s : Stand} (w : Ty) → w ≡ y.int → From (new + 1) wait j s → HasItems k.parts k.code v z → Leads k s o v → Runs k q (swap_element o j spot new) (holding j w s ∷ []) (holding j w s) (falls (holding new z over))
+    element_sets {q} {j} {s} w is from f l =
         let lt = above from in
         subst (λ w. Runs k q (swap_element o j spot new) (holding j w s ∷ []) (holding j w s) (falls (holding new z over))) (sym is)
-        (element_swapped k v z spot new unfrozen (holding_there k j y.int s new (omega (arith, lt)) ∙ value_by from) (new_depth from)
+        (element_swapped k (holding j y.int s) over v z spot new unfrozen (holding_there k j y.int s new (omega (arith, lt)) ∙ value_by from) (new_depth from)
         (beside_above k new j y.int s over refl (none_at k j st (omega (arith, lt))) (new_beside from)) o j f (holding_here k j y.int s) (leads_holding s j y.int o v (none_next from) l))

@@ -191,9 +191,9 @@ module _ (k : Site) (c : Context k) where
       (λ g. next_free k x st g))
 
   -- where a step starts, as it is known there
-  leads_now : {h j : ℕ} {g : Gone} {over t : Stand} {o : Origin} {v : View} → From h (with_gone g over) j t → Leads k (with_gone g t) o v → Leads k t o v
-  leads_now stays l = l
-  leads_now (lies u e) l = l
+  leads_now : {h j : ℕ} {t : Stand} (g : Gone) (over : Stand) (o : Origin) (v : View) → From h (with_gone g over) j t → Leads k (with_gone g t) o v → Leads k t o v
+  leads_now g over o v stays l = l
+  leads_now g over o v (lies u e) l = l
 
   reference_at : (h : ℕ) (u : Ty) (s : Stand) (v : View) → refers u v → Leads k (holding h u s) (reference h) v
   reference_at h u s v r = holding_here k h u s ∙ ap (λ z. says_held k z s.depth) (refers_is u v r)
@@ -403,17 +403,17 @@ module _ (k : Site) (c : Context k) where
     step_runs : (env : Env) (x : Step) (o : Origin) (p h j : ℕ) (g : Gone) (over t : Stand) → Stands k env h (with_gone g over) → From h (with_gone g over) j t → ((c : Gone) → gone_of (step_after x j (scope_at over) g) ≡ c → Leads k (with_gone c t) o (step_view x)) → step_suits k.parts k.code fs env x
         → Clean (step_code a o x p h j (scope_at over) g)
         → Runs k p (step_code a o x p h j (scope_at over) g) (step_stands x h j over t) t (ending (step_after x j (scope_at over) g) (λ c. holding h (lent (step_seen x)) (with_gone c over)))
-    step_runs env (field x view may_be_set at m) o p h j g over t st from leads suits clean = field_steps k h (with_gone g over) st view suits.0 x at o suits.2 m from suits.1 (leads_now from (leads g refl))
+    step_runs env (field x view may_be_set at m) o p h j g over t st from leads suits clean = field_steps k h (with_gone g over) st view suits.0 x at o suits.2 m.0 from suits.1 (leads_now g over o view from (leads g refl))
     step_runs env (index x view at e1) o p h j g over t st stays leads suits clean =
         chosen k (agree copy (gives_of (type e1))) h clean
         (λ some cl.
-        after_value e1 p h (with_gone g over) (load_element o h at) (λ c. holding h (lent x) (with_gone c over)) st cl (λ cl. value_runs env e1 p h (with_gone g over) (copy_value (type e1) some) st suits.4 cl)
+        after_value e1 p h (with_gone g over) (load_element o h at h) (λ c. holding h (lent x) (with_gone c over)) st cl (λ cl. value_runs env e1 p h (with_gone g over) (copy_value (type e1) some) st suits.4 cl)
         (λ c q is. element_steps k h (with_gone c over) (stands_gone k c st) view suits.0 x at o suits.2 (type e1) suits.3 stays suits.1 (leads c is)))
     step_runs env (index x view at e1) o p h j g over t st (lies u plain) leads suits clean =
         chosen k (agree copy (gives_of (type e1))) h clean
         (λ some cl.
         let above = stands_holding k u plain st in
-        after_value e1 p (h + 1) (holding h u (with_gone g over)) (load_element o (h + 1) at) (λ c. holding h (lent x) (with_gone c over)) above cl (λ cl. value_runs env e1 p (h + 1) (holding h u (with_gone g over)) (copy_value (type e1) some) above suits.4 cl)
+        after_value e1 p (h + 1) (holding h u (with_gone g over)) (load_element o (h + 1) at h) (λ c. holding h (lent x) (with_gone c over)) above cl (λ cl. value_runs env e1 p (h + 1) (holding h u (with_gone g over)) (copy_value (type e1) some) above suits.4 cl)
         (λ c q is. element_steps k h (with_gone c over) (stands_gone k c st) view suits.0 x at o suits.2 (type e1) suits.3 (lies u plain) suits.1 (leads c is)))
     step_runs env (method x view at m es) o p h j g over t st from leads suits clean = absurd suits
 
@@ -434,7 +434,7 @@ module _ (k : Site) (c : Context k) where
         → Clean (swap_code a o x p new j (waiting new (gives_of z) ∷ scope_at over) g)
         → Runs k p (swap_code a o x p new j (waiting new (gives_of z) ∷ scope_at over) g) (swap_stands x z new j over t) t (ending (step_after x j (waiting new (gives_of z) ∷ scope_at over) g) (λ c. holding new z (with_gone c over)))
     set_runs env (field x view may_be_set at m) o z p new j g over t st there from leads suits clean =
-        field_sets k new z (with_gone g over) (stands_gone k g st) there view at o suits.0 m from suits.1 (leads_now from (leads g refl))
+        field_sets k new z (with_gone g over) (stands_gone k g st) there view at o suits.0 m.0 from suits.1 (leads_now g (with_waiting new z over) o view from (leads g refl))
     set_runs env (index x view at e1) o z p new j g over t st there stays leads suits clean =
         chosen k (agree copy (gives_of (type e1))) new clean
         (λ some cl.

@@ -114,9 +114,9 @@ module _ (r : ℕ) (named : Bool) (local : ℕ) where
     node_keeps (array at x es) h s g lt u t = args_keep es h s g lt u t
     node_keeps (form f) h s g lt u t = form_keeps f h s g lt u t
     node_keeps (set at p e) h s g lt u t =
-        let a = still_parts (is_local local p) (expr_changes local p || expr_changes local e) t in
-        let b = still_parts (expr_changes local p) (expr_changes local e) a.1 in
-        then_keeps g (expr_after e h s g) (λ g. place_after p (gives_of (type e)) h s g) (expr_keeps e h s g lt u b.1) (λ c e'. place_keeps p (gives_of (type e)) h s c lt u b.0 ∙ e')
+        let a = still_parts (is_local local p || expr_changes local p) (expr_changes local e) t in
+        let b = still_parts (is_local local p) (expr_changes local p) a.0 in
+        then_keeps g (expr_after e h s g) (λ g. place_after p (gives_of (type e)) h s g) (expr_keeps e h s g lt u a.1) (λ c e'. place_keeps p (gives_of (type e)) h s c lt u b.1 ∙ e')
     node_keeps (steps e (more_steps x xs)) h s g lt u t =
         let a = still_parts (expr_changes local e) (step_changes local x || steps_change local xs) t in
         let b = still_parts (step_changes local x) (steps_change local xs) a.1 in
@@ -204,10 +204,10 @@ module _ (r : ℕ) (named : Bool) (local : ℕ) where
 
     form_keeps : (f : Form) (h : ℕ) (s : Scope) (g : Gone) → r < h → Unnamed s → Still (form_changes local f) → Keeps g (form_after f h s g)
     form_keeps (branch at c b es) h s g lt u t =
-        let x = still_parts (expr_changes local c) (block_changes local b || elses_change local es) t in
-        let y = still_parts (block_changes local b) (elses_change local es) x.1 in
-        then_keeps g (expr_after c h s g) (λ now. met g (block_after b (h + 1) s now) (elses_after es g h s now)) (expr_keeps c h s g lt u x.0)
-        (λ now e. met_keeps g g (block_after b (h + 1) s now) (elses_after es g h s now) refl (block_keeps b (h + 1) s now (omega (arith, lt)) u y.0 ∙ e) (elses_keep es g h s now lt u y.1 (sym e) ∙ e))
+        let x = still_parts (expr_changes local c || block_changes local b) (elses_change local es) t in
+        let y = still_parts (expr_changes local c) (block_changes local b) x.0 in
+        then_keeps g (expr_after c h s g) (λ now. met g (block_after b (h + 1) s now) (elses_after es g h s now)) (expr_keeps c h s g lt u y.0)
+        (λ now e. met_keeps g g (block_after b (h + 1) s now) (elses_after es g h s now) refl (block_keeps b (h + 1) s now (omega (arith, lt)) u y.1 ∙ e) (elses_keep es g h s now lt u x.1 (sym e) ∙ e))
     form_keeps (pure at b) h s g lt u t = block_keeps b (h + 1) s g (omega (arith, lt)) u t
     form_keeps (parallel_range at n a e b) h s g lt u t = refl
     form_keeps (parallel_each at n e b) h s g lt u t = refl
@@ -216,10 +216,10 @@ module _ (r : ℕ) (named : Bool) (local : ℕ) where
     elses_keep no_else before h s g lt u t e = refl
     elses_keep (otherwise b) before h s g lt u t e = block_keeps b (h + 1) s g (omega (arith, lt)) u t
     elses_keep (more_elses (else_if at c b) es) before h s g lt u t e =
-        let x = still_parts (expr_changes local c) (block_changes local b || elses_change local es) t in
-        let y = still_parts (block_changes local b) (elses_change local es) x.1 in
-        then_keeps g (expr_after c h s g) (λ g. met before (block_after b (h + 1) s g) (elses_after es before h s g)) (expr_keeps c h s g lt u x.0)
-        (λ now e'. met_keeps g before (block_after b (h + 1) s now) (elses_after es before h s now) e (block_keeps b (h + 1) s now (omega (arith, lt)) u y.0 ∙ e') (elses_keep es before h s now lt u y.1 (e ∙ sym e') ∙ e'))
+        let x = still_parts (expr_changes local c || block_changes local b) (elses_change local es) t in
+        let y = still_parts (expr_changes local c) (block_changes local b) x.0 in
+        then_keeps g (expr_after c h s g) (λ g. met before (block_after b (h + 1) s g) (elses_after es before h s g)) (expr_keeps c h s g lt u y.0)
+        (λ now e'. met_keeps g before (block_after b (h + 1) s now) (elses_after es before h s now) e (block_keeps b (h + 1) s now (omega (arith, lt)) u y.1 ∙ e') (elses_keep es before h s now lt u x.1 (e ∙ sym e') ∙ e'))
 
     pub block_keeps : (b : Block) (h : ℕ) (s : Scope) (g : Gone) → r < h → Unnamed s → Still (block_changes local b) → Keeps g (block_after b h s g)
     block_keeps (block at end x ss) h s g lt u t = stmts_keep ss h s g lt u t
@@ -253,9 +253,9 @@ module _ (r : ℕ) (named : Bool) (local : ℕ) where
     stmt_keeps (return_value at e) h s g lt u t = ap (is_gone r) (none_run (expr_after e h s g)) ∙ expr_keeps e h s g lt u t
     stmt_keeps (while at c b) h s g lt u t = let x = still_parts (expr_changes local c) (block_changes local b) t in loop_keeps g (expr_after c h s g) (expr_keeps c h s g lt u x.0)
     stmt_keeps (foreach at n a e b) h s g lt u t =
-        let x = still_parts (expr_changes local a) (expr_changes local e || block_changes local b) t in
-        let y = still_parts (expr_changes local e) (block_changes local b) x.1 in
-        then_keeps g (expr_after a h s g) (λ g. expr_after e (h + 1) s g) (expr_keeps a h s g lt u x.0) (λ c e'. expr_keeps e (h + 1) s c (omega (arith, lt)) u y.0 ∙ e')
+        let x = still_parts (expr_changes local a || expr_changes local e) (block_changes local b) t in
+        let y = still_parts (expr_changes local a) (expr_changes local e) x.0 in
+        then_keeps g (expr_after a h s g) (λ g. expr_after e (h + 1) s g) (expr_keeps a h s g lt u y.0) (λ c e'. expr_keeps e (h + 1) s c (omega (arith, lt)) u y.1 ∙ e')
     stmt_keeps (form_stmt f) h s g lt u t = form_keeps f h s g lt u t
     stmt_keeps (express e) h s g lt u t = expr_keeps e h s g lt u t
     stmt_keeps (declare n x e) h s g lt u t = refl
