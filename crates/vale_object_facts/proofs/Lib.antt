@@ -7,7 +7,8 @@ mod Cells
 mod Counting
 mod Covering
 mod Entries
-mod Examples
+pub mod Examples
+mod Fitting
 mod Functions
 mod Labels
 mod Leaving
