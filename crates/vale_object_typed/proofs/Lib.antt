@@ -1,0 +1,4 @@
+mod Holding
+mod Shapes
+mod Steps
+mod Types
