@@ -1,8 +1,8 @@
 -- What is known of expressions that name places: locals, and what steps lead to.
-use Rattle.std.proofs.Common.{◌≡◌, ℕ, Bool, true, false, not, ◌||◌, ◌&&◌, ◌==◌, List, [], ◌∷◌, Option, Some, None, is_some, if◌then◌else◌, ◌⊎◌, inl, inr, refl, sym, ap, ◌∙◌, subst}
+use Rattle.std.proofs.Common.{◌≡◌, ℕ, Bool, true, false, not, ◌||◌, ◌&&◌, ◌==◌, List, [], ◌∷◌, Option, Some, None, is_some, if◌then◌else◌, ◌⊎◌, inl, inr, refl, sym, ap, ◌∙◌, subst, ⊎_elim}
 use Rattle.std.specs.List.{list_any}
 use Rattle.std.specs.Option.{option_and_then, option_map_or}
-use Rattle.std.proofs.lemmas.Bool.{and_parts, eqb-true, ⊎_elim}
+use Rattle.std.proofs.lemmas.Bool.{and_parts, eqb-true}
 use Rattle.vale_base.specs.declared.name.Name.{Name}
 use Rattle.vale_syntax.specs.declared.tree.NameAt.{NameAt}
 use Rattle.vale_syntax.specs.Tree.{FieldDecl, Item}
@@ -82,7 +82,7 @@ module _ (p : Parts) (c : Code) (functions : List t.Function) where
       ⊎_elim (λ e. absurd (let f : None ≡ Some l.0 = sym (ap seen_object e) ∙ l.1 in cc)) (λ d. absurd (let e : blind ≡ direct d.0 = d.1 in cc)) s
 
   -- a local is seen so
-  local_starts : (x : Ty) (v : View) → Covered x → Sees (view_here x) v → Leads v → starts_from x v
+  pub local_starts : (x : Ty) (v : View) → Covered x → Sees (view_here x) v → Leads v → starts_from x v
   local_starts (kind n) v cov s l = ⊎_elim (λ e. subst (starts_from (kind n)) (sym e) (refl, refl)) (λ d. let same : kind n ≡ d.0 = (let e : direct (kind n) ≡ direct d.0 = d.1 in cc) in subst (starts_from (kind n)) (sym d.2) (inl (same, ap is_owner (sym same)))) s
   local_starts (array z) v cov s l = ⊎_elim (λ e. subst (starts_from (array z)) (sym e) (refl, refl)) (λ d. let same : array z ≡ d.0 = (let e : direct (array z) ≡ direct d.0 = d.1 in cc) in subst (starts_from (array z)) (sym d.2) (inl (same, ap is_owner (sym same)))) s
   local_starts (ref z) v cov s l = ⊎_elim (λ e. subst (starts_from (ref z)) (sym e) (inr refl)) (λ d. absurd (let e : shared z ≡ direct d.0 = d.1 in cc)) s
@@ -94,7 +94,7 @@ module _ (p : Parts) (c : Code) (functions : List t.Function) where
   local_starts str v cov s l = nothing_leads (starts_from str v) v s l
 
   -- a value is a reference to what is seen so
-  value_refers : (x : Ty) (v : View) → Covered x → Sees (value_view x) v → Leads v → refers x v
+  pub value_refers : (x : Ty) (v : View) → Covered x → Sees (value_view x) v → Leads v → refers x v
   value_refers (ref z) v cov s l = ⊎_elim (λ e. subst (refers (ref z)) (sym e) refl) (λ d. absurd (let e : shared z ≡ direct d.0 = d.1 in cc)) s
   value_refers (imm z) v cov s l = absurd cov
   value_refers (iso z) v cov s l = absurd cov
@@ -106,7 +106,7 @@ module _ (p : Parts) (c : Code) (functions : List t.Function) where
   value_refers str v cov s l = nothing_leads (refers str v) v s l
 
   -- what a step led to is a reference to what the next sees
-  part_refers : (z : Ty) (v : View) → Covered z → Sees (as_shared z (object_of z)).view v → Leads v → refers (lent (as_shared z (object_of z))) v
+  pub part_refers : (z : Ty) (v : View) → Covered z → Sees (as_shared z (object_of z)).view v → Leads v → refers (lent (as_shared z (object_of z))) v
   part_refers (kind n) v cov s l = ⊎_elim (λ e. subst (refers (ref (kind n))) (sym e) refl) (λ d. absurd (let e : shared (kind n) ≡ direct d.0 = d.1 in cc)) s
   part_refers (array z) v cov s l = ⊎_elim (λ e. subst (refers (ref (array z))) (sym e) refl) (λ d. absurd (let e : shared (array z) ≡ direct d.0 = d.1 in cc)) s
   part_refers (ref z) v cov s l = ⊎_elim (λ e. subst (refers (ref z)) (sym e) refl) (λ d. absurd (let e : shared z ≡ direct d.0 = d.1 in cc)) s

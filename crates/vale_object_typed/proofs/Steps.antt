@@ -16,7 +16,7 @@ use Rattle.vale_model.specs.Parts.{Parts}
 use Rattle.vale_code.specs.Parts.{Parts as Code}
 use Rattle.vale_lowering_objects.specs.Lowered.{step_view}
 use Rattle.vale_object_facts.specs.Stands.{lent, lent_last}
-use Rattle.vale_object_facts.specs.Suits.{refers, expr_suits, start_suits, step_suits, steps_suit, place_suits, targets_suit, set_suits}
+use Rattle.vale_object_facts.specs.Suits.{HasItems, refers, expr_suits, start_suits, step_suits, steps_suit, place_suits, targets_suit, set_suits}
 use Rattle.vale_object_typed.specs.Covered.{type_is_covered, step_is_covered, steps_are_covered}
 use Rattle.vale_object_typed.specs.Tables.{HasTables}
 use Rattle.vale_object_typed.proofs.Shapes.{Sees, Leads, Covered, part_refers}
@@ -86,7 +86,7 @@ found_items (Some (imm x)) e = absurd (cc)
 found_items (Some (iso x)) e = absurd (cc)
 
 kept_by : (as_value : Bool) (o : Option Ty) (z : Ty) → o ≡ Some z → stays_in_place as_value o ≡ true → as_value ≡ true → is_owned z ≡ false
-kept_by as_value o z e kept yes = free (is_owned z) (asked as_value (not (is_owned z)) (subst (λ q. stays_in_place as_value q ≡ true) e kept) yes)
+kept_by as_value o z e kept used = free (is_owned z) (asked as_value (not (is_owned z)) (subst (λ q. stays_in_place as_value q ≡ true) e kept) used)
   where
     free : (b : Bool) → not b ≡ true → b ≡ false
     free false e = refl
@@ -149,7 +149,7 @@ module _ (names : List (List ℕ)) (items : List Item) (p : Parts) (c : Code) (f
       let covered : Covered p c functions f.0 = subst (Covered p c functions) (ap (λ s. s.value) same ∙ shared_value f.0) cov in
       let seen_array : seen_object v ≡ Some (array f.0) = sees_object base.view v sees ∙ f.1 in
       let listed = object (array f.0) f.1 in
-      let has = record { object = seen_array; cell = tables.elements f.0 listed.0 } in
+      let has : HasItems p c v f.0 = record { object = seen_array; cell = tables.elements f.0 listed.0 } in
       let int_type = same_is (t.type a) int parts.0 in (
         (f.0, has, (same ∙ sym (part_shared v f.0 unfrozen), readable v f.0 unfrozen covered), int_type, suits),
         record { z = f.0; seen = same; covered = covered; sets = (unfrozen, has, int_type, suits); sees = sees; leads = (array f.0, seen_array); kept = kept_by as_value o f.0 f.2 (one_rule 28 (stays_in_place as_value o) two.1) },
@@ -203,11 +203,11 @@ module _ (names : List (List ℕ)) (items : List Item) (p : Parts) (c : Code) (f
 
   pub more_fit : (env : Env) (as_value used : Bool) (ss : Steps) (base : Seen) (x : t.Step) (xs : t.Steps) → ((z : Ty) → (used ≡ true → is_owned z ≡ false) → Kept as_value ss z) → StepFits env used base.view x → StepsFit env as_value ss (step_seen x) xs
       → (z : Ty) → base ≡ as_shared z (object_of z) → Covered p c functions z → steps_are_covered p.kinds c.texts (t.more_steps x xs) → StepsEnd env as_value z (t.more_steps x xs)
-  more_fit env as_value used ss base x xs keeps fits more z e cov c =
+  more_fit env as_value used ss base x xs keeps fits more z e cov covers =
       let same : base.view ≡ (as_shared z (object_of z)).view = ap (λ s. s.view) e in
-      let one = fits (subst ObjectCovered (sym same) (part_covered z cov)) c.0 in
+      let one = fits (subst ObjectCovered (sym same) (part_covered z cov)) covers.0 in
       let ends = one.1 in
-      let rest = more ends.z ends.seen ends.covered (keeps ends.z ends.kept) c.1 in
+      let rest = more ends.z ends.seen ends.covered (keeps ends.z ends.kept) covers.1 in
       let refers_to = part_refers p c functions z (step_view x) cov (subst (λ b. Sees b (step_view x)) same ends.sees) ends.leads in
       let lent_same : lent (step_seen x) ≡ lent (as_shared ends.z (object_of ends.z)) = ap lent ends.seen in
       record {

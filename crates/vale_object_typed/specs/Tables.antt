@@ -32,4 +32,4 @@ pub record HasTables (names : List (List ℕ)) (items : List Item) (p : Parts) (
   pub field : (v : View) (n m : ℕ) (fs : List FieldDecl) (t : Ty) → seen_object v ≡ Some (kind n) → fields_of items n ≡ Some fs → type_in (field_named fs m) ≡ Some t → HasField p c v m t
   -- an array that is among the kinds has its elements
   pub elements : (x : Ty) → list_any (same (array x)) p.kinds ≡ true → item_of c (kind_of p (array x)) ≡ Some (code_type p x)
-  pub functions : (n : NameAt) (h : Head) → called names items n ≡ program h → is_pure_head h ≡ false → HasFunction p c functions n.name.0 h
+  pub callable : (n : NameAt) (h : Head) → called names items n ≡ program h → is_pure_head h ≡ false → HasFunction p c functions n.name.0 h
