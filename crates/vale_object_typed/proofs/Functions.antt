@@ -1,8 +1,8 @@
 -- The types of the parts of each function of a typed program fit.
-use Rattle.std.proofs.Common.{◌≡◌, ℕ, zero, suc, false, List, [], ◌∷◌, Option, Some, None, refl, subst}
+use Rattle.std.proofs.Common.{◌≡◌, ℕ, zero, suc, false, List, [], ◌∷◌, Some, refl, subst}
 use Rattle.std.specs.Prelude.{slice_get, flat_map}
 use Rattle.std.specs.List.{list_any}
-use Rattle.vale_syntax.specs.Tree.{Function, function, Item, struct_item, interface_item, impl_item, function_item, tree}
+use Rattle.vale_syntax.specs.Tree.{Function, function, Item, struct_item, interface_item, impl_item, function_item}
 use Rattle.vale_rules_spec.specs.Declarations.{head_name}
 use Rattle.vale_rules_spec.specs.Judged.{Judged, fine, faulty, both, plain as plain_node}
 use Rattle.vale_rules_spec.specs.Returns.{block_returns}

@@ -1,5 +1,5 @@
 -- What is known of single nodes that keep the rules of types, from their parts.
-use Rattle.std.proofs.Common.{◌≡◌, ℕ, Bool, true, false, not, ◌||◌, ◌&&◌, ◌==◌, List, [], ◌∷◌, length, Option, Some, None, is_some, if◌then◌else◌, ◌⊎◌, inl, inr, refl, sym, ap, ◌∙◌, subst, ⊎_elim}
+use Rattle.std.proofs.Common.{◌≡◌, ℕ, Bool, true, false, ◌||◌, ◌&&◌, ◌==◌, List, [], ◌∷◌, length, Option, Some, None, is_some, ◌⊎◌, inl, inr, refl, sym, ap, ◌∙◌, subst, ⊎_elim}
 use Rattle.std.specs.List.{list_any, list_all}
 use Rattle.std.specs.Option.{option_map_or}
 use Rattle.std.proofs.lemmas.Bool.{and_parts}
@@ -13,7 +13,7 @@ use Rattle.vale_syntax.specs.Tree.{Head, FieldDecl, Item, Steps, no_steps, more_
 use Rattle.vale_rules_spec.specs.Declarations.{head_params}
 use Rattle.vale_rules_spec.specs.Judged.{◌⇒◌, broken}
 use Rattle.vale_rules_spec.specs.TypeRules.{is_int, is_bool, is_array_ref, is_owned_place, borrow_gives, unary_rules, unary_gives, may_push, takes_arguments, arity, all_fit, as_many, Called, nothing, language, struct, program, built_ins, built_in_among, called_else, called, callee, called_rules, called_gives, built_in_gives, field_types, param_types, is_pure_head, head_gives, set_rules, set_gives, struct_fields}
-use Rattle.vale_rules_spec.specs.Types.{Ty, void, int, bool, str, kind, array, ref, imm, iso, same, is_copy, is_owner, is_owned, object_of, as_shared, View, blind, direct, shared, frozen, seen_object, Seen, a_value, value_view, view_here, Local, local_of, is_outer, fields_of, function_named, fits}
+use Rattle.vale_rules_spec.specs.Types.{Ty, void, int, bool, str, kind, array, ref, imm, iso, same, is_owned, object_of, as_shared, View, shared, seen_object, Seen, a_value, value_view, view_here, Local, local_of, fields_of, function_named, fits}
 use Rattle.vale_rules_spec.specs.Typed as t
 use Rattle.vale_rules_spec.specs.Typed.{step_seen, steps_seen}
 use Rattle.vale_rules_spec.specs.Typing.{Env, named, is_used}
@@ -22,12 +22,12 @@ use Rattle.vale_model.specs.Parts.{Parts}
 use Rattle.vale_code.specs.Parts.{Parts as Code}
 use Rattle.vale_lowering_objects.specs.Lowered.{step_view}
 use Rattle.vale_object_facts.specs.Stands.{lent, lent_last}
-use Rattle.vale_object_facts.specs.Suits.{IsLocal, HasItems, code_types, all_are, measured, built_in_suits, callee_suits, is_opened, lent_from, refers, starts_from, lent_suits, node_suits, expr_suits, exprs_suit, start_suits, steps_suit, place_suits}
-use Rattle.vale_object_typed.specs.Covered.{type_is_covered, types_are_covered, callee_is_covered, unary_is_covered, starts, expr_is_covered, node_is_covered}
+use Rattle.vale_object_facts.specs.Suits.{HasItems, code_types, all_are, measured, built_in_suits, callee_suits, is_opened, lent_from, lent_suits, node_suits, start_suits, steps_suit, place_suits}
+use Rattle.vale_object_typed.specs.Covered.{types_are_covered, callee_is_covered, unary_is_covered, starts, expr_is_covered, node_is_covered}
 use Rattle.vale_object_typed.specs.Fit.{is_impl_item}
 use Rattle.vale_object_typed.specs.Tables.{HasTables}
-use Rattle.vale_object_typed.proofs.Shapes.{here, given, node_of, Sees, Leads, Covered, Shape, Suited, suits_value, named_suits, local_starts, value_refers, plain_lent, owned_lent}
-use Rattle.vale_object_typed.proofs.Steps.{ObjectCovered, StepFits, StepsFit, StepsEnd, Kept, place_more}
+use Rattle.vale_object_typed.proofs.Shapes.{here, Sees, Leads, Covered, Suited, suits_value, named_suits, local_starts, value_refers, plain_lent, owned_lent}
+use Rattle.vale_object_typed.proofs.Steps.{ObjectCovered, StepFits, StepsFit, Kept, place_more}
 use Rattle.vale_object_typed.proofs.Types.{same_is, rule_kept, one_rule, asked, impossible, fits_same, all_same}
 
 pub called_struct : (a : Option BuiltIn) (fields : Option (List FieldDecl)) (h : Option Head) (fs : List FieldDecl) → called_else a fields h ≡ struct fs → fields ≡ Some fs
@@ -122,7 +122,6 @@ module _ (names : List (List ℕ)) (items : List Item) (plain : list_any is_impl
 
   int_is : (x : Ty) → is_int x ≡ true → x ≡ int
   int_is x e = same_is x int e
-
 
   either_is : (a b : Bool) → (a || b) ≡ true → (a ≡ true) ⊎ (b ≡ true)
   either_is true b e = inl refl

@@ -1,24 +1,17 @@
 -- What is known of expressions that name places: locals, and what steps lead to.
-use Rattle.std.proofs.Common.{◌≡◌, ℕ, Bool, true, false, not, ◌||◌, ◌&&◌, ◌==◌, List, [], ◌∷◌, Option, Some, None, is_some, if◌then◌else◌, ◌⊎◌, inl, inr, refl, sym, ap, ◌∙◌, subst, ⊎_elim}
-use Rattle.std.specs.List.{list_any}
-use Rattle.std.specs.Option.{option_and_then, option_map_or}
-use Rattle.std.proofs.lemmas.Bool.{and_parts, eqb-true}
-use Rattle.vale_base.specs.declared.name.Name.{Name}
+use Rattle.std.proofs.Common.{◌≡◌, Bool, true, false, not, ◌&&◌, ◌==◌, List, Some, None, if◌then◌else◌, ◌⊎◌, inl, inr, refl, sym, ap, ◌∙◌, subst, ⊎_elim}
+use Rattle.std.proofs.lemmas.Bool.{eqb-true}
 use Rattle.vale_syntax.specs.declared.tree.NameAt.{NameAt}
-use Rattle.vale_syntax.specs.Tree.{FieldDecl, Item}
-use Rattle.vale_rules_spec.specs.Judged.{◌⇒◌, broken}
-use Rattle.vale_rules_spec.specs.TypeRules.{is_iso, is_int, is_owned_place, borrow_gives, array_in, kind_in_view, fields_seen, elements_seen, stays_in_place, field_rules, index_rules, part_of}
-use Rattle.vale_rules_spec.specs.Types.{Ty, void, int, bool, str, kind, array, ref, imm, iso, same, is_owner, is_owned, object_of, as_shared, View, blind, direct, shared, frozen, seen_object, is_frozen, part_seen, Seen, a_value, value_view, view_here, as_frozen, is_loose, Local, local_of, local_seen, is_outer, is_movable, fields_of, field_named}
+use Rattle.vale_rules_spec.specs.TypeRules.{is_owned_place, borrow_gives}
+use Rattle.vale_rules_spec.specs.Types.{Ty, void, int, bool, str, kind, array, ref, imm, iso, is_owner, is_owned, object_of, as_shared, View, blind, direct, shared, seen_object, Seen, a_value, value_view, view_here, as_frozen, Local, local_of, local_seen, is_outer, is_movable}
 use Rattle.vale_rules_spec.specs.Typed as t
 use Rattle.vale_rules_spec.specs.Typed.{step_seen, steps_seen}
-use Rattle.vale_rules_spec.specs.Typing.{Env, named, type_in}
+use Rattle.vale_rules_spec.specs.Typing.{Env, named}
 use Rattle.vale_model.specs.Parts.{Parts}
 use Rattle.vale_code.specs.Parts.{Parts as Code}
-use Rattle.vale_lowering_objects.specs.Lowered.{step_view}
-use Rattle.vale_object_facts.specs.Stands.{lent, lent_last}
-use Rattle.vale_object_facts.specs.Suits.{IsLocal, refers, starts_from, lent_from, node_suits, expr_suits, start_suits, step_suits, steps_suit, place_suits, targets_suit, set_suits}
-use Rattle.vale_object_typed.specs.Covered.{type_is_covered, expr_is_covered, step_is_covered, steps_are_covered}
-use Rattle.vale_object_typed.proofs.Types.{shared_value, shared_place, part_shared, object_covered}
+use Rattle.vale_object_facts.specs.Stands.{lent}
+use Rattle.vale_object_facts.specs.Suits.{refers, starts_from, node_suits, expr_suits, place_suits}
+use Rattle.vale_object_typed.specs.Covered.{type_is_covered}
 
 -- a local of the depth at hand
 abbrev pub here : Local → Seen

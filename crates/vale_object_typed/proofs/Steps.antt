@@ -1,5 +1,5 @@
 -- What is known of steps that keep the rules of types.
-use Rattle.std.proofs.Common.{◌≡◌, ℕ, Bool, true, false, not, ◌||◌, ◌&&◌, List, [], ◌∷◌, Option, Some, None, is_some, if◌then◌else◌, ◌⊎◌, inl, inr, refl, sym, ap, ◌∙◌, subst, ⊎_elim}
+use Rattle.std.proofs.Common.{◌≡◌, ℕ, Bool, true, false, not, ◌||◌, ◌&&◌, List, [], ◌∷◌, Option, Some, None, is_some, if◌then◌else◌, inl, inr, refl, sym, ap, ◌∙◌, subst, ⊎_elim}
 use Rattle.std.specs.Option.{option_and_then}
 use Rattle.std.proofs.lemmas.Bool.{and_parts}
 use Rattle.vale_base.specs.declared.name.Name.{Name}
@@ -8,7 +8,7 @@ use Rattle.vale_syntax.specs.Tree.{FieldDecl, Item, Expr, Steps, no_steps, more_
 use Rattle.vale_rules_spec.specs.Judged.{◌⇒◌, broken}
 use Rattle.vale_rules_spec.specs.Takes.{takes}
 use Rattle.vale_rules_spec.specs.TypeRules.{is_iso, is_int, array_in, kind_in_view, fields_seen, elements_seen, stays_in_place, field_rules, index_rules, part_of}
-use Rattle.vale_rules_spec.specs.Types.{Ty, void, int, bool, str, kind, array, ref, imm, iso, is_owned, object_of, as_shared, View, blind, direct, shared, frozen, seen_object, is_frozen, part_seen, Seen, value_view, view_here, is_loose, fields_of, field_named}
+use Rattle.vale_rules_spec.specs.Types.{Ty, void, int, bool, str, kind, array, ref, imm, iso, is_owned, object_of, as_shared, View, blind, direct, shared, frozen, seen_object, is_frozen, part_seen, Seen, is_loose, fields_of, field_named}
 use Rattle.vale_rules_spec.specs.Typed as t
 use Rattle.vale_rules_spec.specs.Typed.{step_seen, steps_seen}
 use Rattle.vale_rules_spec.specs.Typing.{Env, index_view, type_in}
@@ -20,7 +20,7 @@ use Rattle.vale_object_facts.specs.Suits.{HasItems, refers, expr_suits, start_su
 use Rattle.vale_object_typed.specs.Covered.{type_is_covered, step_is_covered, steps_are_covered}
 use Rattle.vale_object_typed.specs.Tables.{HasTables}
 use Rattle.vale_object_typed.proofs.Shapes.{Sees, Leads, Covered, part_refers}
-use Rattle.vale_object_typed.proofs.Types.{rule_kept, one_rule, asked, same_is, shared_value, shared_place, part_shared, no_iso, object_covered}
+use Rattle.vale_object_typed.proofs.Types.{rule_kept, one_rule, asked, same_is, shared_value, shared_place, part_shared, no_iso}
 
 -- ---- views
 

@@ -1,12 +1,12 @@
 -- The types of the parts of what is typed fit: by induction on the tree.
-use Rattle.std.proofs.Common.{◌≡◌, ℕ, Bool, true, false, not, ◌||◌, ◌&&◌, ◌==◌, List, [], ◌∷◌, length, Option, Some, None, is_some, refl, sym, ap, ◌∙◌, subst}
+use Rattle.std.proofs.Common.{◌≡◌, ℕ, Bool, true, false, not, ◌||◌, ◌&&◌, ◌==◌, List, [], ◌∷◌, length, Option, None, is_some, refl, sym, subst}
 use Rattle.std.specs.List.{list_any, list_all}
 use Rattle.std.specs.Option.{option_and_then, option_map_or}
 use Rattle.std.proofs.lemmas.Bool.{and_parts}
 use Rattle.vale_base.specs.declared.spot.Spot.{Spot}
 use Rattle.vale_syntax.specs.declared.tree.NameAt.{NameAt}
 use Rattle.vale_syntax.specs.Tree.{Expr, set, chain, unary, steps, number, quote, truth, name, call, paren, array, iso, form, Exprs, no_exprs, more_exprs, Link, link, Links, no_links, more_links, Step, field, method, index, Steps, no_steps, more_steps, Form, branch, pure, parallel_range, parallel_each, ElseIf, else_if, Elses, no_else, otherwise, more_elses, Block, block, Stmt, declare, destructure, return_nothing, return_value, while, foreach, form_stmt, express, Stmts, no_stmts, last, more_stmts, Item}
-use Rattle.vale_rules_spec.specs.Judged.{◌⇒◌, Judged, fine, faulty, broken, both, node, plain as plain_node, scoped}
+use Rattle.vale_rules_spec.specs.Judged.{Judged, fine, faulty, broken, both, node, plain as plain_node, scoped}
 use Rattle.vale_rules_spec.specs.Types.{Ty, void, int, bool, str, same, is_void, type_of, Seen, a_value, local_of, is_visible, fits}
 use Rattle.vale_rules_spec.specs.Types as y
 use Rattle.vale_rules_spec.specs.Typed as t
@@ -128,8 +128,7 @@ module _ (names : List (List ℕ)) (items : List Item) (plain : list_any is_impl
 
   array_meets : (env : Env) (as_value : Bool) (at : Spot) (z : Ty) (v : t.Exprs) → ExprsMeet env v → broken (array_rules items z (t.types v)) ≡ None → Meets env as_value (t.expr (a_value (y.array z)) (t.array at z v))
   array_meets env as_value at z v h kept cov =
-      let args = h cov.1 in
-      (
+      let args = h cov.1 in (
         (refl, all_alike names items plain p c functions tables z (t.types v) args.1 (one_rule 20 (list_all (λ a. fits items a z) (t.types v)) kept), record { object = refl; cell = tables.elements z cov.0.0 }, args.0),
         refl,
         λ used. refl,

@@ -1,11 +1,11 @@
 -- Types that fit are equal, where none is an isolate's and no struct is seen as an interface.
-use Rattle.std.proofs.Common.{◌≡◌, ℕ, Bool, true, false, not, ◌||◌, ◌&&◌, ◌==◌, List, [], ◌∷◌, Option, Some, None, is_some, if◌then◌else◌, refl, sym, ap, ◌∙◌, subst}
-use Rattle.std.specs.List.{list_any, list_all}
+use Rattle.std.proofs.Common.{◌≡◌, ℕ, Bool, true, false, not, ◌||◌, ◌==◌, List, [], ◌∷◌, Some, None, refl, sym, ap, ◌∙◌, subst}
+use Rattle.std.specs.List.{list_any}
 use Rattle.std.proofs.lemmas.Bool.{and_parts, eqb-true}
 use Rattle.vale_syntax.specs.Tree.{Item, struct_item, interface_item, impl_item, function_item}
 use Rattle.vale_rules_spec.specs.Judged.{Rules, broken, ◌⇒◌}
 use Rattle.vale_rules_spec.specs.TypeRules.{is_iso, all_fit}
-use Rattle.vale_rules_spec.specs.Types.{Ty, void, int, bool, str, kind, array, ref, imm, iso, same, is_void, is_owner, is_owned, object_of, as_shared, View, blind, direct, shared, frozen, is_frozen, part_seen, is_impl, is_object_of, fits}
+use Rattle.vale_rules_spec.specs.Types.{Ty, void, int, bool, str, kind, array, ref, imm, iso, same, is_void, object_of, as_shared, View, blind, direct, shared, frozen, is_frozen, part_seen, is_impl, is_object_of, fits}
 use Rattle.vale_object_typed.specs.Covered.{type_is_covered, types_are_covered}
 use Rattle.vale_object_typed.specs.Fit.{is_impl_item}
 

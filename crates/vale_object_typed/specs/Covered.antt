@@ -1,14 +1,11 @@
 -- What the law speaks of: no isolates and no `&imm`, no methods and no loops in parallel, and no names from outside of a block.
-use Rattle.std.specs.Prelude.{◌≡◌, ℕ, Bool, true, false, not, List, [], ◌∷◌, Some, slice_get}
+use Rattle.std.specs.Prelude.{◌≡◌, ℕ, true, false, List, [], ◌∷◌, Some, slice_get}
 use Rattle.std.specs.List.{list_any}
 use Rattle.vale_syntax.specs.declared.tree.UnaryOp.{UnaryOp}
 use Rattle.vale_syntax.specs.declared.tree.UnaryOp.TheVariants as unary_op
-use Rattle.vale_rules_spec.specs.Declarations.{head_params, param_type}
 use Rattle.vale_rules_spec.specs.Types.{Ty, same, is_owner, is_frozen, type_of}
 use Rattle.vale_rules_spec.specs.Types as y
-use Rattle.vale_syntax.specs.Tree.{Param}
-use Rattle.vale_rules_spec.specs.TypeRules.{head_gives}
-use Rattle.vale_rules_spec.specs.Typed.{Callee, built_in, constructor, function, Expr, expr, Node, set, chain, unary, steps, number, quote, truth, name, call, paren, array, iso, form, Exprs, no_exprs, more_exprs, link, Links, no_links, more_links, Step, field, method, index, Steps, no_steps, more_steps, Form, branch, pure, parallel_range, parallel_each, else_if, Elses, no_else, otherwise, more_elses, Block, block, Stmt, declare, destructure, return_nothing, return_value, while, foreach, form_stmt, express, Stmts, no_stmts, last, more_stmts, Function, function_body}
+use Rattle.vale_rules_spec.specs.Typed.{Callee, function, Expr, expr, Node, set, chain, unary, steps, number, quote, truth, name, call, paren, array, iso, form, Exprs, no_exprs, more_exprs, link, Links, no_links, more_links, Step, field, method, index, Steps, no_steps, more_steps, Form, branch, pure, parallel_range, parallel_each, else_if, Elses, no_else, otherwise, more_elses, Block, block, Stmt, declare, destructure, return_nothing, return_value, while, foreach, form_stmt, express, Stmts, no_stmts, last, more_stmts, Function, function_body}
 use Rattle.vale_lowering.specs.Scopes.{number_of_text}
 
 -- in a program with these kinds, whose code has these texts
