@@ -1,17 +1,19 @@
 -- The values of a call, which wait in the registers from one on.
-use Rattle.std.proofs.Common.{◌≡◌, ℕ, ◌+◌, ◌<◌, List, [], ◌∷◌, length, Some, Bool, true, false, ◌&&◌, if◌then◌else◌, refl, sym, ap, ◌∙◌, subst, arith}
-use Rattle.std.proofs.lemmas.Bool.{eq-eqb, ne_eqb}
+use Rattle.std.proofs.Common.{◌≡◌, ℕ, ◌+◌, ◌<◌, ◌≤◌, List, [], ◌∷◌, length, Some, Bool, true, false, ◌&&◌, if◌then◌else◌, refl, sym, ap, ◌∙◌, subst, arith, ⊎_elim}
+use Rattle.std.proofs.lemmas.Bool.{cases_eq, cases_lt, eq-eqb, ne_eqb}
 use Rattle.vale_rules_spec.specs.Types.{Ty}
 use Rattle.vale_rules_spec.specs.Types as y
 use Rattle.vale_rules_spec.specs.Typed.{Exprs, no_exprs, more_exprs, type, types}
 use Rattle.vale_model.specs.Runs as model
+use Rattle.vale_cert.specs.Known.{is_free, agrees}
 use Rattle.vale_cert.specs.declared.facts.RegFact.TheVariants.{Empty}
 use Rattle.vale_lowering_objects.specs.Lowered.{expr_after, args_after}
 use Rattle.vale_lowering_objects.specs.Scopes.{gives_of, Entry, entry, waiting, find, Gone, is_gone, without, After, comes, never, then_after}
-use Rattle.vale_object_facts.specs.Slots.{Role, local, waits, at_hand, list_slot, Slots, scope_of, scope_at, Stand, with_gone, with_waiting, slot_fact, fact_in}
+use Rattle.vale_object_facts.specs.Slots.{Role, local, waits, at_hand, list_slot, Slots, scope_of, scope_at, Stand, with_gone, with_waiting, is_lost, slot_fact, fact_in}
 use Rattle.vale_object_facts.specs.Stands.{gone_of, with_args}
-use Rattle.vale_object_facts.proofs.Agreeing.{Facts}
-use Rattle.vale_object_facts.proofs.Covering.{Site, at, held, Falls, falls_up, not_gone}
+use Rattle.vale_object_facts.proofs.Agreeing.{agrees_same, Facts}
+use Rattle.vale_object_facts.proofs.Covering.{Site, at, held, Says, Falls, falls_up, nothing_above, not_gone}
+use Rattle.vale_object_facts.proofs.Owners.{free_type}
 use Rattle.vale_object_facts.proofs.Waits.{none_run, args_keep}
 
 -- ---- names stand for registers below
@@ -62,6 +64,37 @@ module _ (k : Site) where
       falls_up k (h + 1 + length (types es)) (h + length (types (more_exprs e es))) (with_args es (h + 1) (with_waiting h (type e) s)).slots (omega arith)
       (args_fall es (h + 1) (with_waiting h (type e) s) (omega arith, f))
 
+  -- none is an owner
+  abbrev pub Plain : List Ty → Type 0
+  Plain [] = Unit {0}
+  Plain (t ∷ ts) = (y.is_owned t ≡ false) × Plain ts
+
+  plain_args : (es : Exprs) (h : ℕ) (s : Stand) (g : Gone) (q : ℕ) → Plain (types es) → Falls k h s.slots → h ≤ q → is_free (fact_in k.parts (with_args es h s).slots g q) ≡ true
+  plain_args no_exprs h s g q p f le = ap is_free (nothing_above k h s.slots g q f le)
+  plain_args (more_exprs e es) h s g q p f le =
+      ⊎_elim
+      (λ same.
+      subst (λ z. is_free (fact_in k.parts (with_args (more_exprs e es) h s).slots g z) ≡ true) same
+      (ap is_free (args_below es (h + 1) (with_waiting h (type e) s) g h (omega arith) ∙ ap (λ b. if b then slot_fact k.parts (record { role = waits; register = h; ty = type e; depth = s.depth }) g else fact_in k.parts s.slots g h) (eq-eqb h h refl))
+      ∙ free_slot (is_lost (record { role = waits; register = h; ty = type e; depth = s.depth }) g)))
+      (λ ne. plain_args es (h + 1) (with_waiting h (type e) s) g q p.1 (omega arith, f) (omega (arith, le, ne)))
+      (cases_eq h q)
+    where
+      free_slot : (b : Bool) → is_free (if b then Empty else held k (type e) s.depth) ≡ true
+      free_slot true = refl
+      free_slot false = free_type k.parts (type e) s.depth p.0
+
+  -- so they are forgotten
+  pub plain_says : (es : Exprs) (h : ℕ) (s : Stand) (g : Gone) → Plain (types es) → Falls k h s.slots → Says k (with_gone g (with_args es h s)) (with_gone g s)
+  plain_says es h s g p f = record { depth = args_depth es h s; each = each }
+    where
+      each : (q : ℕ) → agrees (at k (with_gone g s) q) (at k (with_gone g (with_args es h s)) q) ≡ true
+      each q =
+          ⊎_elim
+          (λ lt. subst (λ x. agrees (at k (with_gone g s) q) x ≡ true) (sym (args_below es h s g q lt)) (agrees_same (at k (with_gone g s) q)))
+          (λ le. subst (λ x. agrees x (at k (with_gone g (with_args es h s)) q) ≡ true) (sym (nothing_above k h s.slots g q f le)) (plain_args es h s g q p f le))
+          (cases_lt q h)
+
   -- each is there
   abbrev pub Wait : List Ty → ℕ → ℕ → Facts → Type 0
   Wait [] h d F = Unit {0}
@@ -86,7 +119,7 @@ module _ (k : Site) where
       there : is_gone h g ≡ false
       there =
           ap (is_gone h) (sym last)
-          ∙ args_keep h es (h + 1) (waiting h (gives_of (type x)) ∷ scope_at s) (without h c) (omega arith) (record { each = λ n z e' q. let lt = find_below k h s.slots n z f e' in omega (arith, lt, q) })
+          ∙ args_keep h false 0 es (h + 1) (waiting h (gives_of (type x)) ∷ scope_at s) (without h c) (omega arith) (record { each = λ n z e' q. let lt = find_below k h s.slots n z f e' in absurd (omega (arith, lt, q)) }) refl
           ∙ not_gone h c
 
       first : at k (with_gone g (with_args es (h + 1) (with_waiting h (type x) s))) h ≡ held k (type x) s.depth

@@ -32,7 +32,7 @@ use Rattle.vale_object_facts.proofs.Leaving.{Sits, leaves}
 use Rattle.vale_object_facts.proofs.Locals.{locals_of, Stands}
 use Rattle.vale_object_facts.proofs.Parts.{agree_is, chosen}
 use Rattle.vale_object_facts.proofs.Runs.{Runs, stops}
-use Rattle.vale_object_facts.proofs.Tree.{Context, void_of, block_runs}
+use Rattle.vale_object_facts.proofs.Tree.{Context, around_of, void_of, block_runs}
 use Rattle.vale_object_facts.proofs.Ways.{Clean, comes_stops}
 
 -- ---- parameters
@@ -93,23 +93,23 @@ module _ (k : Site) (c : Context k) (f : Function) (gives : head_gives (head_of 
   -- the same, with the scope that the stand says
   abbrev code_in : Block → Scope → List Instr
   code_in (block at end x ss) s =
-      if_comes 0 (block_code c.around void (block at end x ss) 0 count (count + 1) s []) (block_after (block at end x ss) (count + 1) s []) (λ place g. only_if (agree c.around.gives void) count (drop_scope s g end ++ (i.RetVoid ∷ [])))
+      if_comes 0 (block_code (around_of k c) void (block at end x ss) 0 count (count + 1) s []) (block_after (block at end x ss) (count + 1) s []) (λ place g. only_if (agree c.gives void) count (drop_scope s g end ++ (i.RetVoid ∷ [])))
 
-  body_in : (b : Block) → block_suits c.around.texts (env_entry (head_of f)) y.void b → Clean (code_in b (scope_at start))
+  body_in : (b : Block) → block_suits k.parts k.code c.functions (env_entry (head_of f)) y.void b → Clean (code_in b (scope_at start))
       → Runs k 0 (code_in b (scope_at start)) (comes_stands (block_stands b count (count + 1) start) (block_after b (count + 1) (scope_at start) []) (λ g. leave_stands count y.void (with_gone g start))) start stops
   body_in (block at end x ss) suits clean =
-      comes_stops k (block_after (block at end x ss) (count + 1) (scope_at start) []) 0 (block_code c.around void (block at end x ss) 0 count (count + 1) (scope_at start) []) (block_stands (block at end x ss) count (count + 1) start)
-      (λ place g. only_if (agree c.around.gives void) count (drop_scope (scope_at start) g end ++ (i.RetVoid ∷ []))) (λ g. with_gone g start) (λ g. leave_stands count y.void (with_gone g start)) start clean
-      (λ cl. block_runs k c (env_entry (head_of f)) (block at end x ss) y.void void 0 count (count + 1) start refl (omega arith) (λ g. nothing_above k count start.slots g count below (omega arith)) starts suits cl)
-      (λ g q cl. chosen k (agree c.around.gives void) count cl (λ t cl. leaves k count (with_gone g start) end q below (params_sit (head_params (head_of f)) 0 [] tt) refl (c.typed ∙ ap (code_type k.parts) (void_of k.result (sym c.sort ∙ agree_is c.around.gives void t)))))
+      comes_stops k (block_after (block at end x ss) (count + 1) (scope_at start) []) 0 (block_code (around_of k c) void (block at end x ss) 0 count (count + 1) (scope_at start) []) (block_stands (block at end x ss) count (count + 1) start)
+      (λ place g. only_if (agree c.gives void) count (drop_scope (scope_at start) g end ++ (i.RetVoid ∷ []))) (λ g. with_gone g start) (λ g. leave_stands count y.void (with_gone g start)) start clean
+      (λ cl. block_runs k c (env_entry (head_of f)) (block at end x ss) y.void void 0 count (count + 1) start refl (omega arith) (λ v g. nothing_above k count start.slots g count below (omega arith)) starts suits cl)
+      (λ g q cl. chosen k (agree c.gives void) count cl (λ t cl. leaves k count (with_gone g start) end q below (params_sit (head_params (head_of f)) 0 [] tt) refl (c.typed ∙ ap (code_type k.parts) (void_of k.result (sym c.sort ∙ agree_is c.gives void t)))))
 
-  in_scope : (b : Block) → body_code c.around (names_in f) (param_gives f) b ≡ code_in b (parameters 0 (names_in f) (param_gives f) [])
+  in_scope : (b : Block) → body_code (around_of k c) (names_in f) (param_gives f) b ≡ code_in b (parameters 0 (names_in f) (param_gives f) [])
   in_scope (block at end x ss) = refl
 
-  body_same : body_code c.around (names_in f) (param_gives f) (body_of f) ≡ code_in (body_of f) (scope_at start)
+  body_same : body_code (around_of k c) (names_in f) (param_gives f) (body_of f) ≡ code_in (body_of f) (scope_at start)
   body_same = in_scope (body_of f) ∙ ap (code_in (body_of f)) (params_scope (head_params (head_of f)) 0 [])
 
-  pub body_runs : block_suits c.around.texts (env_entry (head_of f)) y.void (body_of f) → Clean (body_code c.around (names_in f) (param_gives f) (body_of f)) → Runs k 0 (body_code c.around (names_in f) (param_gives f) (body_of f)) (body_stands f) start stops
+  pub body_runs : block_suits k.parts k.code c.functions (env_entry (head_of f)) y.void (body_of f) → Clean (body_code (around_of k c) (names_in f) (param_gives f) (body_of f)) → Runs k 0 (body_code (around_of k c) (names_in f) (param_gives f) (body_of f)) (body_stands f) start stops
   body_runs suits clean =
       subst (λ cs. Runs k 0 cs (body_stands f) start stops) (sym body_same) (body_in (body_of f) suits (subst (λ cs. Clean cs) body_same clean))
 
@@ -130,12 +130,12 @@ module _ (p : Parts) (code : Code) (fs : List Function) (f : Function) (base : �
   place = site p code func base (result_type f) (facts_for p f func) (body_stands f) (entry_stand f)
 
   abbrev around : Context place
-  around = record { around = record { parts = p; texts = code.texts; functions = fs; gives = result_gives f }; parts = refl; texts = refl; sort = refl; typed = refl }
+  around = record { functions = fs; gives = result_gives f; sort = refl; typed = refl }
 
   few : length func.params ≤ func.registers
   few = let n = count_names (head_params (head_of f)) in omega (arith, n, length-map (head_params (head_of f)) (λ q. code_type p (type_of (param_type q))))
 
-  pub function_is_faultless : block_suits code.texts (env_entry (head_of f)) y.void (body_of f) → Clean (lowered_body p code.texts fs f) → function_fault code base func (function_facts p code.texts fs f) ≡ None
+  pub function_is_faultless : block_suits p code fs (env_entry (head_of f)) y.void (body_of f) → Clean (lowered_body p code.texts fs f) → function_fault code base func (function_facts p code.texts fs f) ≡ None
   function_is_faultless suits clean =
       covered_is_faultless p code func base (result_type f) (facts_for p f func) (body_stands f) (entry_stand f) refl (omega arith)
       (body_runs place around f (gives_same f) suits clean)

@@ -9,143 +9,156 @@ use Rattle.vale_syntax.specs.declared.tree.NameAt.{NameAt}
 use Rattle.vale_rules_spec.specs.Judged.{Judged, fine, faulty}
 use Rattle.vale_rules_spec.specs.Typed.{Typed}
 use Rattle.vale_rules_spec.specs.Typing.{typed}
-use Rattle.vale_syntax.specs.Tree.{TypeExpr, int_type, named_type, ref_type, Expr, set, chain, unary, steps, number, truth, name, call, array, form, Exprs, no_exprs, more_exprs, link, no_links, more_links, Step, field, index, no_steps, more_steps, branch, pure, otherwise, no_else, Block, block, Stmt, declare, destructure, return_value, return_nothing, while, foreach, form_stmt, express, Stmts, no_stmts, last, more_stmts, Param, param, head, function, field_decl, Item, struct_item, function_item, tree}
+use Rattle.vale_syntax.specs.Tree.{TypeExpr, int_type, named_type, array_type, ref_type, Expr, set, chain, unary, steps, number, truth, name, call, array, form, Exprs, no_exprs, more_exprs, link, no_links, more_links, Step, field, index, no_steps, more_steps, branch, pure, otherwise, no_else, Block, block, Stmt, declare, destructure, return_value, return_nothing, while, foreach, form_stmt, express, Stmts, no_stmts, last, more_stmts, Param, param, head, function, field_decl, Item, struct_item, function_item, tree}
 use Rattle.vale_cert.specs.Certificate.{first_fault}
 use Rattle.vale_cert.specs.declared.facts.FuncFacts.{FuncFacts}
 use Rattle.vale_cert.specs.declared.fault.Fault.{Fault}
 use Rattle.vale_lowering_objects.specs.Code.{lowered}
 use Rattle.vale_object_facts.specs.Facts.{facts}
 
-abbrev at : Spot
+abbrev pub at : Spot
 at = record { line = 1; col = 1 }
 
-abbrev n : ℕ → NameAt
+abbrev pub n : ℕ → NameAt
 n k = record { name = record { 0 = k }; at = at }
 
 -- the names
-abbrev P : ℕ
+abbrev pub P : ℕ
 P = 0
 
-abbrev a : ℕ
+abbrev pub a : ℕ
 a = 1
 
-abbrev b : ℕ
+abbrev pub b : ℕ
 b = 2
 
-abbrev f : ℕ
+abbrev pub f : ℕ
 f = 3
 
-abbrev p : ℕ
+abbrev pub p : ℕ
 p = 4
 
-abbrev main : ℕ
+abbrev pub main : ℕ
 main = 5
 
-abbrev x : ℕ
+abbrev pub x : ℕ
 x = 6
 
-abbrev y : ℕ
+abbrev pub y : ℕ
 y = 7
 
-abbrev r : ℕ
+abbrev pub r : ℕ
 r = 8
 
-abbrev println : ℕ
+abbrev pub println : ℕ
 println = 9
 
-abbrev drop : ℕ
+abbrev pub drop : ℕ
 drop = 10
 
-abbrev len : ℕ
+abbrev pub len : ℕ
 len = 11
 
-abbrev push : ℕ
+abbrev pub push : ℕ
 push = 12
 
-abbrev pop : ℕ
+abbrev pub pop : ℕ
 pop = 13
 
-abbrev i : ℕ
+abbrev pub i : ℕ
 i = 14
 
-abbrev Q : ℕ
+abbrev pub Q : ℕ
 Q = 15
 
-abbrev names : List (List ℕ)
+abbrev pub S : ℕ
+S = 16
+
+abbrev pub c : ℕ
+c = 17
+
+abbrev pub names : List (List ℕ)
 names =
     codes "P" ∷ codes "a" ∷ codes "b" ∷ codes "f" ∷ codes "p" ∷ codes "main" ∷ codes "x" ∷ codes "y" ∷ codes "r" ∷ codes "println" ∷ codes "drop" ∷ codes "len"
-    ∷ codes "push" ∷ codes "pop" ∷ codes "i" ∷ codes "Q" ∷ []
+    ∷ codes "push" ∷ codes "pop" ∷ codes "i" ∷ codes "Q" ∷ codes "S" ∷ codes "c" ∷ []
 
-abbrev v : ℕ → Expr
+abbrev pub v : ℕ → Expr
 v k = name (n k)
 
-abbrev num : ℕ → Expr
+abbrev pub num : ℕ → Expr
 num k = number at (pos k)
 
-abbrev dot : ℕ → Step
+abbrev pub dot : ℕ → Step
 dot k = field at (record { 0 = k })
 
-abbrev from : Expr → Step → Expr
+abbrev pub from : Expr → Step → Expr
 from e s = steps e (more_steps s no_steps)
 
-abbrev from2 : Expr → Step → Step → Expr
+abbrev pub from2 : Expr → Step → Step → Expr
 from2 e s t = steps e (more_steps s (more_steps t no_steps))
 
-abbrev all_of : List Expr → Exprs
+abbrev pub from3 : Expr → Step → Step → Step → Expr
+from3 e s t u = steps e (more_steps s (more_steps t (more_steps u no_steps)))
+
+abbrev pub all_of : List Expr → Exprs
 all_of [] = no_exprs
 all_of (e ∷ es) = more_exprs e (all_of es)
 
-abbrev calls : ℕ → List Expr → Expr
+abbrev pub calls : ℕ → List Expr → Expr
 calls k es = call (n k) (all_of es)
 
-abbrev op : BinaryOp → Expr → Expr → Expr
+abbrev pub op : BinaryOp → Expr → Expr → Expr
 op o e d = chain e (more_links (link at o d) no_links)
 
-abbrev ends : List Stmt → Stmts → Stmts
+abbrev pub ends : List Stmt → Stmts → Stmts
 ends [] l = l
 ends (s ∷ ss) l = more_stmts s (ends ss l)
 
-abbrev run : List Stmt → Block
+abbrev pub run : List Stmt → Block
 run ss = block at at (ends ss no_stmts)
 
-abbrev gives : List Stmt → Expr → Block
+abbrev pub gives : List Stmt → Expr → Block
 gives ss e = block at at (ends ss (last e))
 
-abbrev does : Expr → Stmt
+abbrev pub does : Expr → Stmt
 does e = express e
 
-abbrev if_else : Expr → Block → Block → Expr
+abbrev pub if_else : Expr → Block → Block → Expr
 if_else c d e = form (branch at c d (otherwise e))
 
-abbrev func : ℕ → List Param → Option TypeExpr → Block → Item
+abbrev pub func : ℕ → List Param → Option TypeExpr → Block → Item
 func k ps t d = function_item (function (head false (n k) ps t) d)
 
-abbrev takes : ℕ → TypeExpr → Param
+abbrev pub takes : ℕ → TypeExpr → Param
 takes k t = param (n k) t
 
-abbrev int : TypeExpr
+abbrev pub int : TypeExpr
 int = int_type at
 
-abbrev kind : ℕ → TypeExpr
+abbrev pub kind : ℕ → TypeExpr
 kind k = named_type (n k)
 
 -- struct P { a int; b! int }
-abbrev struct_p : Item
+abbrev pub struct_p : Item
 struct_p = struct_item (n P) (field_decl (n a) false int ∷ field_decl (n b) true int ∷ [])
 
 -- struct Q { p! P; a int }
-abbrev struct_q : Item
+abbrev pub struct_q : Item
 struct_q = struct_item (n Q) (field_decl (n p) true (kind P) ∷ field_decl (n a) false int ∷ [])
 
-abbrev new_p : Expr → Expr → Expr
+-- struct S { c! []P; p P }
+abbrev pub struct_s : Item
+struct_s = struct_item (n S) (field_decl (n c) true (array_type at (kind P)) ∷ field_decl (n p) false (kind P) ∷ [])
+
+abbrev pub new_p : Expr → Expr → Expr
 new_p d e = calls P (d ∷ e ∷ [])
 
 -- the first broken rule, where the types of the program are lawful
-abbrev fault_of : (Typed → List FuncFacts) → Judged Typed → Option (Option Fault)
+abbrev pub fault_of : (Typed → List FuncFacts) → Judged Typed → Option (Option Fault)
 fault_of given (fine program) = Some (first_fault (lowered program) (given program))
 fault_of given (faulty g gs) = None
 
-abbrev fault_in : List Item → Option (Option Fault)
+abbrev pub fault_in : List Item → Option (Option Fault)
 fault_in items = fault_of facts (typed (tree names items))
 
 -- func f(p P) int { return p.a; }
@@ -235,6 +248,34 @@ references : fault_in
     ∷ []) ≡ Some None
 references = refl
 
+-- an index with labels, which say what leads to the place that it is of
+abbrev pub either : ℕ → ℕ → Expr
+either k l = if_else (truth at true) (gives [] (num k)) (gives [] (num l))
+
+-- func main() {
+--   x = S([]P(P(1, 2), P(3, 4)), P(5, 6));
+--   println(x.c[if true { 0 } else { 1 }].b); set x.c[if true { 1 } else { 0 }].b = 4; r = &x.c[if true { 0 } else { 1 }];
+--   set r.b = 7; y = set x.c[if true { 0 } else { 1 }] = P(8, 9); println(x.p.a); set x.c = []P(P(1, 1));
+-- }
+nested_places : fault_in
+    (struct_p ∷ struct_s ∷ func main [] None (run
+    (declare (n x) (calls S (array at (kind P) (all_of (new_p (num 1) (num 2) ∷ new_p (num 3) (num 4) ∷ [])) ∷ new_p (num 5) (num 6) ∷ []))
+    ∷ does (calls println (from3 (v x) (dot c) (index at (either 0 1)) (dot b) ∷ [])) ∷ does (set at (from3 (v x) (dot c) (index at (either 1 0)) (dot b)) (num 4))
+    ∷ declare (n r) (unary at Borrow (from2 (v x) (dot c) (index at (either 0 1)))) ∷ does (set at (from (v r) (dot b)) (num 7))
+    ∷ declare (n y) (set at (from2 (v x) (dot c) (index at (either 0 1))) (new_p (num 8) (num 9))) ∷ does (calls println (from2 (v x) (dot p) (dot a) ∷ []))
+    ∷ does (set at (from (v x) (dot c)) (array at (kind P) (all_of (new_p (num 1) (num 1) ∷ [])))) ∷ []))
+    ∷ []) ≡ Some None
+nested_places = refl
+
+-- func main() { x = [][]int([]int(1)); println(x[0][if true { 0 } else { 0 }]); set x[0][if true { 0 } else { 0 }] = 2; println(x[if true { return; 0 } else { return; 0 }][0]); }
+nested_arrays : fault_in
+    (func main [] None (run
+    (declare (n x) (array at (array_type at int) (all_of (array at int (all_of (num 1 ∷ [])) ∷ []))) ∷ does (calls println (from2 (v x) (index at (num 0)) (index at (either 0 0)) ∷ []))
+    ∷ does (set at (from2 (v x) (index at (num 0)) (index at (either 0 0))) (num 2))
+    ∷ does (calls println (from2 (v x) (index at (if_else (truth at true) (gives (return_nothing at ∷ []) (num 0)) (gives (return_nothing at ∷ []) (num 0)))) (index at (num 0)) ∷ [])) ∷ []))
+    ∷ []) ≡ Some None
+nested_arrays = refl
+
 -- func main() { x = P(1, 2); set x = P(3, 4); y = set x = P(5, 6); i = 1; p = set i = 2; set i = p; println(set i = 3); }
 sets : fault_in
     (struct_p ∷ func main [] None (run
@@ -256,7 +297,7 @@ dead_turns = refl
 freezes_are_refused : fault_in (func main [] None (run (form_stmt (pure at (run [])) ∷ [])) ∷ []) ≡ Some (Some (record { rule = 2; at = 0 }))
 freezes_are_refused = refl
 
-abbrev bare : FuncFacts → FuncFacts
+abbrev pub bare : FuncFacts → FuncFacts
 bare g = record { live = g.live; labels = [] }
 
 -- without labels no code with jumps is certified

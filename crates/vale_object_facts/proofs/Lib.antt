@@ -1,14 +1,20 @@
 mod Agreeing
 mod Arguments
 pub mod Bodies
+mod BuiltIns
 mod Callees
+mod Cells
+mod Counting
 mod Covering
 mod Entries
-mod Examples
+pub mod Examples
+mod Fitting
 mod Functions
 mod Labels
 mod Leaving
 mod Locals
+mod Made
+mod Opening
 mod Operators
 mod Owners
 mod Parts
@@ -17,6 +23,8 @@ mod Rows
 mod Runs
 mod Scopes
 mod Sets
+mod Starts
+mod Steps
 mod Taking
 mod Tree
 mod Turns

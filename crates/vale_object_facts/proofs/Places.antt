@@ -3,16 +3,19 @@ use Rattle.std.proofs.Common.{◌≡◌, ◌≢◌, ℕ, ◌<◌, ◌≤◌, Lis
 use Rattle.std.specs.Prelude.{slice_set, nat_lt}
 use Rattle.std.proofs.lemmas.Bool.{and_from, cases_eq, le-ltb, le-leb}
 use Rattle.vale_base.specs.declared.name.Kind.{Kind}
+use Rattle.vale_base.specs.declared.spot.Spot.{Spot}
 use Rattle.vale_rules_spec.specs.Types.{Ty}
+use Rattle.vale_rules_spec.specs.Types as y
 use Rattle.vale_code.specs.Operands.{room_for}
 use Rattle.vale_code.specs.declared.instr.Instr.{Instr}
+use Rattle.vale_code.specs.declared.instr.Instr.TheVariants as i
 use Rattle.vale_code.specs.declared.ty.Ty.{Ty as CodeTy}
 use Rattle.vale_code.specs.declared.ty.Ty.TheVariants as t
 use Rattle.vale_cert.specs.Types.{is_owned, is_isolate, is_frozen}
 use Rattle.vale_cert.specs.Known.{Known, fact_of, is_free, agrees}
 use Rattle.vale_cert.specs.Numbers.{in_tables}
-use Rattle.vale_cert.specs.Objects.{cell_by, owner_kind, read_kind, is_through_frozen, found_alive, seen}
-use Rattle.vale_cert.specs.Rules.{Effect, uses, gets, is_readable, is_known, leads_as_owner, leads_as_reference, leads_to_read, reads_cell, reads_own, reads_found, finds_alive, after_passing, swaps}
+use Rattle.vale_cert.specs.Objects.{item_of, cell_by, owner_kind, reference_kind, read_kind, is_through_frozen, found_alive, seen}
+use Rattle.vale_cert.specs.Rules.{Effect, uses, gets, is_readable, is_known, leads_as_owner, leads_as_reference, leads_to_read, reads_cell, reads_own, reads_found, finds_alive, after_passing, swaps, taken, pops, pushes}
 use Rattle.vale_cert.specs.Walk.{goes_on, target_of}
 use Rattle.vale_cert.specs.declared.facts.RegFact.{RegFact}
 use Rattle.vale_cert.specs.declared.facts.RegFact.TheVariants.{Empty, Held}
@@ -23,7 +26,7 @@ use Rattle.vale_object_facts.proofs.Agreeing.{held_agrees, agrees_same, Facts, p
 use Rattle.vale_object_facts.proofs.Covering.{Site, at, held, Covers, holding_here, holding_there}
 use Rattle.vale_object_facts.proofs.Runs.{row_at, Does, Runs, single, falls}
 use Rattle.vale_object_facts.proofs.Ways.{in_order}
-use Rattle.vale_object_facts.proofs.Rows.{Fine, uses_fine, usable, room, does_by, Beside, over}
+use Rattle.vale_object_facts.proofs.Rows.{Fine, uses_fine, overwrites_fine, usable, room, does_by, Beside, over, writes}
 use Rattle.vale_object_facts.proofs.Owners.{says_put}
 
 -- a reference, `&imm` or not
@@ -50,17 +53,13 @@ module _ (cell : Kind → Option CodeTy) (kd : Kind) (ty : CodeTy) (is : cell kd
   read_leads false depth d live f e same = subst (λ f. Fine (leads_to_read cell depth f)) (sym e) (record { types = ap is_known is; present = refl; depths = readable false depth d live same })
 
 -- what is read of a cell
-module _ (depth to : ℕ) (frozen : Bool) (effect : Effect) (ty : CodeTy) (f : Fine effect.kept) (some : is_isolate ty ≡ false) (free : is_free (fact_of effect.after to) ≡ true) where
+module _ (depth to : ℕ) (frozen : Bool) (effect : Effect) (ty : CodeTy) (f : Fine effect.kept) (some : (frozen || not (is_isolate ty)) ≡ true) (free : is_free (fact_of effect.after to) ≡ true) where
   pub cell_fine : Fine (reads_cell depth frozen (Some ty) to effect).kept
   cell_fine = record {
-    types = and_from _ _ f.types (either frozen (not (is_isolate ty)) (ap not some));
+    types = and_from _ _ f.types some;
     present = and_from _ _ f.present free;
     depths = f.depths;
   }
-    where
-      either : (a b : Bool) → b ≡ true → (a || b) ≡ true
-      either true b e = refl
-      either false b e = e
 
 module _ (k : Site) where
   -- ---- what an owner's object holds is read
@@ -69,7 +68,7 @@ module _ (k : Site) where
       → (room_for instr ≤ room k → (h < room k) × (a < room k))
       → ((known : Known) → row_at k instr known ≡ reads_own cell known.depth known.regs h a (kept known))
       → (room_for instr ≤ room k → (known : Known) → Covers k known s → Fine (kept known))
-      → at k s a ≡ Held (t.Own kd) s.depth false → cell kd ≡ Some ty → is_isolate ty ≡ false → code_type k.parts x ≡ seen false ty → is_free (at k s h) ≡ true → s.depth ≡ u.depth → Beside k h s u
+      → at k s a ≡ Held (t.Own kd) s.depth false → cell kd ≡ Some ty → not (is_isolate ty) ≡ true → code_type k.parts x ≡ seen false ty → is_free (at k s h) ≡ true → s.depth ≡ u.depth → Beside k h s u
       → Runs k p (instr ∷ []) (s ∷ []) s (falls (holding h x u))
   owner_read {s = s} {u} instr h a kd x ty cell kept on none inside lt is f ha there some same free d b = single k instr on none (in_order k instr inside) does
     where
@@ -116,7 +115,7 @@ module _ (k : Site) where
       → (room_for instr ≤ room k → (h < room k) × (a < room k))
       → ((known : Known) → row_at k instr known ≡ reads_found cell known.depth known.regs h a (kept known))
       → (room_for instr ≤ room k → (known : Known) → Covers k known s → Fine (kept known))
-      → at k s a ≡ Held (leading frozen kd) s.depth false → cell kd ≡ Some ty → is_isolate ty ≡ false → code_type k.parts x ≡ seen frozen ty → is_free (at k s h) ≡ true → s.depth ≡ u.depth → Beside k h s u
+      → at k s a ≡ Held (leading frozen kd) s.depth false → cell kd ≡ Some ty → (frozen || not (is_isolate ty)) ≡ true → code_type k.parts x ≡ seen frozen ty → is_free (at k s h) ≡ true → s.depth ≡ u.depth → Beside k h s u
       → Runs k p (instr ∷ []) (s ∷ []) s (falls (holding h x u))
   found_read {s = s} {u} instr h a frozen kd x ty cell kept on none inside lt is f ha there some same free d b = single k instr on none (in_order k instr inside) does
     where
@@ -201,3 +200,57 @@ module _ (k : Site) where
 
       does : room_for instr ≤ room k → (known : Known) → Covers k known s → Does k instr known (holding v z u)
       does r known c = by r known c (f r known c)
+
+  -- ---- arrays, by references to them
+
+  pub length_read : {p : ℕ} {s u : Stand} (h a : ℕ) (frozen : Bool) (kd : Kind) (ty : CodeTy) (spot : Spot) → at k s a ≡ Held (leading frozen kd) s.depth false → item_of k.code kd ≡ Some ty → is_free (at k s h) ≡ true → s.depth ≡ u.depth → Beside k h s u
+      → Runs k p (i.Len h a spot ∷ []) (s ∷ []) s (falls (holding h y.int u))
+  length_read {s = s} {u} h a frozen kd ty spot ha there free d b = single k (i.Len h a spot) refl refl (in_order k (i.Len h a spot) refl) does
+    where
+      by : room_for (i.Len h a spot) ≤ room k → (known : Known) → Covers k known s → (live : Bool) × (fact_of known.regs a ≡ Held (leading frozen kd) s.depth live) → Does k (i.Len h a spot) known (holding h y.int u)
+      by r known c e =
+          let found = found_hold (room k) known.regs (at k s) known.depth a (leading frozen kd) s.depth e.0 c.regs ha e.1 in
+          does_by k (i.Len h a spot) (slice_set (finds_alive known.depth known.regs a) h (Held t.Int known.depth false)) (put h (held k y.int u.depth) (at k s))
+          (overwrites_fine (room k) h (read_leads (item_of k.code) kd ty there frozen known.depth s.depth e.0 (fact_of known.regs a) e.1 c.depth) found (omega (arith, r)) free)
+          refl
+          (hold_put (room k) h (Held t.Int known.depth false) (held k y.int u.depth) (subst (λ e. agrees (held k y.int u.depth) (Held t.Int e false) ≡ true) (sym (c.depth ∙ d)) (agrees_same (held k y.int u.depth))) found)
+          (c.depth ∙ d) (over k h y.int s u b)
+
+      does : room_for (i.Len h a spot) ≤ room k → (known : Known) → Covers k known s → Does k (i.Len h a spot) known (holding h y.int u)
+      does r known c = by r known c (hold_at (room k) a (leading frozen kd) s.depth c.regs (omega (arith, r)) ha)
+
+  -- what a reference leads to, which may be changed
+  array_leads : (s : Stand) (a : ℕ) (kd : Kind) (ty : CodeTy) → at k s a ≡ Held (t.Ref kd) s.depth false → item_of k.code kd ≡ Some ty → (known : Known) → Covers k known s → a < room k
+      → Fine (leads_as_reference (item_of k.code) known.depth (fact_of known.regs a)) × (cell_by (item_of k.code) (reference_kind (fact_of known.regs a)) ≡ Some ty)
+  array_leads s a kd ty ha there known c lt =
+      let e = hold_at (room k) a (t.Ref kd) s.depth c.regs lt ha in
+      (reference_leads (item_of k.code) kd ty there known.depth s.depth e.0 (fact_of known.regs a) e.1 c.depth, ap (λ f. cell_by (item_of k.code) (reference_kind f)) e.1 ∙ there)
+
+  -- the last element comes to h
+  pub pop_runs : {p : ℕ} {s u : Stand} (h a : ℕ) (kd : Kind) (z : Ty) (spot : Spot) → at k s a ≡ Held (t.Ref kd) s.depth false → item_of k.code kd ≡ Some (code_type k.parts z) → is_free (at k s h) ≡ true → s.depth ≡ u.depth → Beside k h s u
+      → Runs k p (i.Pop h a spot ∷ []) (s ∷ []) s (falls (holding h z u))
+  pop_runs {s = s} h a kd z spot ha there free d b =
+      writes k (i.Pop h a spot) h z (λ known. leads_as_reference (item_of k.code) known.depth (fact_of known.regs a)) refl refl refl (λ r. omega (arith, r))
+      (λ r known c. ap (λ o. pops known.depth known.regs o h (leads_as_reference (item_of k.code) known.depth (fact_of known.regs a))) (array_leads s a kd (code_type k.parts z) ha there known c (omega (arith, r))).1)
+      (λ r known c. (array_leads s a kd (code_type k.parts z) ha there known c (omega (arith, r))).0) free d b
+
+  -- what stands in v becomes the last element
+  pub push_runs : {p : ℕ} {s u : Stand} (a v : ℕ) (kd : Kind) (z : Ty) (spot : Spot) → at k s a ≡ Held (t.Ref kd) s.depth false → item_of k.code kd ≡ Some (code_type k.parts z) → at k s v ≡ held k z s.depth → s.depth ≡ u.depth
+      → ((q : ℕ) → v ≢ q → agrees (at k u q) (at k s q) ≡ true) → at k u v ≡ Empty → Runs k p (i.Push a v spot ∷ []) (s ∷ []) s (falls u)
+  push_runs {s = s} {u} a v kd z spot ha there hv d b none = single k (i.Push a v spot) refl refl (in_order k (i.Push a v spot) refl) does
+    where
+      ty : CodeTy
+      ty = code_type k.parts z
+
+      kept : Known → Kept
+      kept known = leads_as_reference (item_of k.code) known.depth (fact_of known.regs a)
+
+      does : room_for (i.Push a v spot) ≤ room k → (known : Known) → Covers k known s → Does k (i.Push a v spot) known u
+      does r known c =
+          let led = array_leads s a kd ty ha there known c (omega (arith, r)) in
+          let row : row_at k (i.Push a v spot) known ≡ taken known.depth v ty (record { kept = kept known; after = known.regs }) = ap (λ o. pushes known.depth known.regs o v (kept known)) led.1 in
+          let fine = uses_fine (room k) known.depth v ty s.depth led.0 c.regs (omega (arith, r)) hv c.depth in
+          does_by k (i.Push a v spot) (after_passing known.regs v ty) (put v Empty (at k s))
+          (record { types = ap (λ e. e.kept.types) row ∙ fine.types; present = ap (λ e. e.kept.present) row ∙ fine.present; depths = ap (λ e. e.kept.depths) row ∙ fine.depths })
+          (ap (λ e. e.after) row) (passed_hold (room k) known.regs (at k s) v ty s.depth c.regs hv) (c.depth ∙ d)
+          (says_put k (at k s) u v Empty (subst (λ x. agrees x Empty ≡ true) (sym none) refl) b)

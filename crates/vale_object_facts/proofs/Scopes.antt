@@ -54,16 +54,16 @@ module _ (k : Site) where
 
   -- ---- a block's value
 
-  module _ (env : Env) (h : ℕ) (s : Stand) (st : Stands k env h s) (to : ℕ) (lt : to < h) (fresh : Fresh to s) (x : Ty) where
-    free_to : at k (holding h x s) to ≡ Empty
-    free_to = holding_there k h x s to (omega (arith, lt)) ∙ fresh s.gone
+  module _ (env : Env) (h : ℕ) (s : Stand) (st : Stands k env h s) (to : ℕ) (lt : to < h) (x : Ty) (fresh : y.is_void x ≡ false → Fresh to s) where
+    free_to : y.is_void x ≡ false → at k (holding h x s) to ≡ Empty
+    free_to w = holding_there k h x s to (omega (arith, lt)) ∙ fresh w s.gone
 
-    by_sort : {p : ℕ} (v o : Bool) → y.is_owned x ≡ o → Runs k p (hand (if v then void else (if o then owner else copy)) to h) (if v then [] else holding h x s ∷ []) (if v then s else holding h x s) (falls (if v then s else holding to x s))
-    by_sort {p} true o e = nothing k p s
-    by_sort false true e =
-        moves_out k to h x (holding_here k h x s) e (ap is_free free_to) (omega (arith, lt)) refl (none_at k h st (omega arith))
+    by_sort : {p : ℕ} (v o : Bool) → y.is_void x ≡ v → y.is_owned x ≡ o → Runs k p (hand (if v then void else (if o then owner else copy)) to h) (if v then [] else holding h x s ∷ []) (if v then s else holding h x s) (falls (if v then s else holding to x s))
+    by_sort {p} true o w e = nothing k p s
+    by_sort false true w e =
+        moves_out k to h x (holding_here k h x s) e (ap is_free (free_to w)) (omega (arith, lt)) refl (none_at k h st (omega arith))
         (λ q nt nh. subst (λ f. agrees (at k s q) f ≡ true) (sym (holding_there k h x s q nh)) (agrees_same (at k s q)))
-    by_sort false false e = copy_runs k to h x (holding_here k h x s) (ap not (owned_too k.parts x ∙ e)) (ap is_free free_to) refl beside
+    by_sort false false w e = copy_runs k to h x (holding_here k h x s) (ap not (owned_too k.parts x ∙ e)) (ap is_free (free_to w)) refl beside
       where
         beside : Beside k to (holding h x s) s
         beside q nt =
@@ -73,7 +73,7 @@ module _ (k : Site) where
             (cases_eq h q)
 
     pub hand_runs : {p : ℕ} → Runs k p (hand (gives_of x) to h) (hand_stands x (holding h x s)) (given h x s) (falls (given to x s))
-    hand_runs = by_sort (y.is_void x) (y.is_owned x) refl
+    hand_runs = by_sort (y.is_void x) (y.is_owned x) refl refl
 
   -- ---- a value that isn't used
 

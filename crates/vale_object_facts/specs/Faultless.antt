@@ -15,5 +15,5 @@ use Rattle.vale_object_facts.specs.Suits.{Sure, block_suits}
 -- Lowered functions break no rule of instructions with these facts, where the types of their parts fit.
 abbrev pub FunctionsAreFaultless : Type 0
 FunctionsAreFaultless =
-    (p : Parts) (code : Code) (functions : List Function) (f : Function) (base : ℕ) → block_suits code.texts (entry (head_of f)) void (body_of f) → Sure (lowered_body p code.texts functions f) →
+    (p : Parts) (code : Code) (functions : List Function) (f : Function) (base : ℕ) → block_suits p code functions (entry (head_of f)) void (body_of f) → Sure (lowered_body p code.texts functions f) →
     function_fault code base (lowered_function p code.texts functions f) (function_facts p code.texts functions f) ≡ None

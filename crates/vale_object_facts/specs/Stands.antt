@@ -6,8 +6,8 @@ use Rattle.vale_syntax.specs.declared.tree.UnaryOp.{UnaryOp}
 use Rattle.vale_syntax.specs.declared.tree.UnaryOp.TheVariants as unary_op
 use Rattle.vale_rules_spec.specs.Types.{Ty, View, is_owned, Seen}
 use Rattle.vale_rules_spec.specs.Types as y
-use Rattle.vale_rules_spec.specs.TypeRules.{borrow_gives}
-use Rattle.vale_rules_spec.specs.Typed.{Expr, expr, Node, set, chain, unary, steps, number, quote, truth, name, call, paren, array, iso, form, Exprs, no_exprs, more_exprs, link, Links, no_links, more_links, Step, index, Steps, no_steps, more_steps, Form, branch, pure, else_if, Elses, no_else, otherwise, more_elses, Block, block, Stmt, declare, destructure, return_nothing, return_value, while, foreach, form_stmt, express, Stmts, no_stmts, last, more_stmts, type, block_type, chain_seen, steps_seen, step_seen}
+use Rattle.vale_rules_spec.specs.TypeRules.{is_owned_place, borrow_gives}
+use Rattle.vale_rules_spec.specs.Typed.{Expr, expr, Node, set, chain, unary, steps, number, quote, truth, name, call, paren, array, iso, form, Exprs, no_exprs, more_exprs, link, Links, no_links, more_links, Step, index, Steps, no_steps, more_steps, Form, branch, pure, else_if, Elses, no_else, otherwise, more_elses, Block, block, Stmt, declare, destructure, return_nothing, return_value, while, foreach, form_stmt, express, Stmts, no_stmts, last, more_stmts, type, block_type, chain_seen, step_seen}
 use Rattle.vale_model.specs.Expressions.{numbers_of}
 use Rattle.vale_lowering_objects.specs.Changes.{step_changes}
 use Rattle.vale_lowering_objects.specs.Lowered.{all_gives, locals_after, link_after, step_view, stays_of, expr_after, node_after, start_after, step_after, steps_after, place_after, targets_after, args_after, links_after, elses_after, block_after, stmts_after, stmt_after, gives_list}
@@ -127,6 +127,17 @@ abbrev pub unary_stands : UnaryOp → Ty → ℕ → Stand → Stands
 unary_stands unary_op.Minus x h s = holding h x s ∷ holding (h + 1) y.int (holding h x s) ∷ []
 unary_stands _ x h s = holding h x s ∷ []
 
+-- ---- steps
+
+-- the type of what a register holds when a place is read: a reference, where the place has an owner or an isolate
+abbrev pub lent : Seen → Ty
+lent x = if is_owned_place x.place then borrow_gives x.view else x.value
+
+-- the same after all steps from a register that holds a value of this type
+abbrev pub lent_last : Ty → Steps → Ty
+lent_last t no_steps = t
+lent_last t (more_steps x xs) = lent_last (lent (step_seen x)) xs
+
 -- ---- the tree
 
 -- the values of a call in the registers from h on
@@ -164,9 +175,9 @@ abbrev mutual
       (λ g. place_stands p (type e) h (with_gone g s)) (λ g. place_after p (gives_of (type e)) h (scope_at s) g) (λ g. holding h (type e) (with_gone g s))
   node_stands x (steps e (more_steps y ys)) h s =
       then_stands (h + 1)
-      (start_stands e (step_view y) (λ n. step_changes n y) h s (λ k t. step_stands y h k s t) (λ k g. step_after y k (scope_at s) g) (λ g. holding h (step_seen y).value (with_gone g s)))
-      (start_after e (step_view y) (λ n. step_changes n y) h (scope_at s) s.gone (λ k g. step_after y k (scope_at s) g)) (λ g. holding h (step_seen y).value (with_gone g s))
-      (λ g. steps_stands (step_seen y).value ys h (with_gone g s)) (λ g. steps_after ys h (scope_at s) g) (λ g. holding h x (with_gone g s))
+      (start_stands e (step_view y) (λ n. step_changes n y) h s (λ k t. step_stands y h k s t) (λ k g. step_after y k (scope_at s) g) (λ g. holding h (lent (step_seen y)) (with_gone g s)))
+      (start_after e (step_view y) (λ n. step_changes n y) h (scope_at s) s.gone (λ k g. step_after y k (scope_at s) g)) (λ g. holding h (lent (step_seen y)) (with_gone g s))
+      (λ g. steps_stands (lent (step_seen y)) ys h (with_gone g s)) (λ g. steps_after ys h (scope_at s) g) (λ g. holding h (lent_last (lent (step_seen y)) ys) (with_gone g s))
   node_stands x (steps e no_steps) h s = s ∷ []
   node_stands x (iso at b) h s =
       s ∷ comes_stands (block_stands b h (h + 1) (deeper s)) (block_after b (h + 1) (scope_at s) s.gone) (λ g. given h (block_type b) (with_gone g (deeper s)) ∷ [])
@@ -183,15 +194,15 @@ abbrev mutual
   pub step_stands : Step → ℕ → ℕ → Stand → Stand → Stands
   step_stands (index x view at e) h k over s =
       then_stands (k + 1) (expr_stands e k s) (expr_after e k (scope_at s) s.gone) (λ g. holding k (type e) (with_gone g s))
-      (λ g. holding k (type e) (with_gone g s) ∷ []) (λ g. comes g) (λ g. holding h x.value (with_gone g over))
+      (λ g. holding k (type e) (with_gone g s) ∷ []) (λ g. comes g) (λ g. holding h (lent x) (with_gone g over))
   step_stands x h k over s = s ∷ []
 
   -- from what stands in h, of this type
   pub steps_stands : Ty → Steps → ℕ → Stand → Stands
   steps_stands t no_steps h s = []
   steps_stands t (more_steps x xs) h s =
-      then_stands (h + 1) (step_stands x h (h + 1) s (holding h t s)) (step_after x (h + 1) (scope_at s) s.gone) (λ g. holding h (step_seen x).value (with_gone g s))
-      (λ g. steps_stands (step_seen x).value xs h (with_gone g s)) (λ g. steps_after xs h (scope_at s) g) (λ g. holding h (steps_seen (step_seen x) xs).value (with_gone g s))
+      then_stands (h + 1) (step_stands x h (h + 1) s (holding h t s)) (step_after x (h + 1) (scope_at s) s.gone) (λ g. holding h (lent (step_seen x)) (with_gone g s))
+      (λ g. steps_stands (lent (step_seen x)) xs h (with_gone g s)) (λ g. steps_after xs h (scope_at s) g) (λ g. holding h (lent_last (lent (step_seen x)) xs) (with_gone g s))
 
   -- the place of a `set`: it gets what waits in h, of this type, and h what it held
   pub place_stands : Expr → Ty → ℕ → Stand → Stands
@@ -202,10 +213,10 @@ abbrev mutual
   place_stands (expr x (steps e (more_steps y ys))) t h s =
       then_stands (h + 2)
       (start_stands e (step_view y) (λ n. step_changes n y) (h + 1) (with_waiting h t s) (λ k u. step_stands y (h + 1) k (with_waiting h t s) u)
-      (λ k g. step_after y k (scope_at (with_waiting h t s)) g) (λ g. holding (h + 1) (step_seen y).value (with_gone g (with_waiting h t s))))
+      (λ k g. step_after y k (scope_at (with_waiting h t s)) g) (λ g. holding (h + 1) (lent (step_seen y)) (with_gone g (with_waiting h t s))))
       (start_after e (step_view y) (λ n. step_changes n y) (h + 1) (scope_at (with_waiting h t s)) (with_waiting h t s).gone (λ k g. step_after y k (scope_at (with_waiting h t s)) g))
-      (λ g. holding (h + 1) (step_seen y).value (with_gone g (with_waiting h t s)))
-      (λ g. targets_stands (step_seen y).value ys t h (h + 1) s (with_gone g (with_waiting h t s)))
+      (λ g. holding (h + 1) (lent (step_seen y)) (with_gone g (with_waiting h t s)))
+      (λ g. targets_stands (lent (step_seen y)) ys t h (h + 1) s (with_gone g (with_waiting h t s)))
       (λ g. targets_after ys (h + 1) (scope_at (with_waiting h t s)) g) (λ g. holding h t (with_gone g s))
   place_stands (expr x node) t h s = s ∷ []
 
@@ -214,8 +225,8 @@ abbrev mutual
   targets_stands u no_steps t new h over s = s ∷ []
   targets_stands u (more_steps x no_steps) t new h over s = swap_stands x t new (h + 1) over (holding h u s)
   targets_stands u (more_steps x xs) t new h over s =
-      then_stands (h + 1) (step_stands x h (h + 1) s (holding h u s)) (step_after x (h + 1) (scope_at s) s.gone) (λ g. holding h (step_seen x).value (with_gone g s))
-      (λ g. targets_stands (step_seen x).value xs t new h over (with_gone g s)) (λ g. targets_after xs h (scope_at s) g) (λ g. holding new t (with_gone g over))
+      then_stands (h + 1) (step_stands x h (h + 1) s (holding h u s)) (step_after x (h + 1) (scope_at s) s.gone) (λ g. holding h (lent (step_seen x)) (with_gone g s))
+      (λ g. targets_stands (lent (step_seen x)) xs t new h over (with_gone g s)) (λ g. targets_after xs h (scope_at s) g) (λ g. holding new t (with_gone g over))
 
   -- the last step of a place that is set
   pub swap_stands : Step → Ty → ℕ → ℕ → Stand → Stand → Stands
@@ -290,7 +301,7 @@ abbrev mutual
       then_stands (h + 1) (expr_stands a h s) (expr_after a h (scope_at s) s.gone) (λ g. holding h (type a) (with_gone g s))
       (λ g. then_stands (h + 2) (expr_stands e (h + 1) (holding h (type a) (with_gone g s))) (expr_after e (h + 1) (scope_at s) g) (λ g. holding (h + 1) (type e) (holding h (type a) (with_gone g s)))
       (λ g. let counted = holding (h + 1) (type e) (holding h (type a) (with_gone g s)) in let inner = with_local n.name.0 (h + 2) y.int counted in
-      count_stands h counted (block_stands b h (h + 3) inner) (block_after b (h + 3) (scope_at inner) inner.gone)) (λ g. comes g) (λ g. with_gone g s))
+      count_stands h counted (block_stands b h (h + 2 + 1) inner) (block_after b (h + 2 + 1) (scope_at inner) inner.gone)) (λ g. comes g) (λ g. with_gone g s))
       (λ g. expr_after e (h + 1) (scope_at s) g) (λ g. with_gone g s)
   stmt_stands (express (expr x (set at (expr y (name n is_outer moved)) e))) h s =
       comes_stands (expr_stands e h s) (expr_after e h (scope_at s) s.gone) (λ g. store_stands (find n.name.0 (scope_at s)) (type e) h (with_gone g s))

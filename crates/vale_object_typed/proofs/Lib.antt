@@ -1,0 +1,7 @@
+mod Functions
+mod Holding
+mod Nodes
+mod Shapes
+mod Steps
+mod Tree
+mod Types
