@@ -1,5 +1,5 @@
 -- The code of a program that is declared and typed has its tables.
-use Rattle.std.proofs.Common.{◌≡◌, ℕ, zero, suc, Bool, true, false, not, ◌||◌, ◌&&◌, ◌==◌, List, [], ◌∷◌, ◌++◌, map, Option, Some, None, is_some, if◌then◌else◌, refl, sym, ap, ◌∙◌, subst, append-nil}
+use Rattle.std.proofs.Common.{◌≡◌, ℕ, suc, Bool, true, false, ◌||◌, ◌==◌, List, [], ◌∷◌, ◌++◌, map, Option, Some, None, if◌then◌else◌, refl, sym, ap, ◌∙◌, subst, append-nil}
 use Rattle.std.specs.Prelude.{slice_get, option_map, flat_map, bytes_eq, codes}
 use Rattle.std.specs.List.{list_any}
 use Rattle.std.specs.Option.{option_map_or}
@@ -7,22 +7,20 @@ use Rattle.std.proofs.lemmas.Bool.{eq-eqb, eqb-true}
 use Rattle.std.proofs.lemmas.Option.{slice_get-map}
 use Rattle.vale_syntax.specs.declared.built_in.BuiltIn.{BuiltIn}
 use Rattle.vale_syntax.specs.declared.built_in.BuiltIn.TheVariants as b
-use Rattle.vale_syntax.specs.declared.decls.Decls.{Decls}
 use Rattle.vale_syntax.specs.declared.fault.Fault.{Fault}
 use Rattle.vale_syntax.specs.declared.tree.NameAt.{NameAt}
 use Rattle.vale_syntax.specs.Tree.{Param, Head, head, Function, function, FieldDecl, field_decl, Item, struct_item, interface_item, impl_item, function_item, tree}
-use Rattle.vale_rules_spec.specs.Declarations.{declarations, head_name, head_params, param_type, field_type, is_called}
+use Rattle.vale_rules_spec.specs.Declarations.{declarations, head_name, head_params, param_type, is_called}
 use Rattle.vale_rules_spec.specs.DeclFaults.{declaration_faults, item_faults, program_spot}
 use Rattle.vale_rules_spec.specs.DeclRules.{program_rules}
-use Rattle.vale_rules_spec.specs.Judged.{Judged, fine, faulty, unless, own, one_by_one, both, plain as plain_node}
+use Rattle.vale_rules_spec.specs.Judged.{Judged, fine, faulty, unless, own, one_by_one, both}
 use Rattle.vale_rules_spec.specs.Returns.{block_returns}
 use Rattle.vale_rules_spec.specs.Types.{Ty, kind, array, same, type_of, View, seen_object, fields_of, field_named, function_named}
-use Rattle.vale_rules_spec.specs.Types as y
 use Rattle.vale_rules_spec.specs.Typed as t
 use Rattle.vale_rules_spec.specs.Typed.{Typed}
-use Rattle.vale_rules_spec.specs.TypeRules.{Called, program, built_ins, built_in_among, called_else, called, field_types, param_types, is_pure_head, head_gives, function_rules}
+use Rattle.vale_rules_spec.specs.TypeRules.{program, built_ins, built_in_among, called_else, called, field_types, param_types, is_pure_head, head_gives, function_rules}
 use Rattle.vale_rules_spec.specs.Typing.{type_in, entry, void_block, in_function, in_functions, in_item, in_items}
-use Rattle.vale_model.specs.Kinds.{head_of, body_of, once, kinds_of, named_kinds, declared_arrays, made_arrays}
+use Rattle.vale_model.specs.Kinds.{head_of, once, kinds_of, named_kinds, declared_arrays, made_arrays}
 use Rattle.vale_model.specs.Parts.{Parts, parts_of, kind_of, place_of_kind, fields_in, later, place_of_field, field_place_in, first_function, has_name, name_of, functions_of, is_pure, is_pure_head as pure_of}
 use Rattle.vale_code.specs.Kinds as code_kinds
 use Rattle.vale_code.specs.Parts.{Parts as Code}
@@ -31,7 +29,7 @@ use Rattle.vale_lowering.specs.Scopes.{number_of_function, head_result}
 use Rattle.vale_lowering.proofs.Lookups.{found_function, passes}
 use Rattle.vale_lowering_objects.specs.Code.{lowered, lowered_parts, lowered_function, functions_in, texts_of, kind_info, kind_of_name, methods_in, code_field}
 use Rattle.vale_lowering_objects.specs.Lowered.{is_destructor}
-use Rattle.vale_lowering_objects.specs.Program.{code_type, form_number}
+use Rattle.vale_lowering_objects.specs.Program.{code_type}
 use Rattle.vale_object_facts.specs.Suits.{code_types, HasField}
 use Rattle.vale_object_typed.specs.Fit.{LoweredHasTables}
 use Rattle.vale_object_typed.specs.Tables.{HasFunction, HasTables}
@@ -40,7 +38,7 @@ use Rattle.vale_object_typed.proofs.Types.{same_is}
 use Rattle.vale_object_kinds.proofs.Destructors.{has_number, is_struct, is_interface, methods_of_tree, Matches, drop_items, all_match, later_struct, no_both}
 use Rattle.vale_object_kinds.proofs.Holds.{Holds, Pair, holds_node, holds_plain, holds_both}
 use Rattle.vale_object_kinds.proofs.Items.{AllClean, all_clean, AllItems, items_known, ItemsArrays, items_arrays}
-use Rattle.vale_object_kinds.proofs.Known.{or_left, or_right, or_either, names_kind, is_declared, has}
+use Rattle.vale_object_kinds.proofs.Known.{or_left, or_right, or_either, is_declared, has}
 use Rattle.vale_object_kinds.proofs.KnownParts.{none_in}
 
 -- ---- kinds that are listed
@@ -55,7 +53,7 @@ place_is z (x ∷ xs) e = by (same z x) refl (λ f. place_is z xs f) e
 
 has_once : (z : Ty) (before xs : List Ty) → has z xs ≡ true → (has z before || has z (once before xs)) ≡ true
 has_once z before [] e = absurd (cc)
-has_once z before (x ∷ xs) e = by (list_any (same x) before) refl
+has_once z before (x ∷ xs) e = by (list_any (same x) before) refl (λ f. has_once z before xs f) (λ f. has_once z (x ∷ before) xs f)
   where
     here : (same z x ≡ true) → list_any (same x) before ≡ true → has z before ≡ true
     here f g = subst (λ w. has w before ≡ true) (sym (same_is z x f)) g
@@ -65,12 +63,13 @@ has_once z before (x ∷ xs) e = by (list_any (same x) before) refl
     moved true false c d e = refl
     moved false b c d e = e
 
-    by : (b : Bool) → list_any (same x) before ≡ b → (has z before || has z (if b then once before xs else x ∷ once (x ∷ before) xs)) ≡ true
-    by true g = or_either (same z x) (has z xs) (has z before || has z (once before xs)) (λ f. or_left (has z before) (has z (once before xs)) (here f g)) (λ f. has_once z before xs f) e
-    by false g =
+    by : (b : Bool) → list_any (same x) before ≡ b → (has z xs ≡ true → (has z before || has z (once before xs)) ≡ true) → (has z xs ≡ true → (has z (x ∷ before) || has z (once (x ∷ before) xs)) ≡ true)
+        → (has z before || has z (if b then once before xs else x ∷ once (x ∷ before) xs)) ≡ true
+    by true g again more = or_either (same z x) (has z xs) (has z before || has z (once before xs)) (λ f. or_left (has z before) (has z (once before xs)) (here f g)) again e
+    by false g again more =
         or_either (same z x) (has z xs) (has z before || has z (x ∷ once (x ∷ before) xs))
         (λ f. or_right (has z before) (has z (x ∷ once (x ∷ before) xs)) (or_left (same z x) (has z (once (x ∷ before) xs)) f))
-        (λ f. moved (same z x) (has z before) (has z (once (x ∷ before) xs)) true (has_once z (x ∷ before) xs f)) e
+        (λ f. moved (same z x) (has z before) (has z (once (x ∷ before) xs)) true (more f)) e
 
 has_front : (z : Ty) (xs ys : List Ty) → has z xs ≡ true → has z (xs ++ ys) ≡ true
 has_front z [] ys e = absurd (cc)
@@ -94,48 +93,48 @@ other_turned m n e = by (n == m) refl
 
 none_here : (q : ℕ) (xs : List Item) → (list_any (is_struct q) xs ≡ true → ⊥) → flat_map (tree_fields q) xs ≡ []
 none_here q [] f = refl
-none_here q (struct_item n fs ∷ xs) f = by (n.name.0 == q) refl
+none_here q (struct_item n fs ∷ xs) f = by (n.name.0 == q) refl (none_here q xs (λ g. f (or_right (q == n.name.0) (list_any (is_struct q) xs) g)))
   where
-    by : (b : Bool) → (n.name.0 == q) ≡ b → (if b then fs else []) ++ flat_map (tree_fields q) xs ≡ []
-    by true e = absurd (f (or_left (q == n.name.0) (list_any (is_struct q) xs) (turned n.name.0 q e)))
-    by false e = none_here q xs (λ g. f (or_right (q == n.name.0) (list_any (is_struct q) xs) g))
+    by : (b : Bool) → (n.name.0 == q) ≡ b → flat_map (tree_fields q) xs ≡ [] → (if b then fs else []) ++ flat_map (tree_fields q) xs ≡ []
+    by true e rest = absurd (f (or_left (q == n.name.0) (list_any (is_struct q) xs) (turned n.name.0 q e)))
+    by false e rest = rest
 none_here q (interface_item n hs ∷ xs) f = none_here q xs f
 none_here q (impl_item at i s fs ∷ xs) f = none_here q xs f
 none_here q (function_item g ∷ xs) f = none_here q xs f
 
-no_methods : (q : ℕ) (xs : List Item) → (list_any (is_interface q) xs ≡ true → ⊥) → flat_map (methods_of_tree q) xs ≡ []
-no_methods q [] f = refl
-no_methods q (interface_item n hs ∷ xs) f = by (n.name.0 == q) refl
+no_methods : (names : List (List ℕ)) (items : List Item) (q : ℕ) (xs : List Item) → (list_any (is_interface q) xs ≡ true → ⊥) → flat_map (methods_of_tree names items q) xs ≡ []
+no_methods names items q [] f = refl
+no_methods names items q (interface_item n hs ∷ xs) f = by (n.name.0 == q) refl (no_methods names items q xs (λ g. f (or_right (n.name.0 == q) (list_any (is_interface q) xs) g)))
   where
-    by : (b : Bool) → (n.name.0 == q) ≡ b → (if b then hs ∷ [] else []) ++ flat_map (methods_of_tree q) xs ≡ []
-    by true e = absurd (f (or_left (n.name.0 == q) (list_any (is_interface q) xs) e))
-    by false e = no_methods q xs (λ g. f (or_right (n.name.0 == q) (list_any (is_interface q) xs) g))
-no_methods q (struct_item n fs ∷ xs) f = no_methods q xs f
-no_methods q (impl_item at i s fs ∷ xs) f = no_methods q xs f
-no_methods q (function_item g ∷ xs) f = no_methods q xs f
+    by : (b : Bool) → (n.name.0 == q) ≡ b → flat_map (methods_of_tree names items q) xs ≡ [] → (if b then hs ∷ [] else []) ++ flat_map (methods_of_tree names items q) xs ≡ []
+    by true e rest = absurd (f (or_left (n.name.0 == q) (list_any (is_interface q) xs) e))
+    by false e rest = rest
+no_methods names items q (struct_item n fs ∷ xs) f = no_methods names items q xs f
+no_methods names items q (impl_item at i s fs ∷ xs) f = no_methods names items q xs f
+no_methods names items q (function_item g ∷ xs) f = no_methods names items q xs f
 
 module _ (names : List (List ℕ)) (items : List Item) where
   -- a struct of this number is declared
   struct_there : (q : ℕ) (xs : List Item) (fs : List FieldDecl) → fields_of xs q ≡ Some fs → list_any (is_struct q) xs ≡ true
   struct_there q [] fs e = absurd (cc)
-  struct_there q (struct_item n gs ∷ xs) fs e = by (n.name.0 == q) refl e
+  struct_there q (struct_item n gs ∷ xs) fs e = by (n.name.0 == q) refl (λ f. struct_there q xs fs f) e
     where
-      by : (b : Bool) → (n.name.0 == q) ≡ b → (if b then Some gs else fields_of xs q) ≡ Some fs → ((q == n.name.0) || list_any (is_struct q) xs) ≡ true
-      by true is e = or_left (q == n.name.0) (list_any (is_struct q) xs) (turned n.name.0 q is)
-      by false is e = or_right (q == n.name.0) (list_any (is_struct q) xs) (struct_there q xs fs e)
+      by : (b : Bool) → (n.name.0 == q) ≡ b → (fields_of xs q ≡ Some fs → list_any (is_struct q) xs ≡ true) → (if b then Some gs else fields_of xs q) ≡ Some fs → ((q == n.name.0) || list_any (is_struct q) xs) ≡ true
+      by true is rest e = or_left (q == n.name.0) (list_any (is_struct q) xs) (turned n.name.0 q is)
+      by false is rest e = or_right (q == n.name.0) (list_any (is_struct q) xs) (rest e)
   struct_there q (interface_item n hs ∷ xs) fs e = struct_there q xs fs e
   struct_there q (impl_item at i s gs ∷ xs) fs e = struct_there q xs fs e
   struct_there q (function_item g ∷ xs) fs e = struct_there q xs fs e
 
   fields_once : (q : ℕ) (before xs : List Item) (fs : List FieldDecl) → AllClean (item_faults names items) before xs → fields_of xs q ≡ Some fs → flat_map (tree_fields q) xs ≡ fs
   fields_once q before [] fs c e = absurd (cc)
-  fields_once q before (struct_item n gs ∷ xs) fs c e = by (n.name.0 == q) refl e
+  fields_once q before (struct_item n gs ∷ xs) fs c e = by (n.name.0 == q) refl (λ f. fields_once q (struct_item n gs ∷ before) xs fs c.1 f) e
     where
-      by : (b : Bool) → (n.name.0 == q) ≡ b → (if b then Some gs else fields_of xs q) ≡ Some fs → (if b then gs else []) ++ flat_map (tree_fields q) xs ≡ fs
-      by true is e =
+      by : (b : Bool) → (n.name.0 == q) ≡ b → (fields_of xs q ≡ Some fs → flat_map (tree_fields q) xs ≡ fs) → (if b then Some gs else fields_of xs q) ≡ Some fs → (if b then gs else []) ++ flat_map (tree_fields q) xs ≡ fs
+      by true is rest e =
           let same : gs ≡ fs = cc in
           ap (λ l. gs ++ l) (none_here q xs (λ f. later_struct names items q (struct_item n gs ∷ before) xs c.1 (or_left (q == n.name.0) (list_any (has_number q) before) (turned n.name.0 q is)) f)) ∙ append-nil gs ∙ same
-      by false is e = fields_once q (struct_item n gs ∷ before) xs fs c.1 e
+      by false is rest e = rest e
   fields_once q before (interface_item n hs ∷ xs) fs c e = fields_once q (interface_item n hs ∷ before) xs fs c.1 e
   fields_once q before (impl_item at i s gs ∷ xs) fs c e = fields_once q (impl_item at i s gs ∷ before) xs fs c.1 e
   fields_once q before (function_item g ∷ xs) fs c e = fields_once q (function_item g ∷ before) xs fs c.1 e
@@ -247,11 +246,11 @@ module _ (p : Parts) where
 
   field_at : (fs : List FieldDecl) (m : ℕ) (z : Ty) → type_in (field_named fs m) ≡ Some z → FieldAt fs m z
   field_at [] m z e = absurd (cc)
-  field_at (field_decl n may_be_set x ∷ fs) m z e = by (n.name.0 == m) refl e
+  field_at (field_decl n may_be_set x ∷ fs) m z e = by (n.name.0 == m) refl (λ f. field_at fs m z f) e
     where
-      by : (b : Bool) → (n.name.0 == m) ≡ b → type_in (if b then Some (field_decl n may_be_set x) else field_named fs m) ≡ Some z → FieldAt (field_decl n may_be_set x ∷ fs) m z
-      by true is e = let same : type_of x ≡ z = cc in record { place = 0; found = ap (λ b. if b then Some 0 else later (place_of_field m fs)) is; typed = ap (λ w. Some (code_type p w)) same }
-      by false is e = let rest = field_at fs m z e in record { place = suc rest.place; found = ap (λ b. if b then Some 0 else later (place_of_field m fs)) is ∙ ap later rest.found; typed = rest.typed }
+      by : (b : Bool) → (n.name.0 == m) ≡ b → (type_in (field_named fs m) ≡ Some z → FieldAt fs m z) → type_in (if b then Some (field_decl n may_be_set x) else field_named fs m) ≡ Some z → FieldAt (field_decl n may_be_set x ∷ fs) m z
+      by true is others e = let same : type_of x ≡ z = cc in record { place = 0; found = ap (λ b. if b then Some 0 else later (place_of_field m fs)) is; typed = ap (λ w. Some (code_type p w)) same }
+      by false is others e = let rest = others e in record { place = suc rest.place; found = ap (λ b. if b then Some 0 else later (place_of_field m fs)) is ∙ ap later rest.found; typed = rest.typed }
 
 module _ (names : List (List ℕ)) (items : List Item) (clean : AllClean (item_faults names items) [] items) (zs : List t.Item) (is_typed : in_items names items items ≡ fine zs) where
   abbrev p : Parts
@@ -295,7 +294,7 @@ module _ (names : List (List ℕ)) (items : List Item) (clean : AllClean (item_f
   declared_fields n gs e = fields_same n ∙ fields_once names items n [] items gs clean e
 
   no_interface : (n : ℕ) (gs : List FieldDecl) → fields_of items n ≡ Some gs → flat_map (methods_in n) zs ≡ []
-  no_interface n gs e = matches.1 n ∙ no_methods n items (λ f. no_both names items n [] items clean (struct_there names items n items gs e) f)
+  no_interface n gs e = matches.1 n ∙ no_methods names items n items (λ f. no_both names items n [] items clean (struct_there names items n items gs e) f)
 
   has_made : (n : ℕ) (gs : List FieldDecl) → fields_of items n ≡ Some gs → code_fields (code_kinds.kind_of c (kind_of p (kind n))) ≡ Some (code_types p (field_types gs))
   has_made n gs e =
@@ -344,9 +343,9 @@ without_faults [] a b e = refl
 without_faults (f ∷ gs) a b e = absurd (cc)
 
 pub lowered_has_tables : LoweredHasTables
-lowered_has_tables names items decls program is_declared is_typed =
+lowered_has_tables names items decls whole is_declared is_typed =
     let faultless = without_faults (declaration_faults (tree names items)) (declarations items) decls is_declared in
     let parts = none_in (one_by_one (item_faults names items) [] items) (own program_spot (program_rules names items)) faultless in
     let clean = all_clean (item_faults names items) [] items parts.0 in
-    let zs = typed_items names program (in_items names items items) is_typed in
+    let zs = typed_items names whole (in_items names items items) is_typed in
     subst (λ q. HasTables names items (parts_of q) (lowered q) (functions_in (parts_of q))) zs.2 (has_tables names items clean zs.0 zs.1)
