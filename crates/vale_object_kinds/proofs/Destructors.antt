@@ -52,11 +52,11 @@ turned m n e = (Decides-eqb n m).1 (sym ((Decides-eqb m n).0 e))
 abbrev pub has_number : ℕ → Item → Bool
 has_number q x = option_map_or (λ m. q == m.name.0) (item_name x) false
 
-abbrev is_interface : ℕ → Item → Bool
+abbrev pub is_interface : ℕ → Item → Bool
 is_interface q (interface_item n hs) = n.name.0 == q
 is_interface q _ = false
 
-abbrev is_struct : ℕ → Item → Bool
+abbrev pub is_struct : ℕ → Item → Bool
 is_struct q (struct_item n fs) = q == n.name.0
 is_struct q _ = false
 
@@ -82,7 +82,7 @@ module _ (names : List (List ℕ)) (items : List Item) where
   interface_new before n hs c = new_name before n (own_kept n.at (kind_rules names before n) (none_in (one_by_one (head_faults items n) [] hs) (own n.at (kind_rules names before n)) c).1)
 
   -- where an item of this number stands before, no struct and no interface of it follows
-  later_struct : (q : ℕ) (before xs : List Item) → Clean before xs → list_any (has_number q) before ≡ true → list_any (is_struct q) xs ≡ true → ⊥
+  pub later_struct : (q : ℕ) (before xs : List Item) → Clean before xs → list_any (has_number q) before ≡ true → list_any (is_struct q) xs ≡ true → ⊥
   later_struct q before [] c e f = cc
   later_struct q before (struct_item n fs ∷ xs) c e f =
       or_none (q == n.name.0) (list_any (is_struct q) xs) (λ g. clash q before n g e (struct_new before n fs c.0)) (λ g. later_struct q (struct_item n fs ∷ before) xs c.1 (or_right (q == n.name.0) (list_any (has_number q) before) e) g) f
@@ -99,7 +99,7 @@ module _ (names : List (List ℕ)) (items : List Item) where
   later_interface q before (function_item g ∷ xs) c e f = later_interface q (function_item g ∷ before) xs c.1 (or_right (has_number q (function_item g)) (list_any (has_number q) before) e) f
 
   -- no number is that of a struct and of an interface
-  no_both : (q : ℕ) (before xs : List Item) → Clean before xs → list_any (is_struct q) xs ≡ true → list_any (is_interface q) xs ≡ true → ⊥
+  pub no_both : (q : ℕ) (before xs : List Item) → Clean before xs → list_any (is_struct q) xs ≡ true → list_any (is_interface q) xs ≡ true → ⊥
   no_both q before [] c e f = cc
   no_both q before (struct_item n fs ∷ xs) c e f =
       or_none (q == n.name.0) (list_any (is_struct q) xs) (λ g. later_interface q (struct_item n fs ∷ before) xs c.1 (or_left (q == n.name.0) (list_any (has_number q) before) g) f) (λ g. no_both q (struct_item n fs ∷ before) xs c.1 g f) e
@@ -158,7 +158,7 @@ module _ (names : List (List ℕ)) (items : List Item) where
   -- ---- the typed items
 
   -- the methods of the interfaces of this number
-  abbrev methods_of_tree : ℕ → Item → List (List Head)
+  abbrev pub methods_of_tree : ℕ → Item → List (List Head)
   methods_of_tree q (interface_item n hs) = if n.name.0 == q then hs ∷ [] else []
   methods_of_tree q _ = []
 

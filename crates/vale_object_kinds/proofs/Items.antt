@@ -92,7 +92,7 @@ module _ (items : List Item) where
   KnownItem (impl_item at i s fs) = AllFunctions fs
   KnownItem (function_item f) = KnownFunction f
 
-  abbrev AllItems : List Item → Type 0
+  abbrev pub AllItems : List Item → Type 0
   AllItems [] = Unit {0}
   AllItems (x ∷ xs) = KnownItem x × AllItems xs
 
@@ -194,7 +194,7 @@ module _ (items : List Item) where
   FunctionsArrays fs = Arrays items (flat_map (λ f. head_arrays (head_of f)) fs) × Arrays items (flat_map (λ f. block_arrays (body_of f)) fs)
 
   -- the kinds that the items name, and the arrays that they declare and make
-  abbrev ItemsArrays : List Item → List t.Item → Type 0
+  abbrev pub ItemsArrays : List Item → List t.Item → Type 0
   ItemsArrays xs ys = ((m : ℕ) → is_declared xs m ≡ true → has (kind m) (flat_map named_kinds ys) ≡ true) × Arrays items (flat_map declared_arrays ys) × Arrays items (flat_map made_arrays ys)
 
   abbrev ItemArrays : Item → t.Item → Type 0
@@ -229,7 +229,7 @@ module _ (items : List Item) where
     has_back z [] ys e = e
     has_back z (x ∷ xs) ys e = or_right (same z x) (has z (xs ++ ys)) (has_back z xs ys e)
 
-    items_arrays : (xs : List Item) → AllItems xs → Holds (ItemsArrays xs) (in_items names items xs)
+    pub items_arrays : (xs : List Item) → AllItems xs → Holds (ItemsArrays xs) (in_items names items xs)
     items_arrays [] k = (λ m e. e, no_arrays items, no_arrays items)
     items_arrays (x ∷ xs) k =
         holds_plain (Pair (ItemArrays x) (ItemsArrays xs)) (ItemsArrays (x ∷ xs)) _ _ (holds_both (ItemArrays x) (ItemsArrays xs) _ _ (item_arrays x k.0) (items_arrays xs k.1))

@@ -1,8 +1,8 @@
-mod Destructors
-mod Holds
-mod Items
-mod Known
-mod KnownParts
+pub mod Destructors
+pub mod Holds
+pub mod Items
+pub mod Known
+pub mod KnownParts
 mod KnownTree
 mod Same
 mod Texts

@@ -19,7 +19,7 @@ use Rattle.vale_object_facts.specs.Suits.{block_suits}
 use Rattle.vale_object_typed.specs.Covered.{block_is_covered, function_is_covered}
 use Rattle.vale_object_typed.specs.Fit.{is_impl_item, TypedProgramsFit}
 use Rattle.vale_object_typed.specs.Tables.{HasTables}
-use Rattle.vale_object_typed.proofs.Holding.{Holds, Pair, holds_node, holds_plain, holds_both}
+use Rattle.vale_object_kinds.proofs.Holds.{Holds, Pair, holds_node, holds_plain, holds_both}
 use Rattle.vale_object_typed.proofs.Tree.{void_meets}
 
 module _ (names : List (List ℕ)) (items : List Item) (plain : list_any is_impl_item items ≡ false) (p : Parts) (c : Code) (functions : List t.Function) (tables : HasTables names items p c functions) where
@@ -66,7 +66,7 @@ module _ (names : List (List ℕ)) (items : List Item) (plain : list_any is_impl
       (λ v h. h.0 v.1 h.1)
 
 -- what is typed has the tree's names, and its items typed
-typed_items : (names : List (List ℕ)) (program : Typed) (j : Judged (List t.Item)) → plain_node (λ v. t.typed names v) j ≡ fine program → (zs : List t.Item) × (j ≡ fine zs) × (t.typed names zs ≡ program)
+pub typed_items : (names : List (List ℕ)) (program : Typed) (j : Judged (List t.Item)) → plain_node (λ v. t.typed names v) j ≡ fine program → (zs : List t.Item) × (j ≡ fine zs) × (t.typed names zs ≡ program)
 typed_items names program (fine zs) e = let same : t.typed names zs ≡ program = cc in (zs, refl, same)
 typed_items names program (faulty g gs) e = absurd (cc)
 

@@ -1,7 +1,8 @@
 mod Functions
-mod Holding
 mod Nodes
 mod Shapes
 mod Steps
+mod Tables
 mod Tree
 mod Types
+mod Whole

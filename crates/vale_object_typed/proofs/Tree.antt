@@ -19,7 +19,7 @@ use Rattle.vale_object_facts.specs.Suits.{expr_suits, exprs_suit, links_suit, fo
 use Rattle.vale_object_typed.specs.Covered.{types_are_covered, expr_is_covered, node_is_covered, exprs_are_covered, links_are_covered, form_is_covered, elses_are_covered, block_is_covered, stmts_are_covered, stmt_is_covered}
 use Rattle.vale_object_typed.specs.Fit.{is_impl_item}
 use Rattle.vale_object_typed.specs.Tables.{HasTables}
-use Rattle.vale_object_typed.proofs.Holding.{Holds, Pair, holds_leaf, holds_node, holds_plain, holds_both, holds_over}
+use Rattle.vale_object_kinds.proofs.Holds.{Holds, Pair, holds_leaf, holds_node, holds_plain, holds_both, holds_over}
 use Rattle.vale_object_typed.proofs.Nodes.{type_covered, name_meets, set_meets, unary_meets, callee_meets, all_alike, opened_meets, keeps_by, first_by}
 use Rattle.vale_object_typed.proofs.Shapes.{Suited, suits_value}
 use Rattle.vale_object_typed.proofs.Steps.{StepFits, StepsFit, field_fits, index_fits, no_more, more_fit}
