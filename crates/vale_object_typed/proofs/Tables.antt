@@ -103,16 +103,16 @@ none_here q (interface_item n hs ∷ xs) f = none_here q xs f
 none_here q (impl_item at i s fs ∷ xs) f = none_here q xs f
 none_here q (function_item g ∷ xs) f = none_here q xs f
 
-no_methods : (q : ℕ) (xs : List Item) → (list_any (is_interface q) xs ≡ true → ⊥) → flat_map (methods_of_tree q) xs ≡ []
-no_methods q [] f = refl
-no_methods q (interface_item n hs ∷ xs) f = by (n.name.0 == q) refl (λ g. no_methods q xs g)
+no_methods : (names : List (List ℕ)) (items : List Item) (q : ℕ) (xs : List Item) → (list_any (is_interface q) xs ≡ true → ⊥) → flat_map (methods_of_tree names items q) xs ≡ []
+no_methods names items q [] f = refl
+no_methods names items q (interface_item n hs ∷ xs) f = by (n.name.0 == q) refl (λ g. no_methods names items q xs g)
   where
-    by : (b : Bool) → (n.name.0 == q) ≡ b → ((list_any (is_interface q) xs ≡ true → ⊥) → flat_map (methods_of_tree q) xs ≡ []) → (if b then hs ∷ [] else []) ++ flat_map (methods_of_tree q) xs ≡ []
+    by : (b : Bool) → (n.name.0 == q) ≡ b → ((list_any (is_interface q) xs ≡ true → ⊥) → flat_map (methods_of_tree names items q) xs ≡ []) → (if b then hs ∷ [] else []) ++ flat_map (methods_of_tree names items q) xs ≡ []
     by true e rest = absurd (f (or_left (n.name.0 == q) (list_any (is_interface q) xs) e))
     by false e rest = rest (λ g. f (or_right (n.name.0 == q) (list_any (is_interface q) xs) g))
-no_methods q (struct_item n fs ∷ xs) f = no_methods q xs f
-no_methods q (impl_item at i s fs ∷ xs) f = no_methods q xs f
-no_methods q (function_item g ∷ xs) f = no_methods q xs f
+no_methods names items q (struct_item n fs ∷ xs) f = no_methods names items q xs f
+no_methods names items q (impl_item at i s fs ∷ xs) f = no_methods names items q xs f
+no_methods names items q (function_item g ∷ xs) f = no_methods names items q xs f
 
 module _ (names : List (List ℕ)) (items : List Item) where
   -- a struct of this number is declared
@@ -295,7 +295,7 @@ module _ (names : List (List ℕ)) (items : List Item) (clean : AllClean (item_f
   declared_fields n gs e = fields_same n ∙ fields_once names items n [] items gs clean e
 
   no_interface : (n : ℕ) (gs : List FieldDecl) → fields_of items n ≡ Some gs → flat_map (methods_in n) zs ≡ []
-  no_interface n gs e = matches.1 n ∙ no_methods n items (λ f. no_both names items n [] items clean (struct_there names items n items gs e) f)
+  no_interface n gs e = matches.1 n ∙ no_methods names items n items (λ f. no_both names items n [] items clean (struct_there names items n items gs e) f)
 
   has_made : (n : ℕ) (gs : List FieldDecl) → fields_of items n ≡ Some gs → code_fields (code_kinds.kind_of c (kind_of p (kind n))) ≡ Some (code_types p (field_types gs))
   has_made n gs e =
