@@ -1,5 +1,5 @@
 -- The code of a program that is declared and typed has its tables.
-use Rattle.std.proofs.Common.{◌≡◌, ℕ, zero, suc, Bool, true, false, not, ◌||◌, ◌&&◌, ◌==◌, List, [], ◌∷◌, ◌++◌, map, Option, Some, None, is_some, if◌then◌else◌, refl, sym, ap, ◌∙◌, subst, append-nil}
+use Rattle.std.proofs.Common.{◌≡◌, ℕ, suc, Bool, true, false, ◌||◌, ◌==◌, List, [], ◌∷◌, ◌++◌, map, Option, Some, None, if◌then◌else◌, refl, sym, ap, ◌∙◌, subst, append-nil}
 use Rattle.std.specs.Prelude.{slice_get, option_map, flat_map, bytes_eq, codes}
 use Rattle.std.specs.List.{list_any}
 use Rattle.std.specs.Option.{option_map_or}
@@ -7,22 +7,20 @@ use Rattle.std.proofs.lemmas.Bool.{eq-eqb, eqb-true}
 use Rattle.std.proofs.lemmas.Option.{slice_get-map}
 use Rattle.vale_syntax.specs.declared.built_in.BuiltIn.{BuiltIn}
 use Rattle.vale_syntax.specs.declared.built_in.BuiltIn.TheVariants as b
-use Rattle.vale_syntax.specs.declared.decls.Decls.{Decls}
 use Rattle.vale_syntax.specs.declared.fault.Fault.{Fault}
 use Rattle.vale_syntax.specs.declared.tree.NameAt.{NameAt}
 use Rattle.vale_syntax.specs.Tree.{Param, Head, head, Function, function, FieldDecl, field_decl, Item, struct_item, interface_item, impl_item, function_item, tree}
-use Rattle.vale_rules_spec.specs.Declarations.{declarations, head_name, head_params, param_type, field_type, is_called}
+use Rattle.vale_rules_spec.specs.Declarations.{declarations, head_name, head_params, param_type, is_called}
 use Rattle.vale_rules_spec.specs.DeclFaults.{declaration_faults, item_faults, program_spot}
 use Rattle.vale_rules_spec.specs.DeclRules.{program_rules}
-use Rattle.vale_rules_spec.specs.Judged.{Judged, fine, faulty, unless, own, one_by_one, both, plain as plain_node}
+use Rattle.vale_rules_spec.specs.Judged.{Judged, fine, faulty, unless, own, one_by_one, both}
 use Rattle.vale_rules_spec.specs.Returns.{block_returns}
 use Rattle.vale_rules_spec.specs.Types.{Ty, kind, array, same, type_of, View, seen_object, fields_of, field_named, function_named}
-use Rattle.vale_rules_spec.specs.Types as y
 use Rattle.vale_rules_spec.specs.Typed as t
 use Rattle.vale_rules_spec.specs.Typed.{Typed}
-use Rattle.vale_rules_spec.specs.TypeRules.{Called, program, built_ins, built_in_among, called_else, called, field_types, param_types, is_pure_head, head_gives, function_rules}
+use Rattle.vale_rules_spec.specs.TypeRules.{program, built_ins, built_in_among, called_else, called, field_types, param_types, is_pure_head, head_gives, function_rules}
 use Rattle.vale_rules_spec.specs.Typing.{type_in, entry, void_block, in_function, in_functions, in_item, in_items}
-use Rattle.vale_model.specs.Kinds.{head_of, body_of, once, kinds_of, named_kinds, declared_arrays, made_arrays}
+use Rattle.vale_model.specs.Kinds.{head_of, once, kinds_of, named_kinds, declared_arrays, made_arrays}
 use Rattle.vale_model.specs.Parts.{Parts, parts_of, kind_of, place_of_kind, fields_in, later, place_of_field, field_place_in, first_function, has_name, name_of, functions_of, is_pure, is_pure_head as pure_of}
 use Rattle.vale_code.specs.Kinds as code_kinds
 use Rattle.vale_code.specs.Parts.{Parts as Code}
@@ -31,7 +29,7 @@ use Rattle.vale_lowering.specs.Scopes.{number_of_function, head_result}
 use Rattle.vale_lowering.proofs.Lookups.{found_function, passes}
 use Rattle.vale_lowering_objects.specs.Code.{lowered, lowered_parts, lowered_function, functions_in, texts_of, kind_info, kind_of_name, methods_in, code_field}
 use Rattle.vale_lowering_objects.specs.Lowered.{is_destructor}
-use Rattle.vale_lowering_objects.specs.Program.{code_type, form_number}
+use Rattle.vale_lowering_objects.specs.Program.{code_type}
 use Rattle.vale_object_facts.specs.Suits.{code_types, HasField}
 use Rattle.vale_object_typed.specs.Fit.{LoweredHasTables}
 use Rattle.vale_object_typed.specs.Tables.{HasFunction, HasTables}
@@ -40,7 +38,7 @@ use Rattle.vale_object_typed.proofs.Types.{same_is}
 use Rattle.vale_object_kinds.proofs.Destructors.{has_number, is_struct, is_interface, methods_of_tree, Matches, drop_items, all_match, later_struct, no_both}
 use Rattle.vale_object_kinds.proofs.Holds.{Holds, Pair, holds_node, holds_plain, holds_both}
 use Rattle.vale_object_kinds.proofs.Items.{AllClean, all_clean, AllItems, items_known, ItemsArrays, items_arrays}
-use Rattle.vale_object_kinds.proofs.Known.{or_left, or_right, or_either, names_kind, is_declared, has}
+use Rattle.vale_object_kinds.proofs.Known.{or_left, or_right, or_either, is_declared, has}
 use Rattle.vale_object_kinds.proofs.KnownParts.{none_in}
 
 -- ---- kinds that are listed
