@@ -63,8 +63,7 @@ has_once z before (x ∷ xs) e = by (list_any (same x) before) refl (λ f. has_o
     moved true false c d e = refl
     moved false b c d e = e
 
-    by : (b : Bool) → list_any (same x) before ≡ b → (has z xs ≡ true → (has z before || has z (once before xs)) ≡ true) → (has z xs ≡ true → (has z (x ∷ before) || has z (once (x ∷ before) xs)) ≡ true)
-        → (has z before || has z (if b then once before xs else x ∷ once (x ∷ before) xs)) ≡ true
+    by : (b : Bool) → list_any (same x) before ≡ b → (has z xs ≡ true → (has z before || has z (once before xs)) ≡ true) → (has z xs ≡ true → (has z (x ∷ before) || has z (once (x ∷ before) xs)) ≡ true) → (has z before || has z (if b then once before xs else x ∷ once (x ∷ before) xs)) ≡ true
     by true g again more = or_either (same z x) (has z xs) (has z before || has z (once before xs)) (λ f. or_left (has z before) (has z (once before xs)) (here f g)) again e
     by false g again more =
         or_either (same z x) (has z xs) (has z before || has z (x ∷ once (x ∷ before) xs))
@@ -93,22 +92,22 @@ other_turned m n e = by (n == m) refl
 
 none_here : (q : ℕ) (xs : List Item) → (list_any (is_struct q) xs ≡ true → ⊥) → flat_map (tree_fields q) xs ≡ []
 none_here q [] f = refl
-none_here q (struct_item n fs ∷ xs) f = by (n.name.0 == q) refl (none_here q xs (λ g. f (or_right (q == n.name.0) (list_any (is_struct q) xs) g)))
+none_here q (struct_item n fs ∷ xs) f = by (n.name.0 == q) refl (λ g. none_here q xs g)
   where
-    by : (b : Bool) → (n.name.0 == q) ≡ b → flat_map (tree_fields q) xs ≡ [] → (if b then fs else []) ++ flat_map (tree_fields q) xs ≡ []
+    by : (b : Bool) → (n.name.0 == q) ≡ b → ((list_any (is_struct q) xs ≡ true → ⊥) → flat_map (tree_fields q) xs ≡ []) → (if b then fs else []) ++ flat_map (tree_fields q) xs ≡ []
     by true e rest = absurd (f (or_left (q == n.name.0) (list_any (is_struct q) xs) (turned n.name.0 q e)))
-    by false e rest = rest
+    by false e rest = rest (λ g. f (or_right (q == n.name.0) (list_any (is_struct q) xs) g))
 none_here q (interface_item n hs ∷ xs) f = none_here q xs f
 none_here q (impl_item at i s fs ∷ xs) f = none_here q xs f
 none_here q (function_item g ∷ xs) f = none_here q xs f
 
 no_methods : (names : List (List ℕ)) (items : List Item) (q : ℕ) (xs : List Item) → (list_any (is_interface q) xs ≡ true → ⊥) → flat_map (methods_of_tree names items q) xs ≡ []
 no_methods names items q [] f = refl
-no_methods names items q (interface_item n hs ∷ xs) f = by (n.name.0 == q) refl (no_methods names items q xs (λ g. f (or_right (n.name.0 == q) (list_any (is_interface q) xs) g)))
+no_methods names items q (interface_item n hs ∷ xs) f = by (n.name.0 == q) refl (λ g. no_methods names items q xs g)
   where
-    by : (b : Bool) → (n.name.0 == q) ≡ b → flat_map (methods_of_tree names items q) xs ≡ [] → (if b then hs ∷ [] else []) ++ flat_map (methods_of_tree names items q) xs ≡ []
+    by : (b : Bool) → (n.name.0 == q) ≡ b → ((list_any (is_interface q) xs ≡ true → ⊥) → flat_map (methods_of_tree names items q) xs ≡ []) → (if b then hs ∷ [] else []) ++ flat_map (methods_of_tree names items q) xs ≡ []
     by true e rest = absurd (f (or_left (n.name.0 == q) (list_any (is_interface q) xs) e))
-    by false e rest = rest
+    by false e rest = rest (λ g. f (or_right (n.name.0 == q) (list_any (is_interface q) xs) g))
 no_methods names items q (struct_item n fs ∷ xs) f = no_methods names items q xs f
 no_methods names items q (impl_item at i s fs ∷ xs) f = no_methods names items q xs f
 no_methods names items q (function_item g ∷ xs) f = no_methods names items q xs f
@@ -117,7 +116,7 @@ module _ (names : List (List ℕ)) (items : List Item) where
   -- a struct of this number is declared
   struct_there : (q : ℕ) (xs : List Item) (fs : List FieldDecl) → fields_of xs q ≡ Some fs → list_any (is_struct q) xs ≡ true
   struct_there q [] fs e = absurd (cc)
-  struct_there q (struct_item n gs ∷ xs) fs e = by (n.name.0 == q) refl (λ f. struct_there q xs fs f) e
+  struct_there q (struct_item n gs ∷ xs) fs e = by (n.name.0 == q) refl (λ g. struct_there q xs fs g) e
     where
       by : (b : Bool) → (n.name.0 == q) ≡ b → (fields_of xs q ≡ Some fs → list_any (is_struct q) xs ≡ true) → (if b then Some gs else fields_of xs q) ≡ Some fs → ((q == n.name.0) || list_any (is_struct q) xs) ≡ true
       by true is rest e = or_left (q == n.name.0) (list_any (is_struct q) xs) (turned n.name.0 q is)
@@ -128,7 +127,7 @@ module _ (names : List (List ℕ)) (items : List Item) where
 
   fields_once : (q : ℕ) (before xs : List Item) (fs : List FieldDecl) → AllClean (item_faults names items) before xs → fields_of xs q ≡ Some fs → flat_map (tree_fields q) xs ≡ fs
   fields_once q before [] fs c e = absurd (cc)
-  fields_once q before (struct_item n gs ∷ xs) fs c e = by (n.name.0 == q) refl (λ f. fields_once q (struct_item n gs ∷ before) xs fs c.1 f) e
+  fields_once q before (struct_item n gs ∷ xs) fs c e = by (n.name.0 == q) refl (λ g. fields_once q (struct_item n gs ∷ before) xs fs c.1 g) e
     where
       by : (b : Bool) → (n.name.0 == q) ≡ b → (fields_of xs q ≡ Some fs → flat_map (tree_fields q) xs ≡ fs) → (if b then Some gs else fields_of xs q) ≡ Some fs → (if b then gs else []) ++ flat_map (tree_fields q) xs ≡ fs
       by true is rest e =
@@ -246,11 +245,11 @@ module _ (p : Parts) where
 
   field_at : (fs : List FieldDecl) (m : ℕ) (z : Ty) → type_in (field_named fs m) ≡ Some z → FieldAt fs m z
   field_at [] m z e = absurd (cc)
-  field_at (field_decl n may_be_set x ∷ fs) m z e = by (n.name.0 == m) refl (λ f. field_at fs m z f) e
+  field_at (field_decl n may_be_set x ∷ fs) m z e = by (n.name.0 == m) refl (λ g. field_at fs m z g) e
     where
       by : (b : Bool) → (n.name.0 == m) ≡ b → (type_in (field_named fs m) ≡ Some z → FieldAt fs m z) → type_in (if b then Some (field_decl n may_be_set x) else field_named fs m) ≡ Some z → FieldAt (field_decl n may_be_set x ∷ fs) m z
-      by true is others e = let same : type_of x ≡ z = cc in record { place = 0; found = ap (λ b. if b then Some 0 else later (place_of_field m fs)) is; typed = ap (λ w. Some (code_type p w)) same }
-      by false is others e = let rest = others e in record { place = suc rest.place; found = ap (λ b. if b then Some 0 else later (place_of_field m fs)) is ∙ ap later rest.found; typed = rest.typed }
+      by true is later_field e = let same : type_of x ≡ z = cc in record { place = 0; found = ap (λ b. if b then Some 0 else later (place_of_field m fs)) is; typed = ap (λ w. Some (code_type p w)) same }
+      by false is later_field e = let rest = later_field e in record { place = suc rest.place; found = ap (λ b. if b then Some 0 else later (place_of_field m fs)) is ∙ ap later rest.found; typed = rest.typed }
 
 module _ (names : List (List ℕ)) (items : List Item) (clean : AllClean (item_faults names items) [] items) (zs : List t.Item) (is_typed : in_items names items items ≡ fine zs) where
   abbrev p : Parts
@@ -343,9 +342,9 @@ without_faults [] a b e = refl
 without_faults (f ∷ gs) a b e = absurd (cc)
 
 pub lowered_has_tables : LoweredHasTables
-lowered_has_tables names items decls whole is_declared is_typed =
-    let faultless = without_faults (declaration_faults (tree names items)) (declarations items) decls is_declared in
+lowered_has_tables names items decls whole declares types =
+    let faultless = without_faults (declaration_faults (tree names items)) (declarations items) decls declares in
     let parts = none_in (one_by_one (item_faults names items) [] items) (own program_spot (program_rules names items)) faultless in
     let clean = all_clean (item_faults names items) [] items parts.0 in
-    let zs = typed_items names whole (in_items names items items) is_typed in
+    let zs = typed_items names whole (in_items names items items) types in
     subst (λ q. HasTables names items (parts_of q) (lowered q) (functions_in (parts_of q))) zs.2 (has_tables names items clean zs.0 zs.1)
