@@ -1,4 +1,5 @@
-//! What stands around the parts of a body with owners: what begins a part and ends it, values that wait, turns of loops, and what is done behind a part where a run comes.
+//! What stands around the parts of a body with owners: what begins a part and ends it, values that wait, turns of loops, and
+//! what is done behind a part where a run comes.
 #![tactic(auto)]
 
 mod ends;
