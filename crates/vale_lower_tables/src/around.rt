@@ -1,7 +1,7 @@
 // What a body names.
-ghost use Rattle.std.specs.Prelude.{◌≡◌, IfOk};
+ghost use Rattle.std.specs.Prelude.{◌≡◌, Some, IfOk};
 ghost use Rattle.vale_core.specs.View.{view_core, view_ty, view_view};
-ghost use Rattle.vale_model.specs.Parts.{parts_of, field_place, place_of_kind};
+ghost use Rattle.vale_model.specs.Parts.{parts_of, field_place, field_place_in, place_of_kind};
 ghost use Rattle.vale_lower_tables.specs.Kept.{AreFields};
 
 use crate::fields::Fields;
@@ -41,16 +41,33 @@ impl<'p> Tables<'p> {
         })
     }
 
+    // Which field of the struct of this type has this name.
+    #[tactic(auto, using(crate::proofs::FieldLaws::types))]
+    fn place_in(&self, ty: &Ty, name: Name) -> Option<u32>
+        ensures { result ≡ field_place_in (parts_in self.now) (Some (view_ty ty.now)) name.0 }
+    {
+        match ty {
+            Ty::Kind(of) => self.fields.place(*of, name),
+            Ty::Void
+            | Ty::Int
+            | Ty::Bool
+            | Ty::Str
+            | Ty::Array(_)
+            | Ty::Ref(_)
+            | Ty::Imm(_)
+            | Ty::Iso(_) => None,
+        }
+    }
+
     // Which field of the struct that is seen so has this name.
-    #[tactic(auto, using(crate::proofs::FieldLaws::seen))]
     fn field_place(&self, view: &View, name: Name) -> Option<u32>
         ensures { result ≡ field_place (parts_in self.now) (view_view view.now) name.0 }
     {
         match view {
-            View::Direct(Ty::Kind(of)) | View::Shared(Ty::Kind(of)) | View::Frozen(Ty::Kind(of)) => {
-                self.fields.place(*of, name)
-            }
-            _ => None,
+            View::Blind => None,
+            View::Direct(ty) => self.place_in(ty, name),
+            View::Shared(ty) => self.place_in(ty, name),
+            View::Frozen(ty) => self.place_in(ty, name),
         }
     }
 }
