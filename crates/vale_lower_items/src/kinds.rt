@@ -129,11 +129,13 @@ pub fn code_kinds(
         destructors: Destructors::among(alloc, tables.names, functions)?,
         interfaces: Interfaces::among(alloc, tables.items)?,
     };
+    let names = tables.kinds.named.as_slice();
+    let elements = tables.kinds.elements.as_slice();
     let mut kinds = Sequence::new(alloc);
-    for name in tables.kinds.named.as_slice() {
+    for name in names {
         kinds.push(described.named_kind(*name)?)?;
     }
-    for element in tables.kinds.elements.as_slice() {
+    for element in elements {
         kinds.push(KindInfo::Array {
             item: code_type(tables, element)?,
         })?;

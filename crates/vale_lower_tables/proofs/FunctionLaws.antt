@@ -1,6 +1,7 @@
 -- What is found by a name is what is found by walking.
 use Rattle.std.proofs.Common.{◌≡◌, ℕ, suc, ◌+◌, List, [], ◌∷◌, refl, ap, sym, ◌∙◌, arith}
 use Rattle.std.specs.Prelude.{Bool, true, false, Option, Some, None, slice_get, if◌then◌else◌}
+use Rattle.std.proofs.lemmas.Option.{none-some, same_Some, slice_get-map}
 use Rattle.vale_rules_spec.specs.Typed.{Function}
 use Rattle.vale_model.specs.Parts.{has_name, first_function}
 use Rattle.vale_lowering.specs.Scopes.{number_of_function}
@@ -35,3 +36,25 @@ pub add_number : (o : Option ℕ) (b : Bool) (k : ℕ) (rest : Option ℕ) → o
 add_number None true k rest = refl
 add_number None false k rest = refl
 add_number (Some j) b k rest = refl
+
+where_none : (found : Option Function) (k : ℕ) → number_where found k ≡ None → None ≡ found
+where_none None k e = refl
+where_none (Some f) k e = absurd (none-some k (sym e))
+
+where_some : (found : Option Function) (k j : ℕ) → number_where found k ≡ Some j → j ≡ k
+where_some None k j e = absurd (none-some j e)
+where_some (Some f) k j e = sym (same_Some k j e)
+
+none_before : (n : ℕ) → 0 + n ≡ n
+none_before n = omega arith
+
+pub none_found : (n : ℕ) (fs : List Function) → first_place 0 n fs ≡ None → None ≡ first_function (has_name n) fs
+none_found n fs e = where_none (first_function (has_name n) fs) (0 + number_of_function (has_name n) fs) (sym (place_is 0 n fs) ∙ e)
+
+pub number_found : (n k : ℕ) (fs : List Function) → first_place 0 n fs ≡ Some k → k ≡ number_of_function (has_name n) fs
+number_found n k fs e = where_some (first_function (has_name n) fs) (0 + number_of_function (has_name n) fs) k (sym (place_is 0 n fs) ∙ e) ∙ none_before (number_of_function (has_name n) fs)
+
+pub function_found : (n k : ℕ) (fs : List Function) → first_place 0 n fs ≡ Some k → slice_get fs k ≡ first_function (has_name n) fs
+function_found n k fs e = ap (λ j. slice_get fs j) (number_found n k fs e) ∙ first_at (has_name n) fs
+
+pub ruleset found = (none_found, number_found, function_found, slice_get-map)

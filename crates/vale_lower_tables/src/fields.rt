@@ -2,7 +2,8 @@
 ghost use Rattle.std.specs.Prelude.{◌≡◌, ℕ, ◌++◌, ◌==◌, ◌&&◌, [], ◌∷◌, None, Some, length, map, IfOk, OnOk, if◌then◌else◌};
 ghost use Rattle.std.specs.Option.{option_map_or};
 ghost use Rattle.vale_syntax.specs.View.{view_field};
-ghost use Rattle.vale_model.specs.Parts.{place_of_field};
+ghost use Rattle.vale_core.specs.View.{view_item};
+ghost use Rattle.vale_model.specs.Parts.{fields_in, place_of_field};
 ghost use Rattle.vale_lower_expr.specs.Found.{or_else};
 ghost use Rattle.vale_lower_tables.specs.Kept.{fields_at, place_at, AreFields, ArePlaced};
 
@@ -41,7 +42,7 @@ impl<'p> Listed<'p> {
     }
 
     // One more field of a struct.
-    fn add(&mut self, of: u32, field: &'p FieldDecl) -> Result<(), Memory>
+    fn push(&mut self, of: u32, field: &'p FieldDecl) -> Result<(), Memory>
         ensures { OnOk result ((s : ℕ) → fields_at self.new s ≡ fields_at self.old s ++ (if of == s then view_field field.now ∷ [] else [])) }
     {
         let fields = self.by_struct.entry(of)?.or_insert(Vec::new(self.alloc));
@@ -74,7 +75,7 @@ impl Placed {
     }
 
     // A field, where none of its name is there yet.
-    fn add(&mut self, of: u32, name: Name, at: u32) -> Result<(), Memory>
+    fn put(&mut self, of: u32, name: Name, at: u32) -> Result<(), Memory>
         ensures { OnOk result ((s n : ℕ) → place_at self.new s n ≡ or_else (place_at self.old s n) (if of == s && name.0 == n then Some at else None)) }
     {
         if !self.places.contains_key(&(of, name.0)) {
@@ -105,8 +106,9 @@ fn add<'p>(
     if at > u32::MAX as usize {
         return Err(Memory);
     }
-    placed.add(of, field.name.name, at as u32)?;
-    listed.add(of, field)
+    placed.put(of, field.name.name, at as u32)?;
+    listed.push(of, field)?;
+    Ok(())
 }
 
 fn add_all<'p>(
@@ -125,6 +127,22 @@ fn add_all<'p>(
     Ok(())
 }
 
+// The fields of an item, where it is a struct.
+fn add_item<'p>(
+    listed: &mut Listed<'p>,
+    placed: &mut Placed,
+    item: &'p Item,
+) -> Result<(), Memory>
+    requires { ArePlaced listed.old placed.old }
+    ensures placed { OnOk result (ArePlaced listed.new placed.new) }
+    ensures listed { OnOk result ((s : ℕ) → fields_at listed.new s ≡ fields_at listed.old s ++ fields_in s (view_item item.now)) }
+{
+    match item {
+        Item::Struct(name, fields) => add_all(listed, placed, name.name.0, fields.as_slice()),
+        Item::Interface(..) | Item::Impl(..) | Item::Function(_) => Ok(()),
+    }
+}
+
 /// The fields of each struct, and where they stand.
 #[derive(Drop)]
 pub struct Fields<'p> {
@@ -141,9 +159,7 @@ impl<'p> Fields<'p> {
         let mut listed = Listed::new(alloc);
         let mut placed = Placed::new(alloc);
         for item in items {
-            if let Item::Struct(name, fields) = item {
-                add_all(&mut listed, &mut placed, name.name.0, fields.as_slice())?;
-            }
+            add_item(&mut listed, &mut placed, item)?;
         }
         Ok(Fields { listed, placed })
     }

@@ -96,6 +96,7 @@ impl<'p> Functions<'p> {
     }
 
     /// The first function of the name.
+    #[tactic(auto, using(crate::proofs::FunctionLaws::found))]
     pub fn named(&self, name: Name) -> Option<Callee<'p>>
         ensures function { option_map function_in result ≡ first_function (has_name name.0) (functions_of self.now) }
         ensures number { (c : AnyCallee) → result ≡ Some c → c.number ≡ number_of_function (has_name name.0) (functions_of self.now) }
