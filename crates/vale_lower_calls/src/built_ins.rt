@@ -1,14 +1,14 @@
 // Calls of built-in functions.
-ghost use Rattle.std.specs.Prelude.{◌≡◌, ◌+◌, ◌&&◌, ◌∷◌, [], not, length, map, OnOk};
+ghost use Rattle.std.specs.Prelude.{◌≡◌, ◌+◌, ◌&&◌, ◌==◌, ◌∷◌, [], length, map, OnOk};
 ghost use Rattle.vale_rules_spec.specs.Types as y;
 ghost use Rattle.vale_syntax.specs.declared.built_in.BuiltIn.TheVariants as b;
 ghost use Rattle.vale_lowering.specs.Instructions as plain;
 ghost use Rattle.vale_lowering.specs.Instructions.{only_if};
-ghost use Rattle.vale_lowering_objects.specs.Scopes.{is_owner};
 ghost use Rattle.vale_lowering_objects.specs.Lowered.{is_copied, are_copied, copies_code, built_in_code};
 ghost use Rattle.vale_lower_flow.specs.Flow.{going, put};
 ghost use Rattle.vale_lower_flow.specs.Kept.{view_gives};
 ghost use Rattle.vale_lower_places.specs.Origins.{is_text};
+ghost use Rattle.vale_lower_calls.specs.Owners.{is_one_owner};
 
 use crate::calls::Call;
 use vale_base::{Memory, Spot};
@@ -17,11 +17,11 @@ use vale_lower_flow::{Flow, Gives, above};
 use vale_lower_places::put_stuck;
 use vale_syntax::BuiltIn;
 
-// The instruction where it holds, and else what no step follows.
-fn only_where(holds: bool, instr: Instr, h: u32) -> Instr
-    ensures { result ∷ [] ≡ only_if holds h (instr ∷ []) }
+// The instruction where both hold, and else what no step follows.
+fn only_where(one: bool, other: bool, instr: Instr, h: u32) -> Instr
+    ensures { result ∷ [] ≡ only_if (one && other) h (instr ∷ []) }
 {
-    if holds {
+    if one && other {
         instr
     } else {
         Instr::Truth { to: h, choice: 2 }
@@ -37,10 +37,10 @@ fn plain(f: BuiltIn, values: usize, gives: bool, at: Spot, h: u32, next: u32, af
 {
     let (to, from) = (h, h);
     match f {
-        BuiltIn::Print => only_where(values == 1 && !gives, Instr::Print { from, choice: 0 }, h),
-        BuiltIn::Println => only_where(values == 1 && !gives, Instr::Print { from, choice: 1 }, h),
-        BuiltIn::Len => only_where(values == 1 && gives, Instr::TextLen { to, from }, h),
-        BuiltIn::Text => only_where(values == 1 && gives, Instr::TextOf { to, from }, h),
+        BuiltIn::Print => only_where(values == 1, !gives, Instr::Print { from, choice: 0 }, h),
+        BuiltIn::Println => only_where(values == 1, !gives, Instr::Print { from, choice: 1 }, h),
+        BuiltIn::Len => only_where(values == 1, gives, Instr::TextLen { to, from }, h),
+        BuiltIn::Text => only_where(values == 1, gives, Instr::TextOf { to, from }, h),
         BuiltIn::Slice => {
             let slice = Instr::Slice {
                 to,
@@ -49,7 +49,7 @@ fn plain(f: BuiltIn, values: usize, gives: bool, at: Spot, h: u32, next: u32, af
                 end: after,
                 at,
             };
-            only_where(values == 3 && gives, slice, h)
+            only_where(values == 3, gives, slice, h)
         }
         BuiltIn::Byte => {
             let byte = Instr::Byte {
@@ -58,10 +58,10 @@ fn plain(f: BuiltIn, values: usize, gives: bool, at: Spot, h: u32, next: u32, af
                 index: next,
                 at,
             };
-            only_where(values == 2 && gives, byte, h)
+            only_where(values == 2, gives, byte, h)
         }
-        BuiltIn::IsNumber => only_where(values == 1 && gives, Instr::IsNum { to, from }, h),
-        BuiltIn::Number => only_where(values == 1 && gives, Instr::Num { to, from, at }, h),
+        BuiltIn::IsNumber => only_where(values == 1, gives, Instr::IsNum { to, from }, h),
+        BuiltIn::Number => only_where(values == 1, gives, Instr::Num { to, from, at }, h),
         BuiltIn::Drop | BuiltIn::Push | BuiltIn::Pop => Instr::Truth { to, choice: 2 },
     }
 }
@@ -87,6 +87,23 @@ fn are_copied(values: &[Gives]) -> bool
     true
 }
 
+// Whether there are so many.
+fn are_so_many(values: &[Gives], count: usize) -> bool
+    ensures { result ≡ (length (map view_gives values.now) == count) }
+{
+    values.len() == count
+}
+
+// Whether there is one, and that is an owner.
+fn is_one_owner(values: &[Gives]) -> bool
+    ensures { result ≡ is_one_owner (map view_gives values.now) }
+{
+    match values {
+        [gives] => gives.is_owner(),
+        _ => false,
+    }
+}
+
 // A built-in function of copied values.
 fn put_copies(flow: &mut Flow, f: BuiltIn, call: Call) -> Result<(), Memory>
     ensures { OnOk result (going flow.new ≡ put (copies_code f (map view_gives call.values.now) (view_gives call.gives) call.name.at call.first) (going flow.old)) }
@@ -97,35 +114,31 @@ fn put_copies(flow: &mut Flow, f: BuiltIn, call: Call) -> Result<(), Memory>
     }
     let next = above(h)?;
     let after = above(next)?;
-    flow.put(plain(
-        f,
-        call.values.len(),
-        is_copied(call.gives),
-        call.name.at,
-        h,
-        next,
-        after,
-    ))
+    let gives = is_copied(call.gives);
+    let at = call.name.at;
+    flow.put(plain(f, call.values.len(), gives, at, h, next, after))
 }
 
+#[tactic(auto, using(crate::proofs::CallLaws::drops))]
 fn put_drop(flow: &mut Flow, call: Call) -> Result<(), Memory>
     ensures { OnOk result ((x : y.Ty) → going flow.new ≡ put (built_in_code b.Drop x (map view_gives call.values.now) (view_gives call.gives) call.name.at call.first) (going flow.old)) }
 {
     let h = call.first;
-    match (call.values, call.gives) {
-        ([Gives::Owned], Gives::Void) => flow.put(Instr::Destroy {
-            from: h,
-            at: call.name.at,
-        }),
-        _ => put_stuck(flow, h),
+    if !is_one_owner(call.values) || call.gives.is_value() {
+        return put_stuck(flow, h);
     }
+    flow.put(Instr::Destroy {
+        from: h,
+        at: call.name.at,
+    })
 }
 
+#[tactic(auto, using(crate::proofs::CallLaws::lens))]
 fn put_len(flow: &mut Flow, call: Call) -> Result<(), Memory>
     ensures { OnOk result ((x : y.Ty) → call.of_text ≡ is_text x → going flow.new ≡ put (built_in_code b.Len x (map view_gives call.values.now) (view_gives call.gives) call.name.at call.first) (going flow.old)) }
 {
     let h = call.first;
-    if call.values.len() != 1 || !is_copied(call.gives) {
+    if !are_so_many(call.values, 1) || !is_copied(call.gives) {
         return put_stuck(flow, h);
     }
     if call.of_text {
@@ -138,11 +151,12 @@ fn put_len(flow: &mut Flow, call: Call) -> Result<(), Memory>
     })
 }
 
+#[tactic(auto, using(crate::proofs::CallLaws::pushes))]
 fn put_push(flow: &mut Flow, call: Call) -> Result<(), Memory>
     ensures { OnOk result ((x : y.Ty) → going flow.new ≡ put (built_in_code b.Push x (map view_gives call.values.now) (view_gives call.gives) call.name.at call.first) (going flow.old)) }
 {
     let h = call.first;
-    if call.values.len() != 2 || call.gives.is_value() {
+    if !are_so_many(call.values, 2) || call.gives.is_value() {
         return put_stuck(flow, h);
     }
     let value = above(h)?;
@@ -153,11 +167,12 @@ fn put_push(flow: &mut Flow, call: Call) -> Result<(), Memory>
     })
 }
 
+#[tactic(auto, using(crate::proofs::CallLaws::pops))]
 fn put_pop(flow: &mut Flow, call: Call) -> Result<(), Memory>
     ensures { OnOk result ((x : y.Ty) → going flow.new ≡ put (built_in_code b.Pop x (map view_gives call.values.now) (view_gives call.gives) call.name.at call.first) (going flow.old)) }
 {
     let h = call.first;
-    if call.values.len() != 1 || !call.gives.is_value() {
+    if !are_so_many(call.values, 1) || !call.gives.is_value() {
         return put_stuck(flow, h);
     }
     flow.put(Instr::Pop {

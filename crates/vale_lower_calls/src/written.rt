@@ -1,7 +1,6 @@
 // What values of written types are.
 ghost use Rattle.std.specs.Prelude.{◌≡◌, map, option_map};
 ghost use Rattle.vale_syntax.specs.View.{view_type, view_param};
-ghost use Rattle.vale_core.specs.View.{view_function};
 ghost use Rattle.vale_rules_spec.specs.Types.{type_of, result_of};
 ghost use Rattle.vale_lowering_objects.specs.Scopes.{gives_of, all_agree};
 ghost use Rattle.vale_lowering_objects.specs.Lowered.{param_gives_of};
@@ -36,6 +35,7 @@ pub fn gives_of_result(written: &Option<TypeExpr>) -> Gives
 }
 
 /// Whether the values are what the parameters get.
+#[tactic(auto, using(crate::proofs::WrittenLaws::fits))]
 pub fn fit(values: &[Gives], params: &[Param]) -> bool
     ensures { result ≡ all_agree (map view_gives values.now) (param_gives_of (map view_param params.now)) }
 {
