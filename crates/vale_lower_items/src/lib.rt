@@ -9,5 +9,5 @@ mod texts;
 mod types;
 
 pub use kinds::code_kinds;
-pub use signature::{finish_function, param_locals};
+pub use signature::{finish_function, param_count, param_locals};
 pub use texts::all_texts;

@@ -71,15 +71,23 @@ fn registers_in(code: &[Instr]) -> u64
     room
 }
 
-// How many registers a function has. A number that is 2^32 or more is want of memory.
+/// How many parameters there are. A number that is 2^32 or more is want of memory.
 #[tactic(auto, using(crate::proofs::SignatureLaws::names_length))]
-fn register_count(params: &[Param], code: &[Instr]) -> Result<u32, Memory>
-    ensures { IfOk result (λ n. n ≡ max (length (param_names (map view_param params.now)) + 1) (registers_in code.now)) }
+pub fn param_count(params: &[Param]) -> Result<u32, Memory>
+    ensures { IfOk result (λ n. n ≡ length (param_names (map view_param params.now))) }
 {
     if params.len() > u32::MAX as usize {
         return Err(Memory);
     }
-    let count = larger(params.len() as u64 + 1, registers_in(code));
+    Ok(params.len() as u32)
+}
+
+// How many registers a function has. A number that is 2^32 or more is want of memory.
+fn register_count(params: &[Param], code: &[Instr]) -> Result<u32, Memory>
+    ensures { IfOk result (λ n. n ≡ max (length (param_names (map view_param params.now)) + 1) (registers_in code.now)) }
+{
+    let own = u64::from(param_count(params)?) + 1;
+    let count = larger(own, registers_in(code));
     if count > u64::from(u32::MAX) {
         return Err(Memory);
     }
