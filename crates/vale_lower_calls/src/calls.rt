@@ -1,5 +1,6 @@
 // Calls, and objects that are made of values.
-ghost use Rattle.std.specs.Prelude.{◌≡◌, Bool, Some, map, OnOk};
+ghost use Rattle.std.specs.Prelude.{◌≡◌, nat_le, Bool, Some, length, map, OnOk};
+ghost use Rattle.vale_base.specs.Limits.{width_limit};
 ghost use Rattle.vale_rules_spec.specs.Types as y;
 ghost use Rattle.vale_rules_spec.specs.Typed as t;
 ghost use Rattle.vale_core.specs.View.{view_ty, view_callee, view_function};
@@ -66,6 +67,13 @@ fn put_call(alloc: Global, flow: &mut Flow, around: &Around, call: Call) -> Resu
     })
 }
 
+// Whether there are no more than an array may have.
+fn is_in_width(values: &[Gives]) -> bool
+    ensures { result ≡ nat_le (length (map view_gives values.now)) width_limit }
+{
+    values.len() <= WIDTH_LIMIT
+}
+
 /// An object of the type is made of values that stand in the registers from the first on, and goes to that register.
 pub fn put_made(
     alloc: Global,
@@ -78,7 +86,7 @@ pub fn put_made(
 ) -> Result<(), Memory>
     ensures { OnOk result (going flow.new ≡ put (make_code (view_around around.now).parts (view_gives gives) (view_ty ty.now) (map view_gives values.now) first) (going flow.old)) }
 {
-    if !gives.is_owner() || values.len() > WIDTH_LIMIT {
+    if !gives.agrees(Gives::Owned) || !is_in_width(values) {
         return put_stuck(flow, first);
     }
     let kind = Kind(around.number_of_kind(ty)?);

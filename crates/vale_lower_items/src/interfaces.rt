@@ -2,8 +2,9 @@
 ghost use Rattle.std.specs.Prelude.{◌≡◌, ℕ, ◌==◌, None, Some, map, option_map, IfOk, OnOk, if◌then◌else◌};
 ghost use Rattle.vale_syntax.specs.View.{view_head};
 ghost use Rattle.vale_core.specs.View.{view_item};
+ghost use Rattle.vale_lowering_objects.specs.Code.{methods_in};
 ghost use Rattle.vale_lower_expr.specs.Found.{or_else};
-ghost use Rattle.vale_lower_items.specs.Kept.{heads_at, AreInterfaces};
+ghost use Rattle.vale_lower_items.specs.Kept.{heads_at, first_of, AreInterfaces};
 
 use std::alloc::Global;
 use std::collections::HashMap;
@@ -37,15 +38,24 @@ impl<'p> Interfaces<'p> {
         Ok(())
     }
 
+    // An item, where it is an interface.
+    #[tactic(auto, using(crate::proofs::ItemLaws::firsts))]
+    fn add_item(&mut self, item: &'p Item) -> Result<(), Memory>
+        ensures { OnOk result ((s : ℕ) → heads_at self.new s ≡ or_else (heads_at self.old s) (first_of (methods_in s (view_item item.now)))) }
+    {
+        match item {
+            Item::Interface(name, heads) => self.add(name.name, heads.as_slice()),
+            Item::Struct(..) | Item::Impl(..) | Item::Function(_) => Ok(()),
+        }
+    }
+
     /// Those among the items.
     pub fn among(alloc: Global, items: &'p [Item]) -> Result<Self, Memory>
         ensures { IfOk result (λ t. AreInterfaces (map view_item items.now) t) }
     {
         let mut table = Interfaces::new(alloc);
         for item in items {
-            if let Item::Interface(name, heads) = item {
-                table.add(name.name, heads.as_slice())?;
-            }
+            table.add_item(item)?;
         }
         Ok(table)
     }
