@@ -1,9 +1,9 @@
 -- The code of a body, by its block and its end.
 use Rattle.std.proofs.Common.{◌≡◌, ℕ, ◌+◌, List, [], ◌∷◌, ◌++◌, length, refl, ap, sym, ◌∙◌, append_assoc}
-use Rattle.std.specs.Prelude.{Bool, true, false}
+use Rattle.std.specs.Prelude.{Bool, true, false, map, option_map}
 use Rattle.vale_base.specs.declared.spot.Spot.{Spot}
 use Rattle.vale_core.specs.declared.tree.Block.{Block, out-Block}
-use Rattle.vale_core.specs.View.{view_block}
+use Rattle.vale_core.specs.View.{view_ty, view_expr, view_stmt, view_block, stmts_of}
 use Rattle.vale_core.proofs.PartLaws.{of_out_block}
 use Rattle.vale_rules_spec.specs.Typed as t
 use Rattle.vale_rules_spec.specs.Types as y
@@ -48,4 +48,13 @@ body_of a ns qs at end x ss f to s ef et es =
     rw (ef, et, es) (code_by (block_after (t.block at end x ss) (length ns + 1) (parameters 0 ns qs []) []) (block_code a void (t.block at end x ss) 0 (length ns) (length ns + 1) (parameters 0 ns qs []) [])
     (λ g. only_if (agree a.gives void) (length ns) (drop_scope (parameters 0 ns qs []) g end ++ i.RetVoid ∷ [])))
 
-pub ruleset bodies = (body_of)
+-- the same of a block as the code has it, step by step
+pub body_whole : (a : Around) (ns : List ℕ) (qs : List Gives) (b : Block) (f0 f1 f2 : Going) (to next : ℕ) (s : Scope) → f0 ≡ record { code = []; gone = []; comes = true } → to ≡ length ns → next ≡ to + 1
+    → s ≡ parameters 0 ns qs [] → f1 ≡ block_emitted a void (view_block b) to next s f0 → f2 ≡ body_ended a s (out-Block b).end to f1 → f2.code ≡ body_code a ns qs (view_block b)
+body_whole a ns qs b f0 f1 f2 to next s e0 et en es e1 e2 =
+    ap (λ (f : Going). f.code) (e2 ∙ (ap (λ (f : Going). body_ended a s (out-Block b).end to f) (e1
+    ∙ (ap (λ (n : ℕ). block_emitted a void (view_block b) to n s f0) en ∙ ap (λ (y : t.Block). block_emitted a void y to (to + 1) s f0) (of_out_block b)))))
+    ∙ (body_of a ns qs (out-Block b).at (out-Block b).end (view_ty (out-Block b).ty) (stmts_of (map view_stmt (out-Block b).stmts) (option_map view_expr (out-Block b).last)) f0 to s e0 et es
+    ∙ ap (λ (y : t.Block). body_code a ns qs y) (sym (of_out_block b)))
+
+pub ruleset bodies = (body_whole)
