@@ -46,7 +46,7 @@ added_by : (b : Bool) (fs : ℕ → List t.FieldDecl) (f : t.FieldDecl) (of s n 
 added_by true fs f of s n k e is =
     let same : of ≡ s = eqb-true of s e in
     ap (λ (j : ℕ). or_else (place_of_field n (fs s)) (if (field_name f).name.0 == n then Some j else None)) (is ∙ ap (λ (z : ℕ). length (fs z)) same) ∙ sym (place_last (fs s) f n)
-added_by false fs f of s n k e is = nothing_more (place_of_field n (fs s)) ∙ ap (place_of_field n) (append-nil (fs s))
+added_by false fs f of s n k e is = nothing_more (place_of_field n (fs s)) ∙ ap (place_of_field n) (sym (append-nil (fs s)))
 
 -- a field is added at the end of those of its struct
 pub placed_next : (fs : ℕ → List t.FieldDecl) (f : t.FieldDecl) (of s n k : ℕ) (p q : Option ℕ) (more : List t.FieldDecl) → k ≡ length (fs of) → p ≡ place_of_field n (fs s)
@@ -60,7 +60,7 @@ pub field_next : (b : Bool) (fs : List FieldDecl) (k : ℕ) (f : FieldDecl) (now
 field_next true fs k f now new all lt is e so_far =
     ap (λ z. z ++ map view_field (drop (k + 1) fs)) e ∙ (append_assoc now (view_field f ∷ []) (map view_field (drop (k + 1) fs))
     ∙ (ap (λ z. now ++ map view_field z) (sym (drop_more fs k f lt ∙ ap (λ z. z ∷ drop (k + 1) fs) (sym is))) ∙ so_far))
-field_next false fs k f now new all lt is e so_far = ap (λ z. z ++ []) (e ∙ sym (append-nil now)) ∙ so_far
+field_next false fs k f now new all lt is e so_far = ap (λ z. z ++ []) (e ∙ append-nil now) ∙ so_far
 
 -- the next item of those that are left
 pub item_next : (s : ℕ) (items : List Item) (k : ℕ) (x : Item) (now new all : List t.FieldDecl) → k < length items → x ≡ get_or items k x → new ≡ now ++ fields_in s (view_item x)

@@ -11,11 +11,11 @@ use Rattle.vale_lower_tables.specs.Kept.{first_place}
 -- the function of the first number that the test accepts
 pub first_at : (test : Function → Bool) (fs : List Function) → slice_get fs (number_of_function test fs) ≡ first_function test fs
 first_at test [] = refl
-first_at test (f ∷ fs) = by (test f)
+first_at test (f ∷ fs) = by (test f) (first_at test fs)
   where
-    by : (b : Bool) → slice_get (f ∷ fs) (if b then 0 else suc (number_of_function test fs)) ≡ (if b then Some f else first_function test fs)
-    by true = refl
-    by false = first_at test fs
+    by : (b : Bool) → slice_get fs (number_of_function test fs) ≡ first_function test fs → slice_get (f ∷ fs) (if b then 0 else suc (number_of_function test fs)) ≡ (if b then Some f else first_function test fs)
+    by true law = refl
+    by false law = law
 
 -- a number where a function was found
 abbrev pub number_where : Option Function → ℕ → Option ℕ
