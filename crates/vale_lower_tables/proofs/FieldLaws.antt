@@ -1,8 +1,8 @@
 -- Where fields stand, one field more, and what a field is looked up in.
-use Rattle.std.proofs.Common.{◌≡◌, ℕ, suc, ◌+◌, ◌<◌, List, [], ◌∷◌, ◌++◌, length, get_or, drop, map, refl, ap, sym, ◌∙◌, append_assoc, append-nil}
-use Rattle.std.specs.Prelude.{Bool, true, false, ◌&&◌, ◌==◌, Option, Some, None, flat_map, if◌then◌else◌}
-use Rattle.std.proofs.lemmas.Bool.{eqb-true}
-use Rattle.std.proofs.lemmas.List.{drop_more}
+use Rattle.std.proofs.Common.{◌≡◌, ℕ, suc, ◌+◌, ◌<◌, ◌≤◌, List, [], ◌∷◌, ◌++◌, length, get_or, drop, map, refl, ap, sym, ◌∙◌, append_assoc, append-nil, cond, true≢false}
+use Rattle.std.specs.Prelude.{Bool, true, false, ◌&&◌, ◌==◌, Option, Some, None, is_some, flat_map, if◌then◌else◌}
+use Rattle.std.proofs.lemmas.Bool.{eqb-true, and_parts}
+use Rattle.std.proofs.lemmas.List.{drop_more, drop_all}
 use Rattle.vale_syntax.specs.Tree as t
 use Rattle.vale_rules_spec.specs.Declarations.{field_name}
 use Rattle.vale_syntax.specs.declared.tree.FieldDecl.{FieldDecl}
@@ -41,6 +41,24 @@ nothing_more : (o : Option ℕ) → or_else o None ≡ o
 nothing_more (Some k) = refl
 nothing_more None = refl
 
+nothing_by : (b : Bool) (o : Option ℕ) (at : ℕ) → (b ≡ true → o ≡ None) → cond b (Some at) o ≡ or_else o (if b then Some at else None)
+nothing_by true o at none = sym (ap (λ z. or_else z (Some at)) (none refl))
+nothing_by false o at none = sym (nothing_more o)
+
+is_none : (o : Option ℕ) → is_some o ≡ false → o ≡ None
+is_none None e = refl
+is_none (Some k) e = absurd (true≢false e)
+
+-- a place is put where none of its name was
+pub put_first : (p : ℕ → ℕ → Option ℕ) (of s name n at : ℕ) (new : Option ℕ) → is_some (p of name) ≡ false → new ≡ cond (of == s && name == n) (Some at) (p s n)
+    → new ≡ or_else (p s n) (if of == s && name == n then Some at else None)
+put_first p of s name n at new absent e = e ∙ nothing_by (of == s && name == n) (p s n) at none
+  where
+    none : (of == s && name == n) ≡ true → p s n ≡ None
+    none same =
+        let both = and_parts (of == s) (name == n) same in
+        sym (ap (λ (z : ℕ). p z n) (eqb-true of s both.0)) ∙ (sym (ap (λ (z : ℕ). p of z) (eqb-true name n both.1)) ∙ is_none (p of name) absent)
+
 added_by : (b : Bool) (fs : ℕ → List t.FieldDecl) (f : t.FieldDecl) (of s n k : ℕ) → (of == s) ≡ b → k ≡ length (fs of)
     → or_else (place_of_field n (fs s)) (if b && (field_name f).name.0 == n then Some k else None) ≡ place_of_field n (fs s ++ (if b then f ∷ [] else []))
 added_by true fs f of s n k e is =
@@ -72,6 +90,11 @@ pub item_next : (s : ℕ) (items : List Item) (k : ℕ) (x : Item) (now new all 
 item_next s items k x now new all lt is e so_far =
     ap (λ z. z ++ flat_map (fields_in s) (map view_item (drop (k + 1) items))) e ∙ (append_assoc now (fields_in s (view_item x)) (flat_map (fields_in s) (map view_item (drop (k + 1) items)))
     ∙ (ap (λ z. now ++ flat_map (fields_in s) (map view_item z)) (sym (drop_more items k x lt ∙ ap (λ z. z ∷ drop (k + 1) items) (sym is))) ∙ so_far))
+
+-- none is left
+pub items_end : (s : ℕ) (items : List Item) (k : ℕ) (now all : List t.FieldDecl) → length items ≤ k → now ++ flat_map (fields_in s) (map view_item (drop k items)) ≡ all → now ≡ all
+items_end s items k now all le so_far =
+    sym (append-nil now) ∙ (ap (λ (z : List Item). now ++ flat_map (fields_in s) (map view_item z)) (sym (drop_all k items le)) ∙ so_far)
 
 -- ---- what is looked into
 

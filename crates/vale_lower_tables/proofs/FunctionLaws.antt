@@ -1,6 +1,6 @@
 -- What is found by a name is what is found by walking.
 use Rattle.std.proofs.Common.{◌≡◌, ℕ, suc, ◌+◌, List, [], ◌∷◌, refl, ap, sym, ◌∙◌, arith}
-use Rattle.std.specs.Prelude.{Bool, true, false, Option, Some, None, slice_get, if◌then◌else◌}
+use Rattle.std.specs.Prelude.{Bool, true, false, Option, Some, None, slice_get, map, option_map, if◌then◌else◌}
 use Rattle.std.proofs.lemmas.Option.{none-some, same_Some, slice_get-map}
 use Rattle.vale_rules_spec.specs.Typed.{Function}
 use Rattle.vale_model.specs.Parts.{has_name, first_function}
@@ -56,5 +56,9 @@ number_found n k fs e = where_some (first_function (has_name n) fs) (0 + number_
 
 pub function_found : (n k : ℕ) (fs : List Function) → first_place 0 n fs ≡ Some k → slice_get fs k ≡ first_function (has_name n) fs
 function_found n k fs e = ap (λ j. slice_get fs j) (number_found n k fs e) ∙ first_at (has_name n) fs
+
+-- what the function of a number is, where it is looked up
+pub looked_up : {G : Type 0} (view : G → Function) (gs : List G) (n k : ℕ) (g : Option G) → first_place 0 n (map view gs) ≡ Some k → g ≡ slice_get gs k → option_map view g ≡ first_function (has_name n) (map view gs)
+looked_up view gs n k g e is = ap (option_map view) is ∙ (sym (slice_get-map view gs k) ∙ function_found n k (map view gs) e)
 
 pub ruleset found = (none_found, number_found, function_found, slice_get-map)

@@ -40,7 +40,7 @@ abbrev pub type_from : List (ℕ × NameAt) → TypeExpr
 type_from [] = int_type (record { line = 0; col = 0 })
 type_from (w ∷ ws) = type_by w.0 w.1 (type_from ws)
 
-type_back : (x : TypeExpr) → type_from (words_of x) ≡ x
+pub type_back : (x : TypeExpr) → type_from (words_of x) ≡ x
 type_back (int_type s) = refl
 type_back (bool_type s) = refl
 type_back (str_type s) = refl
@@ -56,7 +56,7 @@ field_parts (field_decl n may_be_set x) = (n, (may_be_set, words_of x))
 abbrev pub field_from : NameAt × (Bool × List (ℕ × NameAt)) → FieldDecl
 field_from p = field_decl p.0 p.1.0 (type_from p.1.1)
 
-field_back : (f : FieldDecl) → field_from (field_parts f) ≡ f
+pub field_back : (f : FieldDecl) → field_from (field_parts f) ≡ f
 field_back (field_decl n may_be_set x) = ap (field_decl n may_be_set) (type_back x)
 
 abbrev pub coded_field : Coded FieldDecl
