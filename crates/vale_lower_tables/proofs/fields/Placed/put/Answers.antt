@@ -1,4 +1,4 @@
-use Rattle.std.proofs.Common.{◌≡◌, sym, ◌∙◌}
+use Rattle.std.proofs.Common.{sym, ◌∙◌}
 use Rattle.vale_lower_tables.specs.Kept.{place_at}
 use Rattle.vale_lower_tables.proofs.FieldLaws.{put_first}
 use Rattle.vale_lower_tables.proofs.fields.Placed.put.Goals as goal
