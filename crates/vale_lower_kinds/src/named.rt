@@ -114,6 +114,13 @@ impl Named {
         self.all.len()
     }
 
+    /// The names, in the order of their numbers.
+    pub fn as_slice(&self) -> &[Name]
+        ensures { names_of result.now ≡ named_in self.now }
+    {
+        &self.all
+    }
+
     /// The number of a name, where it is one of them.
     pub fn place(&self, name: Name) -> Option<u32>
         ensures { result ≡ name_place 0 name.0 (named_in self.now) }

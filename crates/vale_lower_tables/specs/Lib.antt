@@ -1,0 +1,4 @@
+pub mod Callable
+pub mod Codes
+pub mod Kept
+pub mod Surroundings
