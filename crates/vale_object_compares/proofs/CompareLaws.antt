@@ -45,7 +45,9 @@ module _ (f : Active) (to : ℕ) (regs : Registers) (below : List Frame) (s : St
   compared_there (Some c) (Some (text x)) (Some (text y)) r = (holds c (slice_cmp nat_cmp x y), refl)
   compared_there (Some equal) (Some (truth a)) (Some (truth b)) r = (same_truth a b, refl)
   compared_there (Some not_equal) (Some (truth a)) (Some (truth b)) r = (not (same_truth a b), refl)
-  compared_there (Some _) _ _ r = absurd r
+  compared_there (Some c) None q r = absurd r
+  compared_there (Some c) (Some v) None r = absurd r
+  compared_there (Some _) (Some _) (Some _) r = absurd r
 
   compared_so : (k : Option Comparison) (p q : Option Value) (t : Bool) → compared k p q ≡ Some t → compares_to k p q ≡ gets_truth t
   compared_so None p q t e = absurd (let x : ⊥ = cc in x)
@@ -53,6 +55,8 @@ module _ (f : Active) (to : ℕ) (regs : Registers) (below : List Frame) (s : St
   compared_so (Some c) (Some (text x)) (Some (text y)) t e = let h : holds c (slice_cmp nat_cmp x y) ≡ t = cc in ap gets_truth h
   compared_so (Some equal) (Some (truth a)) (Some (truth b)) t e = let h : same_truth a b ≡ t = cc in ap gets_truth h
   compared_so (Some not_equal) (Some (truth a)) (Some (truth b)) t e = let h : not (same_truth a b) ≡ t = cc in ap gets_truth h
+  compared_so (Some equal) None q t e = absurd (let x : ⊥ = cc in x)
+  compared_so (Some not_equal) None q t e = absurd (let x : ⊥ = cc in x)
   compared_so (Some _) _ _ t e = absurd (let x : ⊥ = cc in x)
 
 module _ (cells : List (Option Cell)) (place to choice a b : ℕ) where
@@ -130,3 +134,20 @@ never names t rs choice a b x s h e =
     let cells = cells_in t rs in
     never_compared names (comparison_of choice) s h.truth h.number h.place (t a) (read (values_in names cells) b) x
     (ap (λ u. compared (comparison_of choice) u (read (values_in names cells) b)) (sym (read_values names cells a ∙ ap (value_in names) (h.is t))) ∙ e)
+
+right_value : (k : Option Comparison) (v w : Option Value) (t : Bool) → compared k v w ≡ Some t → (y : Value) × (w ≡ Some y)
+right_value None v w t e = absurd (let x : ⊥ = cc in x)
+right_value (Some c) v (Some y) t e = (y, refl)
+right_value (Some c) (Some (number x)) None t e = absurd (let x : ⊥ = cc in x)
+right_value (Some equal) _ None t e = absurd (let x : ⊥ = cc in x)
+right_value (Some not_equal) _ None t e = absurd (let x : ⊥ = cc in x)
+right_value (Some _) _ None t e = absurd (let x : ⊥ = cc in x)
+
+-- the right operand is there
+pub right_cell : (names : List Place) (cells : List (Option Cell)) (choice a b : ℕ) (t : Bool) → compared_in names cells choice a b ≡ Some t → (c : Cell) × (held cells b ≡ Some c)
+right_cell names cells choice a b t e =
+    let v = right_value (comparison_of choice) (read (values_in names cells) a) (read (values_in names cells) b) t e in
+    cell_there names (held cells b) v.0 (sym (read_values names cells b) ∙ v.1)
+
+pub text_shaped : (registers : List Register) (a : ℕ) (s : Shape) → IsShaped registers a s → s ≡ shape.Text → (t : ℕ → List ℕ) → held (cells_in t registers) a ≡ Some (Text (t a))
+text_shaped registers a s h e t = h.is t ∙ ap (λ x. cell_of x h.truth h.number h.place (t a)) e
