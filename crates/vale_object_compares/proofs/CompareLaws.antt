@@ -47,6 +47,12 @@ module _ (f : Active) (to : ℕ) (regs : Registers) (below : List Frame) (s : St
   compared_there (Some not_equal) (Some (truth a)) (Some (truth b)) r = (not (same_truth a b), refl)
   compared_there (Some c) None q r = absurd r
   compared_there (Some c) (Some v) None r = absurd r
+  compared_there (Some c) (Some (truth a)) (Some (number y)) r = absurd r
+  compared_there (Some c) (Some (truth a)) (Some (text y)) r = absurd r
+  compared_there (Some c) (Some (truth a)) (Some (owner y)) r = absurd r
+  compared_there (Some c) (Some (truth a)) (Some (reference y)) r = absurd r
+  compared_there (Some c) (Some (truth a)) (Some (isolate y)) r = absurd r
+  compared_there (Some _) (Some (truth a)) (Some (truth b)) r = absurd r
   compared_there (Some _) (Some _) (Some _) r = absurd r
 
   compared_so : (k : Option Comparison) (p q : Option Value) (t : Bool) → compared k p q ≡ Some t → compares_to k p q ≡ gets_truth t
