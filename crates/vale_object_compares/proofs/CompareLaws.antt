@@ -1,5 +1,5 @@
 -- What is compared, by names.
-use Rattle.std.proofs.Common.{◌≡◌, ℕ, zero, suc, ℤ, ◌+◌, ◌<◌, List, [], ◌∷◌, length, Bool, Option, Some, None, refl, sym, ap, subst, ◌∙◌}
+use Rattle.std.proofs.Common.{◌≡◌, ℕ, zero, suc, ℤ, ◌+◌, ◌<◌, List, [], ◌∷◌, length, Bool, Option, Some, None, refl, sym, ap, ◌∙◌}
 use Rattle.std.specs.Prelude.{not, slice_set}
 use Rattle.std.specs.Cmp.Lexicographic.{slice_cmp}
 use Rattle.std.specs.Ordering.{int_cmp, nat_cmp}
@@ -13,7 +13,7 @@ use Rattle.vale_code.specs.declared.instr.Instr.TheVariants as i
 use Rattle.vale_text.specs.Steps.{Comparison, compare, equal, holds, not_equal, same_truth}
 use Rattle.vale_heap.specs.HeapState.{HeapState}
 use Rattle.vale_heap.specs.declared.body.Cell.{Cell}
-use Rattle.vale_heap.specs.declared.body.Cell.TheVariants.{Int, Truth, Text, Own, Ref, Iso}
+use Rattle.vale_heap.specs.declared.body.Cell.TheVariants.{Truth, Text}
 use Rattle.vale_heap.specs.declared.body.Place.{Place}
 use Rattle.vale_turn.specs.Comparing.{compared}
 use Rattle.vale_turn.specs.View.{IsRight}
@@ -24,7 +24,6 @@ use Rattle.vale_object_cells.specs.Names.{value_in, value_of, values_in}
 use Rattle.vale_object_cells.specs.declared.register.Register.{Register}
 use Rattle.vale_object_cells.specs.declared.register.Shape.{Shape}
 use Rattle.vale_object_cells.specs.declared.register.Shape.TheVariants as shape
-use Rattle.vale_object_cells.proofs.Holding.{within}
 use Rattle.vale_object_cells.proofs.Naming.{read_values}
 use Rattle.vale_object_numbers.proofs.NumberLaws.{wrote}
 use Rattle.vale_object_turn.specs.Steps.{HasRule, Obeys, active}

@@ -1,4 +1,4 @@
-use Rattle.std.proofs.Common.{◌+◌, ◌<◌, length, Some, sym, ap, ◌∙◌, rules, to_z, of_z, arith}
+use Rattle.std.proofs.Common.{◌<◌, length, Some, sym, ap, ◌∙◌, rules, to_z, of_z, arith}
 use Rattle.std.proofs.lemmas.Int.{to_z-of_z}
 use mir.Syntax.{w64}
 use Rattle.vale_state_spec.specs.World.{Int, Truth, Text}
@@ -88,9 +88,11 @@ matched-requires c =
     let t = from_base c.args.base (text_at c.args.texts.now) in
     let cells = cells_from c.args.base c.args.texts.now c.args.registers.now in
     let regs = values_in h.0 cells in
-    let k = comparison_of c.args.choice in
-    (h.1, ap (λ u. compared k u (Some (Truth c.truth_at-latter.result))) (sym (reads h.0 cells c.args.left (cell.Truth c.truth_at-former.result) (c.truth_at-former.ensures t)))
-    ∙ ap (λ u. compared k (read regs c.args.left) u) (sym (reads h.0 cells c.args.right (cell.Truth c.truth_at-latter.result) (c.truth_at-latter.ensures t))) ∙ h.2)
+    let k = comparison_of c.args.choice in (
+      h.1,
+      ap (λ u. compared k u (Some (Truth c.truth_at-latter.result))) (sym (reads h.0 cells c.args.left (cell.Truth c.truth_at-former.result) (c.truth_at-former.ensures t)))
+          ∙ ap (λ u. compared k (read regs c.args.left) u) (sym (reads h.0 cells c.args.right (cell.Truth c.truth_at-latter.result) (c.truth_at-latter.ensures t))) ∙ h.2,
+    )
 
 pub returns-in-Truth : goal.returns-in-Truth
 returns-in-Truth c = λ names.
