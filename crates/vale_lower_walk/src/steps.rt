@@ -16,7 +16,7 @@ ghost use Rattle.vale_lower_parts.specs.Emitted.{node_emitted, started, step_emi
 
 use crate::exprs::{emit_node, emit_value};
 use crate::standing::Standing;
-use vale_base::{Memory, Name};
+use vale_base::{Memory, Name, Spot};
 use vale_core::{Expr, Form, Node, Step};
 use vale_lower_calls::Call;
 use vale_lower_flow::{Closings, Flow, Gives, Local, Scope, above, find};
