@@ -1,0 +1,6 @@
+pub mod CountLaws
+pub mod EndLaws
+pub mod ListLaws
+pub mod PlacedLaws
+pub mod SpotLaws
+pub mod StmtLaws
