@@ -1,9 +1,11 @@
-//! The code of bodies with owners, in one walk over each.
+//! The code of a body with owners, in one walk over it.
 #![tactic(auto)]
 
-mod branch;
-mod frame;
-mod named;
-mod walk;
+mod exprs;
+mod forms;
+mod standing;
+mod steps;
+mod stmts;
 
-pub use walk::{Standing, emit_block};
+pub use forms::emit_block;
+pub use standing::Standing;
