@@ -1,6 +1,10 @@
 pub mod CountLaws
 pub mod EndLaws
+pub mod ExprLaws
+pub mod FrontLaws
 pub mod ListLaws
 pub mod PlacedLaws
 pub mod SpotLaws
 pub mod StmtLaws
+pub mod WalkBlockLaws
+pub mod WalkStepLaws

@@ -24,14 +24,17 @@ use vale_lower_parts::{Frame, is_frozen, is_text, unmoved_name};
 use vale_lower_places::{
     put_lent, put_moved, put_number, put_operator, put_quote, put_truth, put_unary,
 };
-use vale_lower_stmts::{Front, Values, Waits, begin_or, end_part, hold_test};
+use vale_lower_stmts::{
+    Front, Values, Waits, begin_or, copies_value, end_part, given_by, gives_copy, gives_wanted,
+    hold_test, keeps_owner,
+};
 use vale_syntax::{BinaryOp, NameAt, UnaryOp};
 
 #[cycle(emit)]
 pub fn emit_expr(expr: &Expr, here: &Standing, flow: &mut Flow) -> Result<(), Memory>
     ensures { OnOk result (going flow.new ≡ expr_emitted (view_around here.now.around.now) (view_expr expr.now) here.now.next (entries here.now.scope.now) (going flow.old)) }
 {
-    let gives = Gives::of(&expr.seen.value);
+    let gives = given_by(expr);
     emit_node(&expr.node, &expr.seen.value, gives, here, flow)
 }
 
@@ -103,7 +106,7 @@ pub fn emit_paren(
     ensures { OnOk result ((x : y.Ty) (at : Spot) → going flow.new ≡ node_emitted (view_around here.now.around.now) x (view_gives gives) (t.paren at (view_expr inner.now)) here.now.next (entries here.now.scope.now) (going flow.old)) }
 {
     let start = flow.place()?;
-    let ok = gives.agrees(Gives::of(&inner.seen.value));
+    let ok = gives_wanted(inner, gives);
     emit_expr(inner, here, flow)?;
     flow.keep(ok, start, here.next)
 }
@@ -118,7 +121,7 @@ pub fn emit_chain(
 ) -> Result<(), Memory>
     ensures { OnOk result ((x : y.Ty) → going flow.new ≡ node_emitted (view_around here.now.around.now) x (view_gives gives) (t.chain (view_expr first.now) (links_of (map view_link links.now))) here.now.next (entries here.now.scope.now) (going flow.old)) }
 {
-    let ok = Gives::of(&first.seen.value).is_value() && gives.agrees(Gives::Copied);
+    let ok = copies_value(first, gives);
     let front = emit_value(first, here, flow)?;
     emit_links(links, here, flow)?;
     front.close(flow, ok, here.next)
@@ -135,7 +138,6 @@ pub fn emit_unary(
 ) -> Result<(), Memory>
     ensures { OnOk result ((x : y.Ty) → going flow.new ≡ node_emitted (view_around here.now.around.now) x (view_gives gives) (t.unary at op (view_expr operand.now)) here.now.next (entries here.now.scope.now) (going flow.old)) }
 {
-    let given = Gives::of(&operand.seen.value);
     match op {
         UnaryOp::Borrow => {
             let start = flow.place()?;
@@ -148,14 +150,12 @@ pub fn emit_unary(
                 to: here.next,
                 from: here.next,
             })?;
-            let ok = Gives::Owned.agrees(given) && gives.agrees(Gives::Owned);
-            front.close(flow, ok, here.next)
+            front.close(flow, keeps_owner(operand, gives), here.next)
         }
         UnaryOp::Minus | UnaryOp::Not => {
             let front = emit_value(operand, here, flow)?;
             put_unary(flow, op, at, here.next)?;
-            let ok = given.is_value() && gives.agrees(Gives::Copied);
-            front.close(flow, ok, here.next)
+            front.close(flow, copies_value(operand, gives), here.next)
         }
     }
 }
@@ -238,7 +238,7 @@ pub fn emit_args(args: &[Expr], here: &Standing, flow: &mut Flow) -> Result<Valu
         };
         let start = flow.place()?;
         emit_expr(arg, &inner, flow)?;
-        waits.wait(Gives::of(&arg.seen.value), start, flow)?;
+        waits.wait(given_by(arg), start, flow)?;
     }
     waits.close(flow)
 }
@@ -279,7 +279,7 @@ pub fn emit_links(links: &Items<Link>, here: &Standing, flow: &mut Flow) -> Resu
     let slice = links.as_slice();
     for link in slice {
         let start = flow.place()?;
-        let copied = Gives::Copied.agrees(Gives::of(&link.operand.seen.value));
+        let copied = gives_copy(&link.operand);
         emit_link(link, here, flow)?;
         end_part(&mut closings, copied, start, h, behind, flow)?;
     }

@@ -24,7 +24,7 @@ use vale_lower_parts::{Branch, Frame, end_branches};
 use vale_lower_places::put_stuck;
 use vale_lower_stmts::{
     begin_freeze, declare_value, destructure_value, end_empty, end_iso, end_last, end_pure,
-    hold_test,
+    gives_to, gives_value, gives_wanted, hold_test,
 };
 
 #[cycle(emit)]
@@ -83,7 +83,7 @@ pub fn emit_branch(
 ) -> Result<Branch, Memory>
     ensures { IfOk result (λ b. (at : Spot) (es : t.Elses) (before : s.Gone) → branch_ended b here.now.next (entries here.now.scope.now) before (elses_emitted (view_around here.now.around.now) (view_gives gives) es before here.now.next (entries here.now.scope.now) (going flow.new)) ≡ elses_emitted (view_around here.now.around.now) (view_gives gives) (t.more_elses (t.else_if at (view_expr condition.now) (view_block block.now)) es) before here.now.next (entries here.now.scope.now) (going flow.old)) }
 {
-    let is_value = Gives::of(&condition.seen.value).is_value();
+    let is_value = gives_value(condition);
     let front = emit_value(condition, here, flow)?;
     let inner = Standing {
         next: front.next,
@@ -198,7 +198,7 @@ pub fn emit_last_value(
     ensures { OnOk result ((end : Spot) → going flow.new ≡ stmts_emitted (view_around here.now.around.now) (view_gives gives) end (t.last (view_expr value.now)) to here.now.next (entries here.now.scope.now) (going flow.old)) }
 {
     let start = flow.place()?;
-    let ok = gives.agrees(Gives::of(&value.seen.value));
+    let ok = gives_wanted(value, gives);
     emit_expr(value, here, flow)?;
     end_last(flow, gives, ok, start, to, here.next)
 }
@@ -222,13 +222,12 @@ pub fn emit_next(
     };
     match stmt {
         Stmt::Declare(name, ty, value) => {
-            let gives = Gives::of(ty);
-            let ok = Gives::of(&value.seen.value).is_value() && gives.is_value();
+            let ok = gives_to(value, ty);
             let front = emit_value(value, &here, flow)?;
-            declare_value(frame, front, ok, name.name, gives, end, flow)
+            declare_value(frame, front, ok, name.name, Gives::of(ty), end, flow)
         }
         Stmt::Destructure(_, names, types, value) => {
-            let ok = Gives::of(&value.seen.value).is_value();
+            let ok = gives_value(value);
             let front = emit_value(value, &here, flow)?;
             let (names, types) = (names.as_slice(), types.as_slice());
             destructure_value(outer.alloc, frame, front, ok, names, types, end, flow)

@@ -25,7 +25,7 @@ use vale_lower_parts::{Base, Frame, base_of_local, unmoved_name, view_of, waitin
 use vale_lower_places::{
     Origin, put_element, put_exchange, put_field, put_stuck, swap_element, swap_field,
 };
-use vale_lower_stmts::{Front, Place, place_of};
+use vale_lower_stmts::{Front, Place, given_by, gives_copy, gives_wanted_value, place_of};
 
 // What a first step starts from, where a part that starts there is ended with it.
 #[cycle(emit)]
@@ -46,7 +46,7 @@ pub fn emit_base(expr: &Expr, step: &Step, here: &Standing, flow: &mut Flow) -> 
                 origin: Origin::Reference(here.next),
                 next: front.next,
                 start: front.start,
-                is_there: Gives::Copied.agrees(Gives::of(&expr.seen.value)),
+                is_there: gives_copy(expr),
                 mark: front.mark,
             })
         }
@@ -69,7 +69,7 @@ pub fn emit_step(
             put_field(flow, origin, here.around.field_place(view, *name), *at, to)
         }
         Step::Index(_, _, at, index) => {
-            let ok = Gives::Copied.agrees(Gives::of(&index.seen.value));
+            let ok = gives_copy(index);
             let front = emit_value(index, here, flow)?;
             put_element(flow, origin, here.next, *at, to)?;
             front.close(flow, ok, to)
@@ -94,7 +94,7 @@ pub fn emit_swap(
             swap_field(flow, origin, here.around.field_place(view, *name), *at, new)
         }
         Step::Index(_, _, at, index) => {
-            let ok = Gives::Copied.agrees(Gives::of(&index.seen.value));
+            let ok = gives_copy(index);
             let front = emit_value(index, here, flow)?;
             swap_element(flow, origin, here.next, *at, new)?;
             front.close(flow, ok, new)
@@ -210,10 +210,9 @@ pub fn emit_set(
 ) -> Result<(), Memory>
     ensures { OnOk result ((x : y.Ty) (at : Spot) → going flow.new ≡ node_emitted (view_around here.now.around.now) x (view_gives gives) (t.set at (view_expr place.now) (view_expr value.now)) here.now.next (entries here.now.scope.now) (going flow.old)) }
 {
-    let given = Gives::of(&value.seen.value);
     let front = emit_value(value, here, flow)?;
-    emit_place(place, given, here, flow)?;
-    front.close(flow, given.is_value() && gives.agrees(given), here.next)
+    emit_place(place, given_by(value), here, flow)?;
+    front.close(flow, gives_wanted_value(value, gives), here.next)
 }
 
 // A place that is set gets what waits in the register, and the register what it held.

@@ -22,8 +22,8 @@ use vale_lower_looks::expr_comes;
 use vale_lower_parts::{Frame, declared};
 use vale_lower_places::put_stuck;
 use vale_lower_stmts::{
-    begin_count, begin_turns, drop_unused, end_return, end_store, pass, return_nothing, set_local,
-    spot_of,
+    begin_count, begin_turns, drop_unused, end_return, end_store, give_values, given_by,
+    gives_value, gives_wanted_value, pass, return_nothing, set_local, spot_of,
 };
 use vale_syntax::NameAt;
 
@@ -58,9 +58,8 @@ pub fn emit_return(at: Spot, value: &Expr, here: &Standing, flow: &mut Flow) -> 
     ensures { OnOk result (going flow.new ≡ stmt_emitted (view_around here.now.around.now) (t.return_value at (view_expr value.now)) here.now.next (entries here.now.scope.now) (going flow.old)) }
 {
     let start = flow.place()?;
-    let given = Gives::of(&value.seen.value);
     emit_expr(value, here, flow)?;
-    let ok = given.is_value() && here.around.gives.agrees(given);
+    let ok = gives_wanted_value(value, here.around.gives);
     end_return(flow, here.scope, ok, start, here.next, at)
 }
 
@@ -76,7 +75,7 @@ pub fn emit_turns(
 {
     let next = above(here.next)?;
     let inner = Standing { next, ..*here };
-    let is_value = Gives::of(&condition.seen.value).is_value();
+    let is_value = gives_value(condition);
     let turns = begin_turns(here.alloc, flow)?;
     emit_block(block, Gives::Void, here.next, &inner, flow)?;
     let test = turns.test(here.alloc, here.scope, flow)?;
@@ -94,7 +93,7 @@ pub fn emit_no_turns(
 ) -> Result<(), Memory>
     ensures { OnOk result ((at : Spot) → expr_comes (view_expr condition.now) ≡ false → going flow.new ≡ stmt_emitted (view_around here.now.around.now) (t.while at (view_expr condition.now) (view_block block.now)) here.now.next (entries here.now.scope.now) (going flow.old)) }
 {
-    let is_value = Gives::of(&condition.seen.value).is_value();
+    let is_value = gives_value(condition);
     let before = flow.copy_gone(here.alloc)?;
     let front = emit_value(condition, here, flow)?;
     let inner = Standing {
@@ -119,7 +118,7 @@ pub fn emit_foreach(
 ) -> Result<(), Memory>
     ensures { OnOk result (going flow.new ≡ stmt_emitted (view_around here.now.around.now) (t.foreach at name (view_expr from.now) (view_expr to.now) (view_block block.now)) here.now.next (entries here.now.scope.now) (going flow.old)) }
 {
-    let given = Gives::of(&from.seen.value).is_value() && Gives::of(&to.seen.value).is_value();
+    let ok = give_values(from, to);
     let front = emit_value(from, here, flow)?;
     let bounded = Standing {
         next: front.next,
@@ -128,7 +127,7 @@ pub fn emit_foreach(
     let bound = emit_value(to, &bounded, flow)?;
     emit_count(at, name.name, block, bound.next, here, flow)?;
     flow.end(bound.mark)?;
-    front.close(flow, given, here.next)
+    front.close(flow, ok, here.next)
 }
 
 // The turns of a loop over numbers.
@@ -161,7 +160,7 @@ pub fn emit_count(
 pub fn emit_unused(value: &Expr, here: &Standing, flow: &mut Flow) -> Result<(), Memory>
     ensures { OnOk result (going flow.new ≡ stmt_emitted (view_around here.now.around.now) (t.express (view_expr value.now)) here.now.next (entries here.now.scope.now) (going flow.old)) }
 {
-    let gives = Gives::of(&value.seen.value);
+    let gives = given_by(value);
     match set_local(value) {
         Some(name) => emit_store(&value.node, name, gives, here, flow),
         None => {
@@ -186,10 +185,10 @@ pub fn emit_store(
         Node::Set(at, _, new) => {
             let new = new.get();
             let start = flow.place()?;
-            let given = Gives::of(&new.seen.value);
+            let given = given_by(new);
             emit_expr(new, here, flow)?;
             let local = find(name, here.scope);
-            let ok = given.is_value() && gives.agrees(given);
+            let ok = gives_wanted_value(new, gives);
             end_store(flow, local, given, ok, start, here.next, *at)
         }
         Node::Steps(..)

@@ -1,0 +1,6 @@
+//! Calls.
+#![tactic(auto)]
+
+mod calls;
+
+pub use calls::{Call, put_callee, put_made};
