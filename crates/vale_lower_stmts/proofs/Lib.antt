@@ -1,10 +1,14 @@
+pub mod CallLaws
 pub mod CountLaws
 pub mod EndLaws
 pub mod ExprLaws
 pub mod FrontLaws
 pub mod ListLaws
+pub mod NextLaws
+pub mod OneStepLaws
 pub mod PlacedLaws
 pub mod SpotLaws
 pub mod StmtLaws
 pub mod WalkBlockLaws
 pub mod WalkStepLaws
+pub mod WalkStmtLaws

@@ -79,7 +79,7 @@ begun_gone_by : (r : ℕ) (f : Going) (k : Bool) → f.comes ≡ k → (begun r 
 begun_gone_by r f true e = ap (λ z. z.gone) (begun_by r f true e)
 begun_gone_by r f false e = ap (λ z. z.gone) (begun_by r f false e)
 
-begun_gone : (r : ℕ) (f : Going) → (begun r f).gone ≡ f.gone
+pub begun_gone : (r : ℕ) (f : Going) → (begun r f).gone ≡ f.gone
 begun_gone r f = begun_gone_by r f f.comes refl
 
 begun_comes_by : (r : ℕ) (f : Going) (k : Bool) → f.comes ≡ k → (begun r f).comes ≡ true

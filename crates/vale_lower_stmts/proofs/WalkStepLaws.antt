@@ -50,11 +50,11 @@ named_as a h s view view2 changes part after n x ch f g r ev ex ec er eg =
 
 -- ---- steps one after another
 
-pub steps_next : (a : Around) (c0 c1 : Closings) (xs : List Step) (i : ℕ) (x : Step) (h next next2 : ℕ) (m : Mark) (s : Scope) (f f1 f2 goal : Going) →
+pub steps_next : (a : Around) (c0 c1 : Closings) (xs : List Step) (i : ℕ) (x : Step) (h next : ℕ) (m : Mark) (s : Scope) (f f1 f2 goal : Going) →
     i < length xs → x ≡ get_or xs i x → next ≡ h + 1 → f1 ≡ step_emitted a (reference h) (view_step x) h next s f → m ≡ mark_of f1 → f2 ≡ begun next f1
     → ((g : Going) → closed c1 g ≡ closed c0 (ended m g))
     → closed c0 (steps_emitted a (steps_of (map view_step (drop i xs))) h s f) ≡ goal → closed c1 (steps_emitted a (steps_of (map view_step (drop (i + 1) xs))) h s f2) ≡ goal
-steps_next a c0 c1 xs i x h next next2 m s f f1 f2 goal lt is en e1 em e2 ec so_far =
+steps_next a c0 c1 xs i x h next m s f f1 f2 goal lt is en e1 em e2 ec so_far =
     let rest : t.Steps = steps_of (map view_step (drop (i + 1) xs)) in
     let v : t.Step = view_step x in
     let one : ℕ → Going = λ (k : ℕ). step_emitted a (reference h) v h k s f in
