@@ -1,5 +1,5 @@
 -- What statements make, by what each call made.
-use Rattle.std.proofs.Common.{◌≡◌, ℕ, ◌+◌, List, [], ◌∷◌, ◌++◌, length, refl, ap, sym, ◌∙◌, true≢false}
+use Rattle.std.proofs.Common.{◌≡◌, ℕ, ◌+◌, List, [], ◌∷◌, ◌++◌, length, refl, ap, sym, ◌∙◌, true≢false, arith}
 use Rattle.std.specs.Prelude.{Bool, true, false, ◌&&◌, pos, Option, None, option_map}
 use Rattle.vale_base.specs.declared.spot.Spot.{Spot}
 use Rattle.vale_syntax.specs.declared.tree.NameAt.{NameAt}
@@ -129,20 +129,22 @@ module _ (a : Around) (h : ℕ) (s : Scope) where
         ∙ ap (λ (m : ℕ). counted f.gone (length f.code) (length (sub m f).code) m (body (m + 1) (entry n m copy) m)) et
         ∙ count_is a at n b h s f
 
-  pub by_foreach : (at : Spot) (n : NameAt) (c e : t.Expr) (b : t.Block) (ok : Bool) (start next1 next2 : ℕ) (m1 m2 : Mark) (f g1 g2 g3 g4 r : Going) → ok ≡ (is_value (gives_of (type c)) && is_value (gives_of (type e)))
+  pub by_foreach : (at : Spot) (n : NameAt) (c e : t.Expr) (b : t.Block) (ok : Bool) (start next1 : ℕ) (m1 m2 : Mark) (f g1 g2 g3 g4 r : Going) → ok ≡ (is_value (gives_of (type c)) && is_value (gives_of (type e)))
       → start ≡ length f.code → next1 ≡ h + 1 → m1 ≡ mark_of (expr_emitted a c h s f) → g1 ≡ begun (h + 1) (expr_emitted a c h s f)
       → m2 ≡ mark_of (expr_emitted a e next1 s g1) → g2 ≡ begun (next1 + 1) (expr_emitted a e next1 s g1) → g3 ≡ count_emitted a at n.name.0 b h s g2 → g4 ≡ ended m2 g3 → r ≡ only ok start h (ended m1 g4)
       → r ≡ stmt_emitted a (t.foreach at n c e b) h s f
-  by_foreach at n c e b ok start next1 next2 m1 m2 f g1 g2 g3 g4 r eo es en em1 e1 em2 e2 e3 e4 er =
+  by_foreach at n c e b ok start next1 m1 m2 f g1 g2 g3 g4 r eo es en em1 e1 em2 e2 e3 e4 er =
       let v : Bool = is_value (gives_of (type c)) && is_value (gives_of (type e)) in
       let one : Going = expr_emitted a c h s f in
       let two : ℕ → Going → Going = λ (k : ℕ) (w : Going). expr_emitted a e k s w in
       let rest : ℕ → ℕ → Going → Going = λ (k : ℕ) (j : ℕ) (w : Going). ended (mark_of (two k w)) (count_emitted a at n.name.0 b h s (begun j (two k w))) in
       let whole : Going → Going = λ (w : Going). only v (length f.code) h (ended (mark_of one) w) in
+      let two_more : h + 1 + 1 ≡ h + 2 = omega arith in
       er ∙ ap (λ (u : Bool). only u start h (ended m1 g4)) eo ∙ ap (λ (k : ℕ). only v k h (ended m1 g4)) es ∙ ap (λ (k : Mark). only v (length f.code) h (ended k g4)) em1
       ∙ ap whole (e4 ∙ ap (λ (k : Mark). ended k g3) em2 ∙ ap (λ (w : Going). ended (mark_of (two next1 g1)) w) (e3 ∙ ap (λ (w : Going). count_emitted a at n.name.0 b h s w) e2))
       ∙ ap (λ (w : Going). whole (rest next1 (next1 + 1) w)) e1
       ∙ ap (λ (k : ℕ). whole (rest k (k + 1) (begun (h + 1) one))) en
+      ∙ ap (λ (j : ℕ). whole (rest (h + 1) j (begun (h + 1) one))) two_more
       ∙ foreach_is a h s at n c e b f
 
   -- ---- values that aren't used

@@ -91,7 +91,8 @@ pub fn emit_branch(
     };
     let held = hold_test(here.alloc, flow)?;
     emit_block(block, gives, here.next, &inner, flow)?;
-    held.end_block(flow, front, is_value, here.next)
+    let branch = held.end_block(flow, front, is_value, here.next)?;
+    Ok(branch)
 }
 
 // Each `else if`, and what stands after them.
@@ -224,7 +225,8 @@ pub fn emit_next(
         Stmt::Declare(name, ty, value) => {
             let ok = gives_to(value, ty);
             let front = emit_value(value, &here, flow)?;
-            declare_value(frame, front, ok, name.name, Gives::of(ty), end, flow)
+            declare_value(frame, front, ok, name.name, Gives::of(ty), end, flow)?;
+            Ok(())
         }
         Stmt::Destructure(_, names, types, value) => {
             let ok = gives_value(value);
@@ -235,7 +237,8 @@ pub fn emit_next(
         Stmt::Return(..) | Stmt::While(..) | Stmt::Foreach(..) | Stmt::Form(_) | Stmt::Express(_) =>
             {
                 emit_stmt(stmt, &here, flow)?;
-                frame.closings.end(flow.begin(frame.next)?)
+                let mark = flow.begin(frame.next)?;
+                frame.closings.end(mark)
             }
     }
 }

@@ -167,7 +167,8 @@ pub fn emit_steps(steps: &[Step], here: &Standing, flow: &mut Flow) -> Result<()
     let origin = Origin::Reference(here.next);
     for step in steps {
         emit_step(step, origin, here.next, &inner, flow)?;
-        closings.end(flow.begin(next)?)?;
+        let mark = flow.begin(next)?;
+        closings.end(mark)?;
     }
     flow.arrive();
     closings.close(flow)
@@ -192,7 +193,8 @@ pub fn emit_targets(
     let origin = Origin::Reference(here.next);
     for step in first {
         emit_step(step, origin, here.next, &inner, flow)?;
-        closings.end(flow.begin(next)?)?;
+        let mark = flow.begin(next)?;
+        closings.end(mark)?;
     }
     emit_swap(last, origin, new, &inner, flow)?;
     closings.close(flow)
