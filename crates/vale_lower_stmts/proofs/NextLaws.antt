@@ -122,7 +122,7 @@ module _ (a : Around) (end : Spot) (h : ℕ) (s : Scope) where
       ∙ (ap (λ (g : Going). closed c0 (only ok start h (ended m (inner p g)))) e1 ∙ (ap (λ (z : Gives). closed c0 (only ok start h (ended m (inner z (begun (h + 1) one))))) ep
       ∙ (ap (λ (z : Mark). closed c0 (only ok start h (ended z (inner (gives_of w) (begun (h + 1) one))))) em ∙ (ap (λ (k : ℕ). closed c0 (only ok k h (ended (mark_of one) (inner (gives_of w) (begun (h + 1) one))))) est
       ∙ (ap (λ (b : Bool). closed c0 (only b (length f.code) h (ended (mark_of one) (inner (gives_of w) (begun (h + 1) one))))) eo
-      ∙ (ap (λ (g : Going). closed c0 g) (sym (declare_is a q end to h s n w e rest f)) ∙ ap (λ (z : t.Stmt). closed c0 (stmts_emitted a q end (t.more_stmts z rest) to h s f)) (sym is)))))))))))
+      ∙ (ap (λ (g : Going). closed c0 g) (sym (declare_is a q end to h s n w e rest f)) ∙ ap (λ (z : t.Stmt). closed c0 (stmts_emitted a q end (t.more_stmts z rest) to h s f)) (sym is))))))))))
 
   -- what the locals of a destructuring leave to what runs in their scope
   abbrev pub Opened : Closings → Closings → Bool → ℕ → Mark → List NameAt → List y.Ty → ℕ → Scope → Going → Going → Type 0
