@@ -1,7 +1,9 @@
 // What a body names.
-ghost use Rattle.std.specs.Prelude.{◌≡◌, IfOk};
+ghost use Rattle.std.specs.Prelude.{◌≡◌, [], Some, map, flat_map, IfOk};
+ghost use Rattle.std.specs.Option.{option_map_or};
+ghost use Rattle.vale_syntax.specs.View.{view_field};
 ghost use Rattle.vale_core.specs.View.{view_core, view_ty, view_view};
-ghost use Rattle.vale_model.specs.Parts.{parts_of, field_place, place_of_kind};
+ghost use Rattle.vale_model.specs.Parts.{parts_of, fields_in, field_place, field_place_in, place_of_kind};
 ghost use Rattle.vale_lower_tables.specs.Kept.{AreFields};
 
 use crate::fields::Fields;
@@ -12,6 +14,7 @@ use vale_core::{Core, Item, Ty, View};
 use vale_lower_expr::Texts;
 use vale_lower_flow::Gives;
 use vale_lower_kinds::{Kinds, kinds_of};
+use vale_syntax::FieldDecl;
 
 /// The names of a program, its items, and the fields and kinds of its objects.
 #[derive(Drop)]
@@ -41,16 +44,40 @@ impl<'p> Tables<'p> {
         })
     }
 
+    /// The fields of a struct, where it has any.
+    pub fn fields_of(&self, name: Name) -> Option<&Vec<&'p FieldDecl>>
+        ensures { option_map_or (λ v. map (λ f. view_field f.now) v.now.items) result [] ≡ flat_map (fields_in name.0) (parts_in self.now).items }
+    {
+        self.fields.listed.of(name)
+    }
+
+    // Which field of the struct of this type has this name.
+    #[tactic(auto, using(crate::proofs::FieldLaws::types))]
+    fn place_in(&self, ty: &Ty, name: Name) -> Option<u32>
+        ensures { result ≡ field_place_in (parts_in self.now) (Some (view_ty ty.now)) name.0 }
+    {
+        match ty {
+            Ty::Kind(of) => self.fields.place(*of, name),
+            Ty::Void
+            | Ty::Int
+            | Ty::Bool
+            | Ty::Str
+            | Ty::Array(_)
+            | Ty::Ref(_)
+            | Ty::Imm(_)
+            | Ty::Iso(_) => None,
+        }
+    }
+
     // Which field of the struct that is seen so has this name.
-    #[tactic(auto, using(crate::proofs::FieldLaws::seen))]
     fn field_place(&self, view: &View, name: Name) -> Option<u32>
         ensures { result ≡ field_place (parts_in self.now) (view_view view.now) name.0 }
     {
         match view {
-            View::Direct(Ty::Kind(of)) | View::Shared(Ty::Kind(of)) | View::Frozen(Ty::Kind(of)) => {
-                self.fields.place(*of, name)
-            }
-            _ => None,
+            View::Blind => None,
+            View::Direct(ty) => self.place_in(ty, name),
+            View::Shared(ty) => self.place_in(ty, name),
+            View::Frozen(ty) => self.place_in(ty, name),
         }
     }
 }

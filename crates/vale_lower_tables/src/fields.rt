@@ -1,5 +1,6 @@
 // The fields of structs by name.
 ghost use Rattle.std.specs.Prelude.{◌≡◌, ℕ, ◌++◌, ◌==◌, ◌&&◌, [], ◌∷◌, None, Some, length, map, IfOk, OnOk, if◌then◌else◌};
+ghost use Rattle.std.specs.Option.{option_map_or};
 ghost use Rattle.vale_syntax.specs.View.{view_field};
 ghost use Rattle.vale_model.specs.Parts.{place_of_field};
 ghost use Rattle.vale_lower_expr.specs.Found.{or_else};
@@ -48,14 +49,11 @@ impl<'p> Listed<'p> {
         Ok(())
     }
 
-    /// Those of a struct.
-    pub fn of(&self, of: Name) -> &[&'p FieldDecl]
-        ensures { map (λ f. view_field f.now) result.now ≡ fields_at self.now of.0 }
+    /// Those of a struct, where it has any.
+    pub fn of(&self, of: Name) -> Option<&Vec<&'p FieldDecl>>
+        ensures { option_map_or (λ v. map (λ f. view_field f.now) v.now.items) result [] ≡ fields_at self.now of.0 }
     {
-        match self.by_struct.get(&of.0) {
-            Some(fields) => fields.as_slice(),
-            None => &[],
-        }
+        self.by_struct.get(&of.0)
     }
 }
 
