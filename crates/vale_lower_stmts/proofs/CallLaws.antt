@@ -1,19 +1,22 @@
 -- What calls, arrays and operators make, by what each call made.
 use Rattle.std.proofs.Common.{◌≡◌, ℕ, ◌+◌, List, [], ◌∷◌, ◌++◌, length, refl, ap, sym, ◌∙◌, arith}
-use Rattle.std.specs.Prelude.{Bool, map}
+use Rattle.std.specs.Prelude.{Bool, ◌&&◌, map}
 use Rattle.vale_base.specs.declared.spot.Spot.{Spot}
 use Rattle.vale_syntax.specs.declared.tree.NameAt.{NameAt}
 use Rattle.vale_syntax.specs.declared.tree.BinaryOp.{BinaryOp}
 use Rattle.vale_syntax.specs.declared.tree.BinaryOp.TheVariants as op
+use Rattle.vale_syntax.specs.declared.tree.UnaryOp.{UnaryOp}
+use Rattle.vale_syntax.specs.declared.tree.UnaryOp.TheVariants as unary_op
 use Rattle.vale_rules_spec.specs.Types as y
 use Rattle.vale_rules_spec.specs.Typed as t
+use Rattle.vale_rules_spec.specs.Typed.{type}
 use Rattle.vale_core.specs.declared.tree.Expr.{Expr}
 use Rattle.vale_core.specs.declared.tree.Link.{Link, out-Link}
 use Rattle.vale_core.specs.View.{view_ty, view_seen, view_expr, view_link, exprs_of}
 use Rattle.vale_code.specs.declared.instr.Instr.{Instr}
 use Rattle.vale_code.specs.declared.instr.Instr.TheVariants as i
-use Rattle.vale_lowering.specs.Instructions.{operator}
-use Rattle.vale_lowering_objects.specs.Scopes.{Gives, Scope, Gone, After, Around, closes}
+use Rattle.vale_lowering.specs.Instructions.{operator, unary_code}
+use Rattle.vale_lowering_objects.specs.Scopes.{Gives, copy, gives_of, is_value, agree, Scope, Gone, After, Around, closes}
 use Rattle.vale_lowering_objects.specs.Lowered.{callee_code, make_code, first_type, gives_list}
 use Rattle.vale_lower_flow.specs.declared.gives.Gives.{Gives as Kept}
 use Rattle.vale_lower_flow.specs.declared.flow.Mark.{Mark}
@@ -21,7 +24,7 @@ use Rattle.vale_lower_flow.specs.Entries.{gone_of}
 use Rattle.vale_lower_flow.specs.Kept.{view_gives}
 use Rattle.vale_lower_flow.specs.Flow.{Going, put, only, mark_of, begun, ended, turned, joined, skipped, side_after, after_of}
 use Rattle.vale_lower_parts.specs.Emitted.{expr_emitted, node_emitted, args_emitted, link_emitted}
-use Rattle.vale_lower_parts.proofs.NodeLaws.{call_is, array_is, link_by_parts, or_is, and_is, link_is, operated}
+use Rattle.vale_lower_parts.proofs.NodeLaws.{call_is, array_is, minus_is, not_is, plain_unary, link_by_parts, or_is, and_is, link_is, operated}
 use Rattle.vale_lower_stmts.specs.declared.sides.OtherSide.{OtherSide}
 use Rattle.vale_lower_stmts.specs.declared.sides.HeldTest.{HeldTest}
 use Rattle.vale_lower_stmts.proofs.EndLaws.{gone_put}
@@ -54,6 +57,23 @@ module _ (a : Around) (h : ℕ) (s : Scope) where
       → r ≡ node_emitted a x q (t.array at w (exprs_of (map view_expr es))) h s f
   by_array x q at w es qs m f f1 f2 r eq em e1 e2 er =
       by_values es (λ (z : List Gives). make_code a.parts q x z h) qs m f f1 f2 r eq em e1 e2 er ∙ sym (array_is a h s x q at w (exprs_of (map view_expr es)) f)
+
+  -- ---- operators on one value
+
+  module _ (x : y.Ty) (q : Gives) (at : Spot) (e : t.Expr) where
+    abbrev wanted : Bool
+    wanted = is_value (gives_of (type e)) && agree q copy
+
+    abbrev pub one_operated : UnaryOp → Going → Going
+    one_operated o f = only wanted (length f.code) h (ended (mark_of (expr_emitted a e h s f)) (put (unary_code o at h) (begun (h + 1) (expr_emitted a e h s f))))
+
+    pub by_minus : (f : Going) → one_operated unary_op.Minus f ≡ node_emitted a x q (t.unary at unary_op.Minus e) h s f
+    unfolding plain_unary
+    by_minus f = sym (minus_is a h s x q at e f)
+
+    pub by_not : (f : Going) → one_operated unary_op.Not f ≡ node_emitted a x q (t.unary at unary_op.Not e) h s f
+    unfolding plain_unary
+    by_not f = sym (not_is a h s x q at e f)
 
   -- ---- operators
 

@@ -125,8 +125,8 @@ given_length (e ∷ es) = ap suc (given_length es)
 
 -- ---- operators
 
-pub operand_by_parts : (l : Link) → operand_of (view_link l) ≡ view_expr (out-Link l).operand
-operand_by_parts l = ap operand_of (of_out_link l)
+pub operand_by_parts : (a : Around) (h : ℕ) (s : Scope) (l : Link) → operand_of a h s (view_link l) ≡ view_expr (out-Link l).operand
+operand_by_parts a h s l = ap (λ (z : t.Link). operand_of a h s z) (of_out_link l)
 
 pub links_next : (a : Around) (c0 c1 : Closings) (ls : List Link) (i : ℕ) (l : Link) (h next start : ℕ) (ok : Bool) (s : Scope) (f f1 f2 goal : Going) →
     i < length ls → l ≡ get_or ls i l → ok ≡ agree copy (gives_of (type (view_expr (out-Link l).operand))) → start ≡ length f.code → next ≡ h + 1 → f1 ≡ link_emitted a (view_link l) h s f → f2 ≡ begun next f1
@@ -137,11 +137,11 @@ links_next a c0 c1 ls i l h next start ok s f f1 f2 goal lt is eo est en e1 e2 e
     let v : t.Link = view_link l in
     let g1 : Going = link_emitted a v h s f in
     let whole : Bool → ℕ → Going → Going = λ (b : Bool) (n : ℕ) (g : Going). only b n h (ended (mark_of g) (links_emitted a rest h s (begun (h + 1) g))) in
-    let ok2 : Bool = agree copy (gives_of (type (operand_of v))) in
+    let ok2 : Bool = agree copy (gives_of (type (operand_of a h s v))) in
     ap (λ (g : Going). closed c1 (links_emitted a rest h s g)) (e2 ∙ ap (λ (n : ℕ). begun n f1) en)
     ∙ (ec (links_emitted a rest h s (begun (h + 1) f1))
     ∙ (ap (λ (g : Going). closed c0 (whole ok start g)) e1 ∙ (ap (λ (n : ℕ). closed c0 (whole ok n g1)) est
-    ∙ (ap (λ (b : Bool). closed c0 (whole b (length f.code) g1)) (eo ∙ ap (λ (z : t.Expr). agree copy (gives_of (type z))) (sym (operand_by_parts l)))
+    ∙ (ap (λ (b : Bool). closed c0 (whole b (length f.code) g1)) (eo ∙ ap (λ (z : t.Expr). agree copy (gives_of (type z))) (sym (operand_by_parts a h s l)))
     ∙ (ap (λ (g : Going). closed c0 g) (sym (more_links a h s v rest f)) ∙ (ap (λ (z : List Link). closed c0 (links_emitted a (links_of (map view_link z)) h s f)) (sym (next_of ls i l lt is)) ∙ so_far))))))
 
 pub links_end : (a : Around) (c : Closings) (ls : List Link) (i h : ℕ) (s : Scope) (f goal : Going) → length ls ≤ i → closed c (links_emitted a (links_of (map view_link (drop i ls))) h s f) ≡ goal → closed c (arrived f) ≡ goal

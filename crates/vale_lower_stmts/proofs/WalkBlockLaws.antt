@@ -13,17 +13,18 @@ use Rattle.vale_core.specs.declared.tree.ElseIf.{ElseIf, out-ElseIf}
 use Rattle.vale_core.specs.declared.tree.Stmt.{Stmt}
 use Rattle.vale_core.specs.View.{view_ty, view_expr, view_stmt, view_block, view_else_if, elses_of, else_end, stmts_of, last_end}
 use Rattle.vale_core.proofs.PartLaws.{of_out_block, of_out_else_if}
-use Rattle.vale_lowering_objects.specs.Scopes.{Gives, gives_of, is_value, agree, may_meet, Entry, entry, Scope, Gone, After, Around}
+use Rattle.vale_code.specs.declared.instr.Instr.TheVariants as i
+use Rattle.vale_lowering_objects.specs.Scopes.{Gives, gives_of, is_value, may_meet, Scope, Gone, After, Around}
 use Rattle.vale_lower_flow.specs.declared.closing.Closings.{Closings}
 use Rattle.vale_lower_flow.specs.declared.flow.Mark.{Mark}
-use Rattle.vale_lower_flow.specs.Closing.{closed, dropped}
+use Rattle.vale_lower_flow.specs.Closing.{closed}
 use Rattle.vale_lower_flow.specs.Entries.{gone_of}
-use Rattle.vale_lower_flow.specs.Flow.{Going, only, mark_of, begun, ended, filled, turned, joined, side_after, after_of}
+use Rattle.vale_lower_flow.specs.Flow.{Going, put, only, mark_of, begun, ended, turned, joined, side_after, after_of}
 use Rattle.vale_lower_parts.specs.declared.branch.Branch.{Branch}
 use Rattle.vale_lower_parts.specs.Branches.{branch_ended, branches_ended}
 use Rattle.vale_lower_parts.specs.Named.{node_of}
 use Rattle.vale_lower_parts.specs.Emitted.{expr_emitted, elses_emitted, block_emitted, stmts_emitted, stmt_emitted}
-use Rattle.vale_lower_parts.proofs.FormLaws.{branches_more, branch_is, block_side}
+use Rattle.vale_lower_parts.proofs.FormLaws.{branches_more, branch_is}
 use Rattle.vale_lower_parts.proofs.BlockLaws.{block_is}
 use Rattle.vale_lower_stmts.specs.Placed.{set_local, set_local_in, store_emitted}
 use Rattle.vale_lower_stmts.proofs.StmtLaws.{store_is}
@@ -32,18 +33,22 @@ use Rattle.vale_lower_stmts.proofs.FrontLaws.{next_of}
 -- ---- branches
 
 module _ (a : Around) (q : Gives) (h : ℕ) (s : Scope) where
+  -- a block behind a test
+  abbrev pub behind_test : t.Block → Going → Going
+  behind_test b f = block_emitted a q b h (h + 1) s (put (i.Jump 0 ∷ []) f)
+
   -- a branch whose block has ended, and what stands on the other side
   pub by_branch : (c : t.Expr) (b : t.Block) (z : Branch) (start test : ℕ) (is_value2 : Bool) (m : Mark) (f f1 f3 f4 : Going) →
-      start ≡ length f.code → m ≡ mark_of (expr_emitted a c h s f) → f1 ≡ begun (h + 1) (expr_emitted a c h s f) → is_value2 ≡ is_value (gives_of (type c)) → test ≡ length f1.code → f3 ≡ block_side a h s q b f1
+      start ≡ length f.code → m ≡ mark_of (expr_emitted a c h s f) → f1 ≡ begun (h + 1) (expr_emitted a c h s f) → is_value2 ≡ is_value (gives_of (type c)) → test ≡ length f1.code → f3 ≡ behind_test b f1
       → z.start ≡ start → z.mark ≡ m → z.is_value ≡ is_value2 → z.test ≡ test → gone_of z.side.gone ≡ f3.gone → z.side.comes ≡ f3.comes → z.side.jump ≡ length f3.code → f4 ≡ turned test h f1.gone f3
       → (at : Spot) (es : t.Elses) (before : Gone) → branch_ended z h s before (elses_emitted a q es before h s f4) ≡ elses_emitted a q (t.more_elses (t.else_if at c b) es) before h s f
   unfolding branch_ended
   by_branch c b z start test is_value2 m f f1 f3 f4 es0 em e1 ev et e3 zs zm zv zt zg zc zj e4 at es before =
       let g1 : Going = begun (h + 1) (expr_emitted a c h s f) in
-      let g3 : Going = block_side a h s q b g1 in
+      let g3 : Going = behind_test b g1 in
       let f5 : Going = elses_emitted a q es before h s f4 in
       let after : After = after_of f5.comes f5.gone in
-      let e31 : f3 ≡ g3 = e3 ∙ ap (λ (g : Going). block_side a h s q b g) e1 in
+      let e31 : f3 ≡ g3 = e3 ∙ ap (λ (g : Going). behind_test b g) e1 in
       let side : side_after z.side ≡ after_of f3.comes f3.gone = ap (λ (k : Bool). after_of k (gone_of z.side.gone)) zc ∙ ap (λ (g : Gone). after_of f3.comes g) zg in
       let in_f1 : Going → Going → Going = λ (u : Going) (v : Going).
       let w : Going = elses_emitted a q es before h s (turned (length u.code) h u.gone v) in

@@ -1,8 +1,9 @@
 -- What steps and what is set make, by what each call made.
 use Rattle.std.proofs.Common.{◌≡◌, ℕ, suc, ◌+◌, ◌<◌, ◌≤◌, List, [], ◌∷◌, ◌++◌, drop, get_or, length, refl, ap, sym, ◌∙◌, arith}
 use Rattle.std.specs.Prelude.{Bool, true, false, Option, Some, None, map}
-use Rattle.std.proofs.lemmas.Option.{none-some}
+use Rattle.std.proofs.lemmas.Bool.{false≢true}
 use Rattle.std.proofs.lemmas.List.{drop_all}
+use Rattle.vale_base.specs.declared.spot.Spot.{Spot}
 use Rattle.vale_rules_spec.specs.Types as y
 use Rattle.vale_rules_spec.specs.Typed as t
 use Rattle.vale_rules_spec.specs.Typed.{type}
@@ -102,6 +103,20 @@ targets_end a c xs i last new h next s f f1 goal le en e1 so_far =
     ∙ (ap (λ (z : List Step). closed c (targets_emitted a (steps_of (map view_step (z ++ last ∷ []))) new h s f)) (sym (drop_all i xs le)) ∙ so_far)
 
 -- ---- what is set
+
+abbrev pub is_steps : t.Node → Bool
+is_steps (t.steps e ss) = true
+is_steps _ = false
+
+pub not_steps : (n : t.Node) (e : t.Expr) (ss : t.Steps) → is_steps n ≡ false → n ≡ t.steps e ss → ⊥
+not_steps n e ss k at = false≢true (sym k ∙ ap is_steps at)
+
+abbrev pub is_set : t.Node → Bool
+is_set (t.set at p e) = true
+is_set _ = false
+
+pub not_set : (n : t.Node) (at : Spot) (p e : t.Expr) → is_set n ≡ false → n ≡ t.set at p e → ⊥
+not_set n at p e k same = false≢true (sym k ∙ ap is_set same)
 
 module _ (a : Around) (h : ℕ) (s : Scope) (q : Gives) where
   local_one : (n m : ℕ) → a_local n ≡ a_local m → n ≡ m
