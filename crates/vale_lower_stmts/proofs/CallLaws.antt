@@ -33,7 +33,7 @@ use Rattle.vale_lower_stmts.proofs.ExprLaws.{given_length}
 module _ (a : Around) (h : ℕ) (s : Scope) where
   -- values, and what is made of them
   module _ (es : List Expr) (make : List Gives → List Instr) where
-    abbrev all : t.Exprs
+    abbrev pub all : t.Exprs
     all = exprs_of (map view_expr es)
 
     abbrev pub made : Going → Going
@@ -61,7 +61,7 @@ module _ (a : Around) (h : ℕ) (s : Scope) where
   -- ---- operators on one value
 
   module _ (x : y.Ty) (q : Gives) (at : Spot) (e : t.Expr) where
-    abbrev wanted : Bool
+    abbrev pub wanted : Bool
     wanted = is_value (gives_of (type e)) && agree q copy
 
     abbrev pub one_operated : UnaryOp → Going → Going
@@ -77,10 +77,10 @@ module _ (a : Around) (h : ℕ) (s : Scope) where
 
   -- ---- operators
 
-  abbrev jump : List Instr
+  abbrev pub jump : List Instr
   jump = i.Jump 0 ∷ []
 
-  abbrev operand : Link → t.Expr
+  abbrev pub operand : Link → t.Expr
   operand l = view_expr (out-Link l).operand
 
   -- by its operator

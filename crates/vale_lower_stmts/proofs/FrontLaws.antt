@@ -1,7 +1,7 @@
 -- A part and what follows it, by what each call made.
-use Rattle.std.proofs.Common.{◌≡◌, ℕ, ◌+◌, ◌<◌, List, ◌∷◌, drop, get_or, length, refl, ap, sym, ◌∙◌}
+use Rattle.std.proofs.Common.{◌≡◌, ℕ, ◌+◌, ◌-◌, ◌<◌, ◌≤◌, List, [], ◌∷◌, ◌++◌, take, drop, get_or, length, refl, ap, sym, ◌∙◌, arith}
 use Rattle.std.specs.Prelude.{Bool}
-use Rattle.std.proofs.lemmas.List.{drop_more}
+use Rattle.std.proofs.lemmas.List.{take_all, take_more, drop_more}
 use Rattle.vale_lower_flow.specs.declared.flow.Mark.{Mark}
 use Rattle.vale_lower_flow.specs.Flow.{Going, only, mark_of, begun, ended}
 
@@ -24,3 +24,11 @@ mark_closed k m m2 f1 g f2 r em e1 e2 er = er ∙ ap (λ (z : Mark). ended z f2)
 -- an element before those after it
 pub next_of : {A : Type 0} (xs : List A) (k : ℕ) (x : A) → k < length xs → x ≡ get_or xs k x → drop k xs ≡ x ∷ drop (k + 1) xs
 next_of xs k x lt is = drop_more xs k x lt ∙ ap (λ z. z ∷ drop (k + 1) xs) (sym is)
+
+-- the last element after those before it
+pub last_of : {A : Type 0} (xs : List A) (x : A) → 1 ≤ length xs → x ≡ get_or xs (length xs - 1) x → take (length xs - 1) xs ++ x ∷ [] ≡ xs
+last_of xs x le is =
+    let k : ℕ = length xs - 1 in
+    let lt : length xs - 1 < length xs = omega arith in
+    let all : length xs ≤ length xs - 1 + 1 = omega arith in
+    ap (λ z. take k xs ++ z ∷ []) is ∙ sym (take_more xs k x lt) ∙ take_all (k + 1) xs all

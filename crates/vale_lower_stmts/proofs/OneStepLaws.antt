@@ -24,7 +24,7 @@ use Rattle.vale_lower_places.specs.Origins.{view_origin}
 use Rattle.vale_lower_parts.specs.declared.branch.Base.{Base}
 use Rattle.vale_lower_parts.specs.Branches.{Rest, Leaves, base_ended}
 use Rattle.vale_lower_parts.specs.Emitted.{expr_emitted, node_emitted, started, step_emitted, swap_emitted, first_emitted, first_swapped, steps_emitted, targets_emitted, place_emitted}
-use Rattle.vale_lower_parts.proofs.StepLaws.{field_is, method_is, index_is, field_set, method_set, index_set, chain_of_steps, set_is, place_of_one, place_of_more}
+use Rattle.vale_lower_parts.proofs.StepLaws.{field_is, method_is, index_is, field_set, method_set, index_set, chain_of_steps, chain_of_none, set_is, place_of_none, place_of_one, place_of_more, no_targets}
 use Rattle.vale_lower_stmts.proofs.FrontLaws.{front_closed}
 
 module _ (a : Around) (h : ℕ) (s : Scope) where
@@ -125,3 +125,17 @@ module _ (a : Around) (h : ℕ) (s : Scope) where
         ∙ ap (λ (u : Entry). whole (h + 2) next u (first next u (filled h f))) ew
         ∙ ap (λ (k : ℕ). whole (h + 2) k (waiting h q) (first k (waiting h q) (filled h f))) e_next
         ∙ sym (place_of_more a h s x q e (view_step z) (view_step y) (steps_of (map view_step ys)) f)
+
+  -- ---- where there are no steps
+
+  pub by_no_chain : (x : y.Ty) (q : Gives) (e : t.Expr) (zs : List Step) (f : Going) → length zs < 1 → put (stuck h) f ≡ node_emitted a x q (t.steps e (steps_of (map view_step zs))) h s f
+  by_no_chain x q e [] f lt = sym (chain_of_none a h s x q e f)
+  by_no_chain x q e (z ∷ zs) f lt = absurd (omega arith)
+
+  pub by_no_place : (x : y.Seen) (q : Gives) (e : t.Expr) (zs : List Step) (f : Going) → length zs < 1 → put (stuck h) f ≡ place_emitted a (t.expr x (t.steps e (steps_of (map view_step zs)))) q h s f
+  by_no_place x q e [] f lt = sym (place_of_none a h s x q e f)
+  by_no_place x q e (z ∷ zs) f lt = absurd (omega arith)
+
+  pub by_no_targets : (new : ℕ) (zs : List Step) (f : Going) → length zs < 1 → put (stuck new) f ≡ targets_emitted a (steps_of (map view_step zs)) new h s f
+  by_no_targets new [] f lt = sym (no_targets a new h s f)
+  by_no_targets new (z ∷ zs) f lt = absurd (omega arith)

@@ -107,16 +107,16 @@ module _ (a : Around) (h : ℕ) (s : Scope) where
   -- ---- loops over numbers
 
   module _ (at : Spot) (n : ℕ) (b : t.Block) where
-    abbrev on : ℕ → List Instr
+    abbrev pub on : ℕ → List Instr
     on turn = i.Int turn (pos 1) ∷ i.Add h h turn at ∷ []
 
-    abbrev sub : ℕ → Going → Going
+    abbrev pub sub : ℕ → Going → Going
     sub turn f = put (i.Sub turn h h at ∷ []) f
 
-    abbrev begun_turn : ℕ → Going → Going
+    abbrev pub begun_turn : ℕ → Going → Going
     begun_turn turn f = filled turn (put (i.Copy turn h ∷ []) (put (i.Tick ∷ []) (put (i.Jump 0 ∷ []) (sub turn f))))
 
-    abbrev counted : Gone → ℕ → ℕ → ℕ → Going → Going
+    abbrev pub counted : Gone → ℕ → ℕ → ℕ → Going → Going
     counted g first start turn w =
         only (closes s g (after_of w.comes w.gone)) first h (looped start (length (if_there (λ place z. on turn) w).code) turn g (put (i.Cmp turn 2 h (h + 1) ∷ []) (back_to g (if_there (λ place z. on turn) w))))
 

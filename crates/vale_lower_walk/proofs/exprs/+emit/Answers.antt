@@ -1,4 +1,4 @@
-use Rattle.std.proofs.Common.{◌≡◌, ℕ, ◌+◌, List, [], ◌∷◌, length, map, refl, sym, ap, ◌∙◌, arith}
+use Rattle.std.proofs.Common.{◌≡◌, ℕ, ◌+◌, List, [], ◌∷◌, length, map, take, drop, ◌-◌, refl, sym, ap, ◌∙◌, arith}
 use Rattle.std.specs.Prelude.{Bool, ◌&&◌, Option, option_map}
 use Rattle.std.proofs.lemmas.Result.{on_ok_weaker, IfOk-weaker}
 use Rattle.vale_base.specs.declared.name.Name.{Name}
@@ -10,6 +10,7 @@ use Rattle.vale_core.specs.declared.tree.Block.{Block, out-Block}
 use Rattle.vale_core.specs.declared.tree.Expr.{Expr}
 use Rattle.vale_core.specs.declared.tree.Link.{Link}
 use Rattle.vale_core.specs.declared.tree.Node.{Node}
+use Rattle.vale_core.specs.declared.tree.Step.{Step}
 use Rattle.vale_core.specs.declared.tree.Stmt.{Stmt}
 use Rattle.vale_core.specs.View.{view_ty, view_view, view_callee, view_expr, view_node, view_form, view_step, view_stmt, view_block, view_link, exprs_of, links_of, steps_of, else_end, last_end}
 use Rattle.vale_core.proofs.ViewLaws as views
@@ -28,7 +29,7 @@ use Rattle.vale_lower_flow.specs.Kept.{view_gives}
 use Rattle.vale_lower_places.specs.Origins.{view_origin}
 use Rattle.vale_lower_places.specs.Places.{moved, lent, exchanged}
 use Rattle.vale_lower_tables.specs.Surroundings.{view_around}
-use Rattle.vale_lower_parts.specs.Emitted.{node_emitted, args_emitted, links_emitted, form_emitted, elses_emitted, block_emitted, stmts_emitted}
+use Rattle.vale_lower_parts.specs.Emitted.{node_emitted, args_emitted, links_emitted, targets_emitted, place_emitted, form_emitted, elses_emitted, block_emitted, stmts_emitted}
 use Rattle.vale_lower_parts.proofs.NodeLaws.{number_is, quote_is, truth_is, moved_is, lent_is, paren_is, chain_is, borrow_is, merge_is}
 use Rattle.vale_lower_parts.proofs.StepLaws.{started_named, started_node}
 use Rattle.vale_lower_parts.proofs.FormLaws.{form_is, no_else_is, otherwise_is}
@@ -37,7 +38,7 @@ use Rattle.vale_lower_stmts.specs.declared.fronts.Front.{Front}
 use Rattle.vale_lower_stmts.specs.Placed.{view_place}
 use Rattle.vale_lower_stmts.proofs.CallLaws.{by_call, by_array, by_or, by_and, by_operator, one_operated, by_minus, by_not}
 use Rattle.vale_lower_stmts.proofs.ExprLaws.{view_in, view_by_parts, node_by_parts, node_as, by_expr, by_node, by_borrow_named, by_borrow_node, args_next, args_end, given_next, given_end, links_next, links_end}
-use Rattle.vale_lower_stmts.proofs.FrontLaws.{kept, front_closed}
+use Rattle.vale_lower_stmts.proofs.FrontLaws.{kept, front_closed, next_of, last_of}
 use Rattle.vale_lower_stmts.proofs.NextLaws.{is_plain, plain_return, by_iso, by_pure, by_range, by_each, by_if, by_next, by_declare, by_destructure}
 use Rattle.vale_lower_stmts.proofs.OneStepLaws.{FromBase, by_field, by_method, by_index, by_field_set, by_method_set, by_index_set, by_first, by_first_set, by_steps, by_set, by_target_one, by_target_more}
 use Rattle.vale_lower_stmts.proofs.StmtLaws.{form_stmt_is}
@@ -438,7 +439,7 @@ emit_first_swap-returns t c =
 pub emit_steps-loop-step-preserved : goal.emit_steps-loop-step-preserved
 emit_steps-loop-step-preserved t c =
     steps_next (view_around c.args.here.now.around.now) c.loop-step.closings c.end.new.self c.args.steps.now c.loop-step.step-index c.step-item.result c.args.here.now.next _ _ (entries c.args.here.now.scope.now) (going c.loop-step.flow) _ _ _
-    c.loop-step-test.true c.step-item.is c.in_ok-next.ensures c.in_ok-emit_step.ensures c.in_ok-begin.ensures.mark c.in_ok-begin.ensures.begun c.in_ok-end.ensures c.loop-step.invariant
+    c.loop-step-test.true c.step-item.is c.in_ok-next.ensures c.in_ok-emit_step.ensures c.in_ok-mark.ensures.mark c.in_ok-mark.ensures.begun c.in_ok-end.ensures c.loop-step.invariant
 
 pub emit_set-returns : goal.emit_set-returns
 emit_set-returns t c =
@@ -813,3 +814,63 @@ emit_store-returns-in-Iso t c =
 pub emit_store-returns-in-Form : goal.emit_store-returns-in-Form
 emit_store-returns-in-Form t c =
     on_ok_weaker c.put_stuck.result (λ e. λ at p w same. absurd (not_set (view_node c.args.node.now) at p w (ap (λ (z : Node). is_set (view_node z)) c.in-Form.is ∙ ap is_set (views.of_form _)) same)) c.put_stuck.ensures
+
+-- ---- steps by the first and the others
+
+pub emit_chain_of_steps-returns : goal.emit_chain_of_steps-returns
+emit_chain_of_steps-returns t c =
+    let a = view_around c.args.here.now.around.now in
+    let h = c.args.here.now.next in
+    let s = entries c.args.here.now.scope.now in
+    let q = view_gives c.args.gives in
+    let w = view_expr c.args.base.now in
+    let f = going c.args.flow.now in
+    let xs = c.args.steps.now in
+    on_ok_weaker c.close.result (λ e. λ x.
+    by_steps a h s x q w c.first-item.result (drop 1 xs) _ _ _ f _ _ _ (c.in_ok-front.ensures.start ∙ c.in_ok-start.ensures) (c.in_ok-front.ensures.mark ∙ ap mark_of c.in_ok-emit_first.ensures) c.agrees.ensures
+    (c.in_ok-front.ensures.begun ∙ ap (λ (z : Going). begun (h + 1) z) c.in_ok-emit_first.ensures) c.in_ok-emit_steps.ensures e
+    ∙ ap (λ (z : List Step). node_emitted a x q (typed.steps w (steps_of (map view_step z))) h s f) (sym (next_of xs 0 c.first-item.result c.in-len1-up.len_at_least c.first-item.is))) c.close.ensures
+
+pub emit_target-returns-then-is_empty : goal.emit_target-returns-then-is_empty
+emit_target-returns-then-is_empty t c =
+    let a = view_around c.args.here.now.around.now in
+    let h = c.args.here.now.next in
+    let s = entries c.args.here.now.scope.now in
+    let q = view_gives c.args.gives in
+    let w = view_expr c.args.base.now in
+    let f = going c.args.flow.now in
+    let xs = c.args.steps.now in
+    on_ok_weaker c.emit_first_swap.result (λ e. λ x.
+    by_target_one a h s q x w c.first-item.result _ _ (drop 1 xs) f _ _ c.if-is_empty.true c.in_ok-next.ensures c.waiting.ensures c.fill.ensures e
+    ∙ ap (λ (z : List Step). place_emitted a (typed.expr x (typed.steps w (steps_of (map view_step z)))) q h s f) (sym (next_of xs 0 c.first-item.result c.in-len1-up.len_at_least c.first-item.is))) c.emit_first_swap.ensures
+
+pub emit_target-returns : goal.emit_target-returns
+emit_target-returns t c =
+    let a = view_around c.args.here.now.around.now in
+    let h = c.args.here.now.next in
+    let s = entries c.args.here.now.scope.now in
+    let q = view_gives c.args.gives in
+    let w = view_expr c.args.base.now in
+    let f = going c.args.flow.now in
+    let xs = c.args.steps.now in
+    on_ok_weaker c.end.result (λ e. λ x.
+    by_target_more a h s q x w c.first-item.result _ _ (drop 1 xs) _ _ f _ _ _ _ _ c.if-is_empty.false c.in_ok-next.ensures c.in_ok-above.ensures c.waiting.ensures c.fill.ensures c.in_ok-emit_first.ensures
+    c.in_ok-mark.ensures.mark c.in_ok-mark.ensures.begun c.in_ok-emit_targets.ensures e
+    ∙ ap (λ (z : List Step). place_emitted a (typed.expr x (typed.steps w (steps_of (map view_step z)))) q h s f) (sym (next_of xs 0 c.first-item.result c.in-len1-up.len_at_least c.first-item.is))) c.end.ensures
+
+pub emit_targets-loop-step-preserved : goal.emit_targets-loop-step-preserved
+emit_targets-loop-step-preserved t c =
+    let xs = c.args.steps.now in
+    targets_next (view_around c.args.here.now.around.now) c.loop-step.closings c.end.new.self (take (length xs - 1) xs) c.loop-step.step-index c.step-item.result c.last-item.result c.args.new c.args.here.now.next _ _ (entries c.args.here.now.scope.now) (going c.loop-step.flow) _ _ _
+    c.loop-step-test.true c.step-item.is c.in_ok-next.ensures c.in_ok-emit_step.ensures c.in_ok-mark.ensures.mark c.in_ok-mark.ensures.begun c.in_ok-end.ensures c.loop-step.invariant
+
+pub emit_targets-returns : goal.emit_targets-returns
+emit_targets-returns t c =
+    let a = view_around c.args.here.now.around.now in
+    let h = c.args.here.now.next in
+    let s = entries c.args.here.now.scope.now in
+    let f = going c.args.flow.now in
+    let xs = c.args.steps.now in
+    on_ok_weaker c.close.result (λ e. e
+    ∙ targets_end a c.loop-step.closings (take (length xs - 1) xs) c.loop-step.step-index c.last-item.result c.args.new h _ s (going c.loop-step.flow) _ _ c.loop-step-test.false c.in_ok-next.ensures c.in_ok-emit_swap.ensures c.loop-step.invariant
+    ∙ ap (λ (z : List Step). targets_emitted a (steps_of (map view_step z)) c.args.new h s f) (last_of xs c.last-item.result c.in-len1-up.len_at_least c.last-item.is)) c.close.ensures
