@@ -31,7 +31,7 @@ module _ (a : Around) (at : Spot) (n : ℕ) (b : t.Block) (h : ℕ) (s : Scope) 
       let f5 = counted_on f1 in
       only (closes s f.gone (after_of f4.comes f4.gone)) (length f.code) h (looped (length f1.code) (length f5.code) (h + 2) f.gone (put (i.Cmp (h + 2) 2 h (h + 1) ∷ []) (back_to f.gone f5)))
       ≡ count_emitted a at n b h s f
-  unfolding block_emitted count_emitted put
+  unfolding block_emitted count_emitted put emitted back_to looped only
   count_is f =
       let inner : Scope = turn_scope a at n b h s in
       let body : Part = λ place g. block_code a void b place h (h + 2 + 1) inner (without (h + 2) g) in

@@ -125,7 +125,7 @@ module _ (a : Around) (h : ℕ) (s : Scope) where
       let f3 = expr_emitted a c h s (back_to f.gone f2) in
       only (is_value (gives_of (type c)) && (closes s f.gone (after_of f3.comes f3.gone) && closes s f.gone (after_of f2.comes f2.gone))) (length f.code) h (looped (length f.code) (length f2.code) h f.gone f3)
       ≡ stmt_emitted a (t.while at c b) h s f
-  unfolding stmt_emitted expr_emitted block_emitted
+  unfolding stmt_emitted expr_emitted block_emitted emitted put back_to looped only
   turns_is at c b f e =
       let test : Part = λ place g. expr_code a c place h s g in
       let x : Gone → After = λ g. expr_after c h s g in
