@@ -1,5 +1,5 @@
 -- What calls, arrays and operators make, by what each call made.
-use Rattle.std.proofs.Common.{◌≡◌, ℕ, ◌+◌, List, [], ◌∷◌, ◌++◌, length, refl, ap, sym, ◌∙◌, arith}
+use Rattle.std.proofs.Common.{◌≡◌, ℕ, ◌+◌, List, [], ◌∷◌, length, ap, sym, ◌∙◌, arith}
 use Rattle.std.specs.Prelude.{Bool, ◌&&◌, map}
 use Rattle.vale_base.specs.declared.spot.Spot.{Spot}
 use Rattle.vale_syntax.specs.declared.tree.NameAt.{NameAt}

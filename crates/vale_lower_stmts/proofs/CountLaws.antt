@@ -1,6 +1,6 @@
 -- What loops over numbers make, by what their parts make.
-use Rattle.std.proofs.Common.{◌≡◌, ℕ, ◌+◌, List, [], ◌∷◌, ◌++◌, length, refl, ap, sym, ◌∙◌}
-use Rattle.std.specs.Prelude.{Bool, ◌&&◌, pos}
+use Rattle.std.proofs.Common.{◌≡◌, ℕ, ◌+◌, List, [], ◌∷◌, length, ap, ◌∙◌}
+use Rattle.std.specs.Prelude.{◌&&◌, pos}
 use Rattle.vale_base.specs.declared.spot.Spot.{Spot}
 use Rattle.vale_syntax.specs.declared.tree.NameAt.{NameAt}
 use Rattle.vale_rules_spec.specs.Typed as t
@@ -8,7 +8,7 @@ use Rattle.vale_rules_spec.specs.Typed.{type}
 use Rattle.vale_code.specs.declared.instr.Instr.{Instr}
 use Rattle.vale_code.specs.declared.instr.Instr.TheVariants as i
 use Rattle.vale_lowering.specs.Instructions.{only_if, loop_code}
-use Rattle.vale_lowering_objects.specs.Scopes.{void, copy, gives_of, is_value, entry, Scope, Gone, without, After, comes, then_after, closes, Around}
+use Rattle.vale_lowering_objects.specs.Scopes.{void, gives_of, is_value, Scope, Gone, without, After, comes, then_after, closes, Around}
 use Rattle.vale_lowering_objects.specs.Lowered.{then_code, if_comes, count_code, expr_code, expr_after, block_code, block_after}
 use Rattle.vale_lower_flow.specs.Flow.{Going, after_of, emitted, put, back_to, filled, only, mark_of, begun, ended, if_there, looped}
 use Rattle.vale_lower_flow.proofs.PartLaws.{Part, only_is, then_is, there_is, put_is, put_then, fill_then, loop_is}

@@ -1,10 +1,9 @@
 -- What is done behind a part, where a run comes there and where none does.
-use Rattle.std.proofs.Common.{◌≡◌, ℕ, ◌+◌, List, [], ◌∷◌, ◌++◌, length, refl, ap, sym, ◌∙◌, append_assoc}
-use Rattle.std.specs.Prelude.{Bool, true, false, Option, pos, if◌then◌else◌}
+use Rattle.std.proofs.Common.{◌≡◌, ℕ, List, [], ◌∷◌, ◌++◌, length, refl, ap, sym, ◌∙◌, append_assoc}
+use Rattle.std.specs.Prelude.{Bool, true, false, Option, if◌then◌else◌}
 use Rattle.vale_base.specs.declared.spot.Spot.{Spot}
 use Rattle.vale_code.specs.declared.instr.Instr.{Instr}
-use Rattle.vale_code.specs.declared.instr.Instr.TheVariants as i
-use Rattle.vale_lowering_objects.specs.Scopes.{Gives, Scope, Entry, Gone}
+use Rattle.vale_lowering_objects.specs.Scopes.{Gives, Scope, Entry}
 use Rattle.vale_lowering_objects.specs.Lowered.{drop_scope, store}
 use Rattle.vale_lower_flow.specs.Flow.{Going, put, if_there}
 use Rattle.vale_lower_flow.proofs.PartLaws.{Part, state}

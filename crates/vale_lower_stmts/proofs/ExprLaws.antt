@@ -9,7 +9,7 @@ use Rattle.vale_rules_spec.specs.Typed.{type}
 use Rattle.vale_core.specs.declared.tree.Expr.{Expr, out-Expr}
 use Rattle.vale_core.specs.declared.tree.Node.{Node}
 use Rattle.vale_core.specs.declared.tree.Link.{Link, out-Link}
-use Rattle.vale_core.specs.View.{view_ty, view_view, view_seen, view_expr, view_node, view_link, exprs_of, links_of}
+use Rattle.vale_core.specs.View.{view_ty, view_view, view_expr, view_node, view_link, exprs_of, links_of}
 use Rattle.vale_core.proofs.PartLaws.{of_out_expr, of_out_link}
 use Rattle.vale_lowering_objects.specs.Scopes.{Gives, copy, gives_of, is_value, agree, Scope, Around, waiting, find}
 use Rattle.vale_lowering_objects.specs.Lowered.{gives_list}

@@ -1,9 +1,9 @@
 -- A part and what follows it, by what each call made.
-use Rattle.std.proofs.Common.{◌≡◌, ℕ, ◌+◌, ◌-◌, ◌<◌, ◌≤◌, List, [], ◌∷◌, ◌++◌, take, drop, get_or, length, refl, ap, sym, ◌∙◌, arith}
+use Rattle.std.proofs.Common.{◌≡◌, ℕ, ◌+◌, ◌-◌, ◌<◌, ◌≤◌, List, [], ◌∷◌, ◌++◌, take, drop, get_or, length, ap, sym, ◌∙◌, arith}
 use Rattle.std.specs.Prelude.{Bool}
 use Rattle.std.proofs.lemmas.List.{take_all, take_more, drop_more}
 use Rattle.vale_lower_flow.specs.declared.flow.Mark.{Mark}
-use Rattle.vale_lower_flow.specs.Flow.{Going, only, mark_of, begun, ended}
+use Rattle.vale_lower_flow.specs.Flow.{Going, only, ended}
 
 -- the code of a part stays only where a test holds
 pub kept : (ok ok2 : Bool) (start n h : ℕ) (f1 g r : Going) → start ≡ n → ok ≡ ok2 → f1 ≡ g → r ≡ only ok start h f1 → r ≡ only ok2 n h g

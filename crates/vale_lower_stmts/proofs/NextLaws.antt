@@ -1,5 +1,5 @@
 -- What forms, and the statements of blocks make, by what each call made.
-use Rattle.std.proofs.Common.{◌≡◌, ℕ, ◌+◌, List, [], ◌∷◌, ◌++◌, length, refl, ap, sym, ◌∙◌}
+use Rattle.std.proofs.Common.{◌≡◌, ℕ, ◌+◌, List, [], ◌∷◌, length, ap, sym, ◌∙◌}
 use Rattle.std.proofs.lemmas.Bool.{false≢true}
 use Rattle.std.specs.Prelude.{Bool, true, false, ◌&&◌, Option, Some, None, map, option_map}
 use Rattle.vale_base.specs.declared.spot.Spot.{Spot}
@@ -14,10 +14,9 @@ use Rattle.vale_core.specs.declared.tree.Form.{Form}
 use Rattle.vale_core.specs.declared.tree.Form.TheVariants as d
 use Rattle.vale_core.specs.declared.tree.Stmt.{Stmt}
 use Rattle.vale_core.specs.declared.tree.Stmt.TheVariants as m
-use Rattle.vale_core.specs.View.{view_ty, view_expr, view_form, view_stmt, view_block, view_else_if, elses_of}
+use Rattle.vale_core.specs.View.{view_expr, view_form, view_stmt, view_block, view_else_if, elses_of}
 use Rattle.vale_core.proofs.ViewLaws as v
 use Rattle.vale_model.specs.Expressions.{numbers_of}
-use Rattle.vale_code.specs.declared.instr.Instr.{Instr}
 use Rattle.vale_code.specs.declared.instr.Instr.TheVariants as i
 use Rattle.vale_lowering.specs.Instructions.{stuck, registers_from}
 use Rattle.vale_lowering_objects.specs.Scopes.{Gives, owner, gives_of, is_value, agree, Entry, entry, Scope, Gone, Around}
@@ -25,7 +24,7 @@ use Rattle.vale_lowering_objects.specs.Lowered.{all_gives, thaw_code, stmts_code
 use Rattle.vale_lower_flow.specs.declared.closing.Closings.{Closings}
 use Rattle.vale_lower_flow.specs.declared.flow.Mark.{Mark}
 use Rattle.vale_lower_flow.specs.Closing.{closed, dropped}
-use Rattle.vale_lower_flow.specs.Flow.{Going, emitted, put, only, mark_of, begun, ended, filled, if_there}
+use Rattle.vale_lower_flow.specs.Flow.{Going, put, only, mark_of, begun, ended, filled, if_there}
 use Rattle.vale_lower_parts.specs.declared.branch.Branch.{Branch}
 use Rattle.vale_lower_parts.specs.Branches.{branch_ended}
 use Rattle.vale_lower_parts.specs.Located.{Rest, Leaves, located, at_rest}

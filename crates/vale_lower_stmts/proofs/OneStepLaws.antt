@@ -1,5 +1,5 @@
 -- What single steps make, by what each call made.
-use Rattle.std.proofs.Common.{◌≡◌, ℕ, suc, ◌+◌, ◌<◌, List, [], ◌∷◌, ◌++◌, length, refl, ap, sym, ◌∙◌, arith}
+use Rattle.std.proofs.Common.{◌≡◌, ℕ, ◌+◌, ◌<◌, List, [], ◌∷◌, length, ap, sym, ◌∙◌, arith}
 use Rattle.std.specs.Prelude.{Bool, ◌&&◌, Option, map}
 use Rattle.vale_base.specs.declared.name.Name.{Name}
 use Rattle.vale_base.specs.declared.spot.Spot.{Spot}

@@ -1,5 +1,5 @@
 -- What is set, by its parts.
-use Rattle.std.proofs.Common.{◌≡◌, refl, ap}
+use Rattle.std.proofs.Common.{◌≡◌, ap}
 use Rattle.vale_core.specs.declared.tree.Expr.{Expr, out-Expr}
 use Rattle.vale_core.specs.View.{view_expr, view_node}
 use Rattle.vale_core.proofs.ViewLaws as v

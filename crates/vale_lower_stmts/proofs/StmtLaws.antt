@@ -1,6 +1,6 @@
 -- What statements make, by what their parts make.
 use Rattle.std.proofs.Common.{◌≡◌, ℕ, ◌+◌, List, [], ◌∷◌, ◌++◌, length, refl, ap, sym, ◌∙◌, append_assoc, true≢false}
-use Rattle.std.specs.Prelude.{Bool, true, false, ◌&&◌, Option, Some, None, if◌then◌else◌}
+use Rattle.std.specs.Prelude.{Bool, true, false, ◌&&◌, None, if◌then◌else◌}
 use Rattle.std.proofs.lemmas.Option.{none-some}
 use Rattle.vale_base.specs.declared.spot.Spot.{Spot}
 use Rattle.vale_syntax.specs.declared.tree.NameAt.{NameAt}
@@ -11,10 +11,10 @@ use Rattle.vale_model.specs.Expressions.{expr_spot}
 use Rattle.vale_code.specs.declared.instr.Instr.{Instr}
 use Rattle.vale_code.specs.declared.instr.Instr.TheVariants as i
 use Rattle.vale_lowering.specs.Instructions.{only_if, loop_code}
-use Rattle.vale_lowering_objects.specs.Scopes.{Gives, void, copy, gives_of, is_value, agree, entry, Scope, Gone, find, without, After, comes, never, no_run, then_after, closes, Around}
-use Rattle.vale_lowering_objects.specs.Lowered.{then_code, if_comes, turns_code, count_code, loop_after, drop_scope, drop_value, store, expr_code, expr_after, block_code, block_after, stmt_code, stmt_after}
-use Rattle.vale_lower_flow.specs.Flow.{Going, gone_in, comes_in, after_of, emitted, put, left, back_to, filled, only, mark_of, begun, ended, if_there, looped}
-use Rattle.vale_lower_flow.proofs.PartLaws.{Part, state, only_is, then_is, there_is, put_is, put_then, fill_then, loop_is}
+use Rattle.vale_lowering_objects.specs.Scopes.{void, gives_of, is_value, agree, Scope, Gone, find, After, comes, never, no_run, then_after, closes, Around}
+use Rattle.vale_lowering_objects.specs.Lowered.{then_code, if_comes, turns_code, loop_after, drop_scope, drop_value, store, expr_code, expr_after, block_code, block_after}
+use Rattle.vale_lower_flow.specs.Flow.{Going, gone_in, comes_in, after_of, emitted, put, left, back_to, only, mark_of, begun, ended, if_there, looped}
+use Rattle.vale_lower_flow.proofs.PartLaws.{Part, state, only_is, then_is, there_is, loop_is}
 use Rattle.vale_lower_places.specs.Places.{scope_dropped}
 use Rattle.vale_lower_looks.specs.Comes.{expr_comes}
 use Rattle.vale_lower_looks.proofs.AfterLaws.{expr_comes_is}

@@ -1,11 +1,9 @@
 -- What forms, blocks and statements make, by what each call made.
-use Rattle.std.proofs.Common.{◌≡◌, ℕ, suc, ◌+◌, ◌<◌, ◌≤◌, List, [], ◌∷◌, ◌++◌, drop, get_or, length, refl, ap, sym, ◌∙◌}
-use Rattle.std.specs.Prelude.{Bool, true, false, ◌&&◌, Option, Some, None, map, option_map, unwrap_or}
+use Rattle.std.proofs.Common.{◌≡◌, ℕ, ◌+◌, ◌<◌, ◌≤◌, List, [], ◌∷◌, ◌++◌, drop, get_or, length, refl, ap, sym, ◌∙◌}
+use Rattle.std.specs.Prelude.{Bool, Option, Some, map, option_map, unwrap_or}
 use Rattle.std.proofs.lemmas.Option.{none-some}
 use Rattle.std.proofs.lemmas.List.{drop_all}
 use Rattle.vale_base.specs.declared.spot.Spot.{Spot}
-use Rattle.vale_syntax.specs.declared.tree.NameAt.{NameAt}
-use Rattle.vale_rules_spec.specs.Types as y
 use Rattle.vale_rules_spec.specs.Typed as t
 use Rattle.vale_rules_spec.specs.Typed.{type}
 use Rattle.vale_core.specs.declared.tree.Block.{Block, out-Block}
@@ -26,7 +24,7 @@ use Rattle.vale_lower_parts.specs.Named.{node_of}
 use Rattle.vale_lower_parts.specs.Emitted.{expr_emitted, elses_emitted, block_emitted, stmts_emitted, stmt_emitted}
 use Rattle.vale_lower_parts.proofs.FormLaws.{branches_more, branch_is}
 use Rattle.vale_lower_parts.proofs.BlockLaws.{block_is}
-use Rattle.vale_lower_stmts.specs.Placed.{set_local, set_local_in, store_emitted}
+use Rattle.vale_lower_stmts.specs.Placed.{set_local, store_emitted}
 use Rattle.vale_lower_stmts.proofs.StmtLaws.{store_is}
 use Rattle.vale_lower_stmts.proofs.FrontLaws.{next_of}
 

@@ -1,31 +1,28 @@
 -- What steps and what is set make, by what each call made.
-use Rattle.std.proofs.Common.{◌≡◌, ℕ, suc, ◌+◌, ◌<◌, ◌≤◌, List, [], ◌∷◌, ◌++◌, drop, get_or, length, refl, ap, sym, ◌∙◌, arith}
-use Rattle.std.specs.Prelude.{Bool, true, false, Option, Some, None, map}
+use Rattle.std.proofs.Common.{◌≡◌, ℕ, ◌+◌, ◌<◌, ◌≤◌, List, [], ◌∷◌, ◌++◌, drop, get_or, length, refl, ap, sym, ◌∙◌}
+use Rattle.std.specs.Prelude.{Bool, true, false, Option, map}
 use Rattle.std.proofs.lemmas.Bool.{false≢true}
 use Rattle.std.proofs.lemmas.List.{drop_all}
 use Rattle.vale_base.specs.declared.spot.Spot.{Spot}
 use Rattle.vale_rules_spec.specs.Types as y
 use Rattle.vale_rules_spec.specs.Typed as t
 use Rattle.vale_rules_spec.specs.Typed.{type}
-use Rattle.vale_core.specs.declared.tree.Expr.{Expr, out-Expr}
 use Rattle.vale_core.specs.declared.tree.Step.{Step}
-use Rattle.vale_core.specs.View.{view_ty, view_seen, view_expr, view_node, view_step, steps_of}
-use Rattle.vale_core.proofs.PartLaws.{of_out_expr}
+use Rattle.vale_core.specs.View.{view_step, steps_of}
 use Rattle.vale_lowering.specs.Instructions.{stuck}
-use Rattle.vale_lowering_objects.specs.Scopes.{Gives, copy, gives_of, agree, Entry, Scope, Around, find}
-use Rattle.vale_lowering_objects.specs.Lowered.{Origin, reference}
+use Rattle.vale_lowering_objects.specs.Scopes.{Gives, Entry, Scope, Around, find}
+use Rattle.vale_lowering_objects.specs.Lowered.{reference}
 use Rattle.vale_lower_flow.specs.declared.closing.Closings.{Closings}
 use Rattle.vale_lower_flow.specs.declared.flow.Mark.{Mark}
 use Rattle.vale_lower_flow.specs.Closing.{closed}
 use Rattle.vale_lower_flow.specs.Flow.{Going, emitted, put, only, arrived, mark_of, begun, ended}
 use Rattle.vale_lower_places.specs.Places.{exchanged}
 use Rattle.vale_lower_places.specs.declared.places.Origin.TheVariants as o
-use Rattle.vale_lower_parts.specs.declared.branch.Base.{Base}
 use Rattle.vale_lower_parts.specs.Named.{node_of}
 use Rattle.vale_lower_parts.specs.Branches.{Rest, Leaves, base_ended, local_started}
-use Rattle.vale_lower_parts.specs.Emitted.{expr_emitted, node_emitted, started, step_emitted, swap_emitted, steps_emitted, targets_emitted, place_emitted}
+use Rattle.vale_lower_parts.specs.Emitted.{step_emitted, swap_emitted, steps_emitted, targets_emitted, place_emitted}
 use Rattle.vale_lower_parts.proofs.StepLaws.{no_steps_is, more_steps_is, place_named, last_target, more_targets}
-use Rattle.vale_lower_stmts.specs.Placed.{Place, a_local, some_steps, nothing, place_of}
+use Rattle.vale_lower_stmts.specs.Placed.{a_local, some_steps, nothing, place_of}
 use Rattle.vale_lower_stmts.proofs.FrontLaws.{next_of}
 
 -- ---- what a first step starts from

@@ -1,9 +1,8 @@
 -- What statements make, by what each call made.
 use Rattle.std.proofs.Common.{◌≡◌, ℕ, ◌+◌, List, [], ◌∷◌, ◌++◌, length, refl, ap, sym, ◌∙◌, true≢false, arith}
-use Rattle.std.specs.Prelude.{Bool, true, false, ◌&&◌, pos, Option, None, option_map}
+use Rattle.std.specs.Prelude.{Bool, true, false, ◌&&◌, pos, Option, None}
 use Rattle.vale_base.specs.declared.spot.Spot.{Spot}
 use Rattle.vale_syntax.specs.declared.tree.NameAt.{NameAt}
-use Rattle.vale_rules_spec.specs.Types as y
 use Rattle.vale_rules_spec.specs.Typed as t
 use Rattle.vale_rules_spec.specs.Typed.{type}
 use Rattle.vale_core.specs.declared.tree.Expr.{Expr}

@@ -1,12 +1,10 @@
-use Rattle.std.proofs.Common.{◌≡◌, [], ◌∷◌, sym, ap, ◌∙◌}
-use Rattle.std.specs.Prelude.{true, pos, option_map}
+use Rattle.std.proofs.Common.{◌≡◌, sym, ◌∙◌}
+use Rattle.std.specs.Prelude.{true}
 use Rattle.std.proofs.lemmas.Result.{on_ok_weaker}
-use Rattle.vale_code.specs.declared.instr.Instr.TheVariants as i
-use Rattle.vale_lowering_objects.specs.Lowered.{hand, drop_value, thaw_code}
-use Rattle.vale_lower_flow.specs.Entries.{entry_of, entries}
-use Rattle.vale_lower_flow.specs.Flow.{Going, going, put}
+use Rattle.vale_lowering_objects.specs.Lowered.{hand}
+use Rattle.vale_lower_flow.specs.Flow.{going}
 use Rattle.vale_lower_flow.specs.Kept.{view_gives}
-use Rattle.vale_lower_stmts.proofs.EndLaws.{there_put, there_two, there_stored, there_dropped}
+use Rattle.vale_lower_stmts.proofs.EndLaws.{there_put}
 use Rattle.vale_lower_stmts.proofs.ends.hand_there.Goals as goal
 
 pub returns : goal.returns
