@@ -1,3 +1,0 @@
-pub mod Callable
-pub mod Kept
-pub mod Surroundings
