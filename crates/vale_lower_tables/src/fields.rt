@@ -128,11 +128,7 @@ fn add_all<'p>(
 }
 
 // The fields of an item, where it is a struct.
-fn add_item<'p>(
-    listed: &mut Listed<'p>,
-    placed: &mut Placed,
-    item: &'p Item,
-) -> Result<(), Memory>
+fn add_item<'p>(listed: &mut Listed<'p>, placed: &mut Placed, item: &'p Item) -> Result<(), Memory>
     requires { ArePlaced listed.old placed.old }
     ensures placed { OnOk result (ArePlaced listed.new placed.new) }
     ensures listed { OnOk result ((s : ℕ) → fields_at listed.new s ≡ fields_at listed.old s ++ fields_in s (view_item item.now)) }
