@@ -3,7 +3,7 @@ ghost use Rattle.std.specs.Prelude.{◌≡◌, ℕ, ◌+◌, ◌<◌, ◌≤◌,
 ghost use Rattle.vale_registers.specs.Texts.{text_at};
 ghost use Rattle.vale_code.specs.declared.instr.Instr.{Instr};
 ghost use Rattle.vale_table.specs.Lending.{IsFull};
-ghost use Rattle.vale_turn.specs.View.{IfStopped};
+ghost use Rattle.vale_turn.specs.View.{IfStopped, Stays};
 ghost use Rattle.vale_heap.specs.HeapState.{HasNoRoom, IsRoot, KeepsFrames, KnowsFrames, OfHand};
 ghost use Rattle.vale_heap.specs.declared.body.Place.{Place as APlace};
 ghost use Rattle.vale_object_cells.specs.Cells.{cells_from, held, place_in};
@@ -47,6 +47,7 @@ pub fn obey_make<L: Lender<Body>>(
     ensures of_hand { OfHand heap.old (L.hand lender.old) → OfHand heap.new (L.hand lender.new) }
     ensures ticks { left.new ≤ left.old }
     ensures kept { IfOk result (λ told. IfStopped told (left.new ≡ left.old)) }
+    ensures stays { IfOk result (λ told. Stays told) }
 {
     if *left == 0 {
         return Ok(Stop::Cut);
@@ -83,6 +84,7 @@ pub fn obey_open(
     ensures others { OnOk result ((i : ℕ) → i < base → text_at texts.new i ≡ text_at texts.old i) }
     ensures ticks { left.new ≤ left.old }
     ensures kept { IfOk result (λ told. IfStopped told (left.new ≡ left.old)) }
+    ensures stays { IfOk result (λ told. Stays told) }
 {
     if *left == 0 {
         return Ok(Stop::Cut);

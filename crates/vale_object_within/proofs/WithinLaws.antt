@@ -7,7 +7,9 @@ use Rattle.vale_registers.specs.Texts.{text_at}
 use Rattle.vale_table.specs.Lending.{Same, StillOut}
 use Rattle.vale_heap.specs.HeapState.{HeapState, KeepsFrames, KnowsFrames}
 use Rattle.vale_heap.specs.declared.body.Cell.{Cell}
+use Rattle.vale_turn.specs.View.{Stays}
 use Rattle.vale_turn.specs.declared.stop.Stop.{Stop}
+use Rattle.vale_turn.specs.declared.stop.Stop.TheVariants as stop
 use Rattle.vale_object_cells.specs.Cells.{cells_from, cells_in}
 use Rattle.vale_object_cells.specs.declared.register.Register.{Register}
 use Rattle.vale_object_steps.specs.Lent.{StillLent}
@@ -51,6 +53,16 @@ module _ (body : List Instr) (instr : Instr) (heap : HeapState) (place left : �
     pub obeys_as : (same : Instr) → instr ≡ same → (told : Stop) (new : HeapState) (after : List (Option Cell)) (new_place new_left : ℕ) → Obeys same heap cells place left told new after new_place new_left
         → ObeysWithin body instr heap cells place left told new after new_place new_left
     obeys_as same is told new after new_place new_left o s v b = subst (λ i. Obeys i heap cells place left told new after new_place new_left) (sym is) o s v
+
+    -- a function that goes on within itself stays so
+    pub stays_by : (told : Stop) (new : HeapState) (after : List (Option Cell)) (new_place new_left : ℕ) → HasRuleWithin body heap cells place left instr
+        → ObeysWithin body instr heap cells place left told new after new_place new_left → Stays told
+    stays_by stop.Going new after new_place new_left h o = tt
+    stays_by stop.Aside new after new_place new_left h o = o h.rule.scene h.rule.view h.is_body h.rule.runs h.rule.right
+    stays_by stop.Enters new after new_place new_left h o = o h.rule.scene h.rule.view h.is_body h.rule.runs h.rule.right
+    stays_by (stop.Leaves from) new after new_place new_left h o = o h.rule.scene h.rule.view h.is_body h.rule.runs h.rule.right
+    stays_by (stop.Trap kind at) new after new_place new_left h o = tt
+    stays_by stop.Cut new after new_place new_left h o = tt
 
     pub lent_as : (same : Instr) → instr ≡ same → (out : ℕ → Bool) (floors : ℕ → ℕ) (told : Stop) (new : HeapState) (after : List (Option Cell)) (new_place new_left : ℕ)
         → ObeysLent out floors same heap cells place left told new after new_place new_left → ObeysWithinLent out floors body instr heap cells place left told new after new_place new_left

@@ -1,7 +1,7 @@
 // Instructions that leave all objects as they are.
 ghost use Rattle.std.specs.Prelude.{◌≡◌, ℕ, ◌+◌, ◌<◌, ◌≤◌, ◌^◌, IfOk, OnOk, length, true};
 ghost use Rattle.vale_registers.specs.Texts.{text_at};
-ghost use Rattle.vale_turn.specs.View.{IfStopped};
+ghost use Rattle.vale_turn.specs.View.{IfStopped, Stays};
 ghost use Rattle.vale_object_cells.specs.Cells.{cells_from};
 ghost use Rattle.vale_object_within.specs.Within.{HasRoomFor, HasRuleWithin, ObeysWithin, is_still};
 
@@ -39,6 +39,7 @@ pub(crate) fn obey_still(
     ensures others { OnOk result ((i : ℕ) → i < base → text_at texts.new i ≡ text_at texts.old i) }
     ensures ticks { left.new ≤ left.old }
     ensures kept { IfOk result (λ told. IfStopped told (left.new ≡ left.old)) }
+    ensures stays { IfOk result (λ told. Stays told) }
 {
     match instr {
         Instr::Int { .. }

@@ -3,7 +3,7 @@ ghost use Rattle.std.specs.Prelude.{◌≡◌, ℕ, ◌+◌, ◌<◌, ◌≤◌,
 ghost use Rattle.vale_registers.specs.Texts.{text_at};
 ghost use Rattle.vale_table.specs.Lending.{IsFull};
 ghost use Rattle.vale_heap.specs.HeapState.{HasNoRoom, KnowsFrames, OfHand};
-ghost use Rattle.vale_turn.specs.View.{IfStopped};
+ghost use Rattle.vale_turn.specs.View.{IfStopped, Stays};
 ghost use Rattle.vale_object_cells.specs.Cells.{cells_from};
 ghost use Rattle.vale_object_steps.specs.Lent.{StillLent};
 ghost use Rattle.vale_object_within.specs.Within.{FitsOpened, HasRoomFor, HasRuleWithin, ObeysWithinLent, is_within};
@@ -61,6 +61,7 @@ pub fn obey_within<L: Lender<Body>>(
     ensures others { OnOk result ((i : ℕ) → i < base → text_at texts.new i ≡ text_at texts.old i) }
     ensures ticks { left.new ≤ left.old }
     ensures kept { IfOk result (λ told. IfStopped told (left.new ≡ left.old)) }
+    ensures stays { IfOk result (λ told. Stays told) }
 {
     match instr {
         Instr::Make { to, kind, args } => obey_make(
