@@ -1,6 +1,6 @@
 -- Configurations from which a run meets nothing that has no rule, and ends no object that is the root of an isolate.
 use Rattle.std.specs.Prelude.{◌≡◌, ◌≢◌, ℕ, Option, Some, None}
-use Rattle.vale_state_spec.specs.World.{World, Isolate, Lives, Object, Own}
+use Rattle.vale_state_spec.specs.World.{Isolate, Lives, Object, Own}
 use Rattle.vale_code.specs.Destroy.{Owned, first_owned}
 use Rattle.vale_code.specs.Frames.{Config, Frame, Running, Dropping, On}
 use Rattle.vale_code.specs.Instructions.{fetch}
@@ -23,14 +23,10 @@ EndsNext code (Running f) n = (a : ℕ) × (ended_by (fetch code f.function f.pl
 EndsNext code (Dropping f) n = (o : Owned) × (first_owned f.rest ≡ Some o) × (o.first ≡ Own n)
 EndsNext code _ n = ⊥
 
--- no object lies in an isolate of this root
-abbrev pub IsNoRoot : World → ℕ → Type 0
-IsNoRoot w n = (k : ℕ) (o : Object) → Lives w k o → o.region ≢ Isolate n
-
 -- a rule gives the next step, and it ends no root
 pub record IsGood (code : Parts) (c : Config) : Type 0 where
   pub right : IsRight (step code c)
-  pub no_root : (n : ℕ) (o : Object) → EndsNext code c.top n → Lives c.state.world n o → IsNoRoot c.state.world n
+  pub no_root : (n : ℕ) (o : Object) → EndsNext code c.top n → Lives c.state.world n o → o.region ≢ Isolate n
 
 -- so is each configuration that a run comes to from here
 abbrev pub IsSound : Parts → Config → Type 0
