@@ -1,7 +1,8 @@
 -- Texts that are made or read, by names.
 use Rattle.std.proofs.Common.{◌≡◌, ℕ, ◌+◌, ◌<◌, ◌^◌, ℤ, pos, List, length, Bool, Option, Some, None, refl, sym, ap, subst, ◌∙◌, arith}
-use Rattle.std.specs.Prelude.{Ok, Result, slice_get, slice_set}
+use Rattle.std.specs.Prelude.{IfOk, Ok, Result, slice_get, slice_set}
 use Rattle.std.proofs.lemmas.Option.{slice_get_within}
+use Rattle.vale_base.specs.declared.fault.Fail.{Fail}
 use Rattle.vale_base.specs.declared.spot.Spot.{Spot}
 use Rattle.vale_base.specs.declared.trap.TrapKind.{TrapKind}
 use Rattle.vale_state_spec.specs.State.{Answer, State, fails, gives, traps}
@@ -13,6 +14,7 @@ use Rattle.vale_code.specs.Parts.{Parts}
 use Rattle.vale_code.specs.Registers.{put, read}
 use Rattle.vale_code.specs.declared.instr.Instr.{Instr}
 use Rattle.vale_code.specs.declared.instr.Instr.TheVariants as i
+use Rattle.vale_text.specs.Gives.{Gives}
 use Rattle.vale_text.specs.Operations as o
 use Rattle.vale_text.specs.Steps as step
 use Rattle.vale_text.specs.Steps.{gives_int, gives_text, gives_truth, on_int, on_text}
@@ -30,7 +32,12 @@ use Rattle.vale_object_compares.proofs.CompareLaws.{holds_text, reads}
 use Rattle.vale_object_numbers.proofs.NumberLaws.{holds_int, wrote}
 use Rattle.vale_object_steps.specs.Views.{View}
 use Rattle.vale_object_turn.specs.Steps.{HasRule, Obeys, Scene, Stepped, active, next_of}
+use Rattle.vale_object_turn.proofs.Stepping.{if_ok}
 use Rattle.vale_object_texts.specs.Texts.{HasRuleIn, Lands, ObeysIn}
+
+-- a spot for what has no trap
+abbrev pub nowhere : Spot
+nowhere = record { line = 0; col = 0 }
 
 -- ---- where what an operation comes to goes
 
@@ -50,6 +57,13 @@ module _ (to : ℕ) (at : Spot) (cells new : List (Option Cell)) (place : ℕ) w
   pub lands_trap : (kind : TrapKind) (answer : State → Answer) (new_place : ℕ) → ((s : State) → answer s ≡ traps kind) → Lands to at answer cells place (stop.Trap kind at) new new_place
   lands_trap kind answer new_place e heap left s v runs = ap (answered (active s v place cells) (Some to) (values_in v.names cells) at s.below v.state) (e v.state)
 
+-- a text that was made goes to the register, where this is what the operation gives
+pub lands_made : {F : Type 0} (outcome : Result (List ℕ) (Fail TrapKind)) (x : List ℕ) (r : Result Stop F) (to : ℕ) (at : Spot) (cells new : List (Option Cell)) (place new_place : ℕ) → outcome ≡ Ok x → IfOk r (λ told. (at : Spot) → Lands to at (λ s. gives_text s (Ok x)) cells place told new new_place)
+    → IfOk r (λ told. (meaning : Result (List ℕ) TrapKind) → Gives outcome meaning → Lands to at (λ s. gives_text s meaning) cells place told new new_place)
+lands_made outcome x r to at cells new place new_place e lands =
+    if_ok r (λ told. (at : Spot) → Lands to at (λ s. gives_text s (Ok x)) cells place told new new_place) (λ told. (meaning : Result (List ℕ) TrapKind) → Gives outcome meaning → Lands to at (λ s. gives_text s meaning) cells place told new new_place) lands
+    (λ told made meaning g. subst (λ (m : Result (List ℕ) TrapKind). Lands to at (λ s. gives_text s m) cells place told new new_place) (sym (subst (λ (o : Result (List ℕ) (Fail TrapKind)). Gives o meaning) e g)) (made at))
+
 -- ---- what instructions lead to
 
 module _ (cells : List (Option Cell)) (place to : ℕ) (at : Spot) where
@@ -61,6 +75,23 @@ module _ (cells : List (Option Cell)) (place to : ℕ) (at : Spot) where
   obeys instr same is answer told new new_place leads lands heap left =
       subst (λ j. Obeys j heap cells place left told heap new new_place left) (sym is)
       (λ s v runs right. subst (λ next. Stepped s v place cells told next heap new new_place left) (sym (leads s v)) (lands heap left s v runs))
+
+  -- the same of a text that was made, or that an operation gives
+  pub obeys_taken : {F : Type 0} (instr same : Instr) → instr ≡ same → (x : List ℕ) (r : Result Stop F) (new : List (Option Cell)) (new_place : ℕ) → LeadsTo same (λ s. gives_text s (Ok x)) → IfOk r (λ told. (at : Spot) → Lands to at (λ s. gives_text s (Ok x)) cells place told new new_place)
+      → IfOk r (λ told. (heap : HeapState) (left : ℕ) → Obeys instr heap cells place left told heap new new_place left)
+  obeys_taken instr same is x r new new_place leads lands =
+      if_ok r (λ told. (at : Spot) → Lands to at (λ s. gives_text s (Ok x)) cells place told new new_place) (λ told. (heap : HeapState) (left : ℕ) → Obeys instr heap cells place left told heap new new_place left) lands
+      (λ told made. obeys instr same is (λ s. gives_text s (Ok x)) told new new_place leads (made at))
+
+  pub obeys_given : {F : Type 0} (instr same : Instr) → instr ≡ same → (outcome : Result (List ℕ) (Fail TrapKind)) (meaning : Result (List ℕ) TrapKind) → Gives outcome meaning → (r : Result Stop F) (new : List (Option Cell)) (new_place : ℕ) → LeadsTo same (λ s. gives_text s meaning)
+      → IfOk r (λ told. (meaning : Result (List ℕ) TrapKind) → Gives outcome meaning → Lands to at (λ s. gives_text s meaning) cells place told new new_place) → IfOk r (λ told. (heap : HeapState) (left : ℕ) → Obeys instr heap cells place left told heap new new_place left)
+  obeys_given instr same is outcome meaning g r new new_place leads lands =
+      if_ok r (λ told. (meaning : Result (List ℕ) TrapKind) → Gives outcome meaning → Lands to at (λ s. gives_text s meaning) cells place told new new_place) (λ told. (heap : HeapState) (left : ℕ) → Obeys instr heap cells place left told heap new new_place left) lands
+      (λ told made. obeys instr same is (λ s. gives_text s meaning) told new new_place leads (made meaning g))
+
+  -- the same of an answer that is told otherwise
+  pub leads_as : {A : Type 0} (instr : Instr) (go : State → A → Answer) (x y : A) → y ≡ x → LeadsTo instr (λ s. go s x) → LeadsTo instr (λ s. go s y)
+  leads_as instr go x y is leads s v = leads s v ∙ ap (λ a. answered (active s v place cells) (Some to) (values_in v.names cells) at s.below v.state (go v.state a)) (sym is)
 
   pub joined : (a b : ℕ) (x y : List ℕ) → held cells a ≡ Some (Text x) → held cells b ≡ Some (Text y) → LeadsTo (i.Join to a b at) (λ s. gives_text s (o.join x y))
   joined a b x y e h s v =
@@ -239,9 +270,15 @@ module _ (code : Parts) (cells : List (Option Cell)) (place to n : ℕ) where
       let x = some_text (slice_get r.scene.code.texts n) r.view.state (λ t. onward f (put (values_in r.view.names cells) to (Some (text t))) r.scene.below r.view.state) r.right in
       slice_get_within code.texts n x.0 (ap (λ c. slice_get c.texts n) (sym h.is_code) ∙ x.1)
 
-  pub quotes : (x : List ℕ) (at : Spot) (told : Stop) (new : List (Option Cell)) (new_place : ℕ) → slice_get code.texts n ≡ Some x → Lands to at (λ s. gives_text s (Ok x)) cells place told new new_place
+  quotes_so : (x : List ℕ) (at : Spot) (told : Stop) (new : List (Option Cell)) (new_place : ℕ) → slice_get code.texts n ≡ Some x → Lands to at (λ s. gives_text s (Ok x)) cells place told new new_place
       → (heap : HeapState) (left : ℕ) → ObeysIn code (i.Text to n) heap cells place left told heap new new_place left
-  quotes x at told new new_place e lands heap left s v is runs right =
+  quotes_so x at told new new_place e lands heap left s v is runs right =
       let f = active s v place cells in
       let next_is = ap (λ p. with_choice p v.state (λ t. onward f (put (values_in v.names cells) to (Some (text t))) s.below v.state)) (ap (λ c. slice_get c.texts n) is ∙ e) in
       subst (λ next. Stepped s v place cells told next heap new new_place left) (sym next_is) (lands heap left s v runs)
+
+  pub quotes : {F : Type 0} (x : List ℕ) (r : Result Stop F) (new : List (Option Cell)) (new_place : ℕ) → slice_get code.texts n ≡ Some x → IfOk r (λ told. (at : Spot) → Lands to at (λ s. gives_text s (Ok x)) cells place told new new_place)
+      → IfOk r (λ told. (heap : HeapState) (left : ℕ) → ObeysIn code (i.Text to n) heap cells place left told heap new new_place left)
+  quotes x r new new_place e lands =
+      if_ok r (λ told. (at : Spot) → Lands to at (λ s. gives_text s (Ok x)) cells place told new new_place) (λ told. (heap : HeapState) (left : ℕ) → ObeysIn code (i.Text to n) heap cells place left told heap new new_place left) lands
+      (λ told made. quotes_so x nowhere told new new_place e (made nowhere))
