@@ -1,0 +1,5 @@
+mod Flow
+mod Marks
+mod Never
+mod Ties
+mod Ways

@@ -1,0 +1,13 @@
+//! Laws of the definitions, the contracts of functions that do nothing.
+
+ghost use Rattle.vale_object_sure.specs.Sure.{SureBodies, OwnedFunctionsBreakNoRule};
+
+/// The code of the functions of a program that keeps the rules has no instruction that no step follows.
+pub fn lowered_bodies_are_sure()
+    ensures { SureBodies }
+{}
+
+/// So this code breaks no rule of instructions.
+pub fn owned_code_breaks_no_rule()
+    ensures { OwnedFunctionsBreakNoRule }
+{}
