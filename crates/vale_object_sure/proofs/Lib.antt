@@ -1,5 +1,7 @@
 mod Flow
+mod Marked
 mod Marks
 mod Never
 mod Ties
+mod Values
 mod Ways
