@@ -68,7 +68,7 @@ leaves_then : (rs : List Row) (g : Gone) (ls ms r : Locals) (o : After) (f : Gon
 leaves_then rs g ls ms r (comes g1) f j go = let k = go g1 (went_kept rs g g1 ls ms j) in (k.0, k.1, k.2, after_went rs g g1 ls ms k.1 (f g1) j k.3)
 leaves_then rs g ls ms r (never g1) f j go = let k = go g1 (fell_kept rs g1 ls ms j) in (k.0, k.1, k.2, after_fell rs g g1 ls ms k.1 (f g1) j k.3)
 
-leaves_pop : (rs : List Row) (h n : ℕ) (owned : Bool) (g : Gone) (l : Local) (ls r : Locals) (o : After) → Falls h rs → Leaves (holds n h owned ∷ rs) (without h g) (l ∷ ls) o r → Leaves rs g ls o r
+pub leaves_pop : (rs : List Row) (h n : ℕ) (owned : Bool) (g : Gone) (l : Local) (ls r : Locals) (o : After) → Falls h rs → Leaves (holds n h owned ∷ rs) (without h g) (l ∷ ls) o r → Leaves rs g ls o r
 leaves_pop rs h n owned g l ls r o f k =
     let p = goes_pop rs h n owned g l ls k.1 o f k.3 in
     (k.0 ++ p.0 ∷ [], p.1, k.2 ∙ ap (λ z. k.0 ++ z) p.2 ∙ sym (append_assoc k.0 (p.0 ∷ []) p.1), p.3)
@@ -78,11 +78,11 @@ above h = omega arith
 
 -- ---- single nodes
 
-free_above : (b : Bool) (h : ℕ) → h ≤ free_register b h
+pub free_above : (b : Bool) (h : ℕ) → h ≤ free_register b h
 free_above true h = omega arith
 free_above false h = omega arith
 
-link_goes : (o : BinaryOp) (rs : List Row) (h : ℕ) (at : Spot) (g : Gone) (us ms : Locals) (f : ℕ → Gone → After) → Kept rs g us → ((k : ℕ) → h ≤ k → Goes rs g us (f k g) ms) → own at (link_rules o us ms) ≡ [] → Goes rs g us (link_after o f h g) ms
+pub link_goes : (o : BinaryOp) (rs : List Row) (h : ℕ) (at : Spot) (g : Gone) (us ms : Locals) (f : ℕ → Gone → After) → Kept rs g us → ((k : ℕ) → h ≤ k → Goes rs g us (f k g) ms) → own at (link_rules o us ms) ≡ [] → Goes rs g us (link_after o f h g) ms
 link_goes op.Or rs h at g us ms f k go c = still_goes rs (gone_after (f h g)) us ms k (goes_fell rs g us ms (f h g) (go h (omega arith))) (rule_holds at 31 (are_alike us ms) c)
 link_goes op.And rs h at g us ms f k go c = still_goes rs (gone_after (f h g)) us ms k (goes_fell rs g us ms (f h g) (go h (omega arith))) (rule_holds at 31 (are_alike us ms) c)
 link_goes o rs h at g us ms f k go c = go (h + 1) (omega arith)

@@ -1,7 +1,11 @@
+mod Callees
+mod Entries
 mod Flow
 mod Marked
 mod Marks
 mod Never
+mod Shapes
 mod Ties
+mod Tree
 mod Values
 mod Ways

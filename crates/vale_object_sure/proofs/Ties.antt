@@ -422,13 +422,13 @@ abbrev same_rows : List Row → Gone → Gone → Bool
 same_rows [] g g' = true
 same_rows (x ∷ rs) g g' = same_truth (is_gone (place x) g) (is_gone (place x) g') && same_rows rs g g'
 
-truth_itself : (b c : Bool) → b ≡ c → same_truth b c ≡ true
+pub truth_itself : (b c : Bool) → b ≡ c → same_truth b c ≡ true
 truth_itself true true e = refl
 truth_itself true false e = absurd (cc)
 truth_itself false true e = absurd (cc)
 truth_itself false false e = refl
 
-both_true : (a b : Bool) → a ≡ true → b ≡ true → (a && b) ≡ true
+pub both_true : (a b : Bool) → a ≡ true → b ≡ true → (a && b) ≡ true
 both_true true b e f = f
 both_true false b e f = e
 
