@@ -1,4 +1,5 @@
 mod Callees
+mod Calls
 mod Entries
 mod Flow
 mod Marked
@@ -9,3 +10,4 @@ mod Ties
 mod Tree
 mod Values
 mod Ways
+mod Whole
