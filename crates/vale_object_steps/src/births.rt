@@ -59,6 +59,7 @@ pub fn make<L: Lender<Body>>(
     requires right { CanDo (makes to kind args.now) heap.old (cells_from base texts.now registers.old) }
     ensures step { OnOk result (FollowsLent (L.out lender.old) (L.floors lender.old) (makes to kind args.now) heap.old (cells_from base texts.now registers.old) heap.new (cells_from base texts.now registers.new)) }
     ensures refused { IsErrOf result Want.Page → HasNoRoom heap.old × IsFull (L.frames lender.old) (L.out lender.new) }
+    ensures full { IsErrOf result Want.Page → HasNoRoom heap.new }
     ensures lent { StillLent heap.old heap.new (L.frames lender.old) (L.frames lender.new) (L.out lender.old) (L.out lender.new) (L.floors lender.old) (L.floors lender.new) }
     ensures of_hand { OfHand heap.old (L.hand lender.old) → OfHand heap.new (L.hand lender.new) }
 {

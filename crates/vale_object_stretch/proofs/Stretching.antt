@@ -1,6 +1,6 @@
 -- How a stretch goes on from step to step, and where it ends.
 use Rattle.std.specs.Prelude.{Bool, true, false}
-use Rattle.std.proofs.Common.{◌≡◌, ℕ, suc, ◌+◌, ◌*◌, ◌<◌, List, [], ◌∷◌, ◌++◌, Option, Some, None, refl, sym, ap, ◌∙◌, subst, append_assoc, arith}
+use Rattle.std.proofs.Common.{◌≡◌, ℕ, suc, ◌+◌, ◌*◌, ◌<◌, List, [], ◌∷◌, ◌++◌, Option, Some, None, refl, sym, ap, ◌∙◌, subst, append-nil, append_assoc, arith}
 use Rattle.vale_state_spec.specs.State.{State, main_frame}
 use Rattle.vale_code.specs.Frames.{Config, Next, On, Running}
 use Rattle.vale_code.specs.Fuel.{at_below, at_top, for_tick, fuel}
@@ -29,7 +29,7 @@ pub sound_on : (code : Parts) (c d : Config) → step code c ≡ On d → IsSoun
 sound_on code c d e sound = λ n f h. sound (suc n) f (ap (λ x. go_on x (steps code n)) e ∙ h)
 
 grows_here : (v : View) → Grows v v
-grows_here v = record { more = []; names = sym (append_nil v.names); low = refl }
+grows_here v = record { more = []; names = sym (append-nil v.names); low = refl }
 
 grows_then : (u v w : View) → Grows u v → Grows v w → Grows u w
 grows_then u v w g h = record { more = g.more ++ h.more; names = h.names ∙ (ap (λ ns. ns ++ h.more) g.names ∙ append_assoc u.names g.more h.more); low = h.low ∙ g.low }

@@ -43,6 +43,7 @@ pub(crate) fn once<L: Lender<Body>>(
     ensures step { IfOk result (λ told. Obeyed (L.out lender.old) (L.floors lender.old) body.now instr.now heap.old (cells_from base texts.old registers.old) place.old left.old told heap.new (cells_from base texts.new registers.new) place.new left.new) }
     ensures leaving { IfOk result (λ told. Leaving told instr.now) }
     ensures refused { IsErrOf result Want.Page → HasNoRoom heap.old × IsFull (L.frames lender.old) (L.out lender.new) }
+    ensures full { IsErrOf result Want.Page → HasNoRoom heap.new }
     ensures lent { StillLent heap.old heap.new (L.frames lender.old) (L.frames lender.new) (L.out lender.old) (L.out lender.new) (L.floors lender.old) (L.floors lender.new) }
     ensures of_hand { OfHand heap.old (L.hand lender.old) → OfHand heap.new (L.hand lender.new) }
     ensures others { OnOk result ((i : ℕ) → i < base → text_at texts.new i ≡ text_at texts.old i) }

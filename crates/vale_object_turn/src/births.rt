@@ -43,6 +43,7 @@ pub fn obey_make<L: Lender<Body>>(
     requires right { HasRule heap.old (cells_from base texts.now registers.old) place.old left.old (Instr.Make to kind args.now) }
     ensures step { IfOk result (λ told. ObeysLent (L.out lender.old) (L.floors lender.old) (Instr.Make to kind args.now) heap.old (cells_from base texts.now registers.old) place.old left.old told heap.new (cells_from base texts.now registers.new) place.new left.new) }
     ensures refused { IsErrOf result Want.Page → HasNoRoom heap.old × IsFull (L.frames lender.old) (L.out lender.new) }
+    ensures full { IsErrOf result Want.Page → HasNoRoom heap.new }
     ensures lent { StillLent heap.old heap.new (L.frames lender.old) (L.frames lender.new) (L.out lender.old) (L.out lender.new) (L.floors lender.old) (L.floors lender.new) }
     ensures of_hand { OfHand heap.old (L.hand lender.old) → OfHand heap.new (L.hand lender.new) }
     ensures ticks { left.new ≤ left.old }
