@@ -324,6 +324,9 @@ moved_here : (l : Bool) (a : Bool) → l ≡ true → true ≡ (if l then not fa
 moved_here true a e = refl
 moved_here false a e = absurd (cc)
 
+abbrev loc : ℕ → Bool → Local
+loc n whole = record { name = n; whole = whole }
+
 -- a local that is whole is moved
 pub went_out : (rs : List Row) (h n : ℕ) (g : Gone) (ls : Locals) → Falls h rs → Kept rs g ls → is_whole n ls ≡ true → Went rs g ls (out (spot n rs) g) (moved n ls)
 went_out [] h n g [] f k w = tt
@@ -333,18 +336,18 @@ went_out (holds m r owned ∷ rs) h n g [] f k w = absurd k
 went_out (holds m r owned ∷ rs) h n g (l ∷ ls) f k w = by (m == n) refl (λ v. went_out rs r n g ls f.1 k.2 v)
   where
     by : (b : Bool) → (m == n) ≡ b → (is_whole n ls ≡ true → Went rs g ls (out (spot n rs) g) (moved n ls))
-        → Went (holds m r owned ∷ rs) g (l ∷ ls) (out (if m == n then Some r else spot n rs) g) (if l.name == n then record { name = n; whole = false } ∷ ls else l ∷ moved n ls)
+        → Went (holds m r owned ∷ rs) g (l ∷ ls) (out (if m == n then Some r else spot n rs) g) (if l.name == n then loc n false ∷ ls else l ∷ moved n ls)
     by true e rest =
         let same : (l.name == n) ≡ true = ap (λ z. z == n) k.0 ∙ e in
         let whole : l.whole ≡ true = sym (ap (λ b. if b then l.whole else is_whole n ls) same) ∙ w in
-        subst (λ b. Went (holds m r owned ∷ rs) g (l ∷ ls) (out (if b then Some r else spot n rs) g) (if l.name == n then record { name = n; whole = false } ∷ ls else l ∷ moved n ls)) (sym e)
-        (subst (λ b. Went (holds m r owned ∷ rs) g (l ∷ ls) (r ∷ g) (if b then record { name = n; whole = false } ∷ ls else l ∷ moved n ls)) (sym same)
+        subst (λ b. Went (holds m r owned ∷ rs) g (l ∷ ls) (out (if b then Some r else spot n rs) g) (if l.name == n then loc n false ∷ ls else l ∷ moved n ls)) (sym e)
+        (subst (λ b. Went (holds m r owned ∷ rs) g (l ∷ ls) (r ∷ g) (if b then loc n false ∷ ls else l ∷ moved n ls)) (sym same)
         (k.0, sym (eqb-true m n e), λ z. absurd (cc), gone_here r g ∙ moved_here l.whole (is_gone r g) whole, went_still rs r g (r ∷ g) ls f.1 (below_here r g) k.2))
     by false e rest =
         let other : (l.name == n) ≡ false = ap (λ z. z == n) k.0 ∙ e in
         let whole : is_whole n ls ≡ true = sym (ap (λ b. if b then l.whole else is_whole n ls) other) ∙ w in
-        subst (λ b. Went (holds m r owned ∷ rs) g (l ∷ ls) (out (if b then Some r else spot n rs) g) (if l.name == n then record { name = n; whole = false } ∷ ls else l ∷ moved n ls)) (sym e)
-        (subst (λ b. Went (holds m r owned ∷ rs) g (l ∷ ls) (out (spot n rs) g) (if b then record { name = n; whole = false } ∷ ls else l ∷ moved n ls)) (sym other)
+        subst (λ b. Went (holds m r owned ∷ rs) g (l ∷ ls) (out (if b then Some r else spot n rs) g) (if l.name == n then loc n false ∷ ls else l ∷ moved n ls)) (sym e)
+        (subst (λ b. Went (holds m r owned ∷ rs) g (l ∷ ls) (out (spot n rs) g) (if b then loc n false ∷ ls else l ∷ moved n ls)) (sym other)
         (k.0, k.0, λ z. z, out_above (spot n rs) r g (spot_below rs r n f.1) ∙ still_there l.whole (is_gone r g) k.1, rest whole))
 
 -- ---- scopes and their rows
