@@ -268,13 +268,13 @@ module _ (code : Parts) (cells : List (Option Cell)) (place to n : ℕ) where
       let r = h.rule in
       let f = active r.scene r.view place cells in
       let x = some_text (slice_get r.scene.code.texts n) r.view.state (λ t. onward f (put (values_in r.view.names cells) to (Some (text t))) r.scene.below r.view.state) r.right in
-      slice_get_within code.texts n x.0 (ap (λ c. slice_get c.texts n) (sym h.is_code) ∙ x.1)
+      slice_get_within code.texts n x.0 (ap (λ (c : Parts). slice_get c.texts n) (sym h.is_code) ∙ x.1)
 
   quotes_so : (x : List ℕ) (at : Spot) (told : Stop) (new : List (Option Cell)) (new_place : ℕ) → slice_get code.texts n ≡ Some x → Lands to at (λ s. gives_text s (Ok x)) cells place told new new_place
       → (heap : HeapState) (left : ℕ) → ObeysIn code (i.Text to n) heap cells place left told heap new new_place left
   quotes_so x at told new new_place e lands heap left s v is runs right =
       let f = active s v place cells in
-      let next_is = ap (λ p. with_choice p v.state (λ t. onward f (put (values_in v.names cells) to (Some (text t))) s.below v.state)) (ap (λ c. slice_get c.texts n) is ∙ e) in
+      let next_is = ap (λ p. with_choice p v.state (λ t. onward f (put (values_in v.names cells) to (Some (text t))) s.below v.state)) (ap (λ (c : Parts). slice_get c.texts n) is ∙ e) in
       subst (λ next. Stepped s v place cells told next heap new new_place left) (sym next_is) (lands heap left s v runs)
 
   pub quotes : {F : Type 0} (x : List ℕ) (r : Result Stop F) (new : List (Option Cell)) (new_place : ℕ) → slice_get code.texts n ≡ Some x → IfOk r (λ told. (at : Spot) → Lands to at (λ s. gives_text s (Ok x)) cells place told new new_place)

@@ -1,5 +1,5 @@
 // What is printed of registers.
-ghost use Rattle.std.specs.Prelude.{◌≡◌, ℕ, ◌+◌, ◌<◌, ◌^◌, ◌++◌, ◌∷◌, [], Bool, IfOk, IsErr, List, Some, if◌then◌else◌, length};
+ghost use Rattle.std.specs.Prelude.{◌≡◌, ℕ, ◌+◌, ◌<◌, ◌^◌, ◌++◌, ◌∷◌, [], Bool, IfOk, List, OnErr, Some, if◌then◌else◌, length};
 ghost use Rattle.vale_state_spec.specs.State.{shown};
 ghost use Rattle.vale_state_spec.specs.World.{Truth as a_truth};
 ghost use Rattle.vale_code.specs.Instructions.{truth_of};
@@ -103,7 +103,7 @@ pub fn obey_print(
     requires place { place.old + 1 < 2 ^ 64 }
     requires right { (heap : HeapState) × (left : ℕ) × HasRule heap (cells_from base texts.now registers.now) place.old left (Instr.Print from choice) }
     ensures step { IfOk result (λ told. HasPrinted (Instr.Print from choice) (cells_from base texts.now registers.now) place.old spent pieces.old.items told place.new pieces.new.items) }
-    ensures kept { IsErr result → pieces.new.items ≡ pieces.old.items }
+    ensures kept { OnErr result (pieces.new.items ≡ pieces.old.items) }
 {
     let line = is_line(choice);
     let shown = shown_bytes(alloc, registers, texts, base, from)?;
