@@ -1,13 +1,13 @@
 -- What an instruction of a sound run has: a rule, a place, and no root that it takes apart.
 use Rattle.std.proofs.Common.{◌≡◌, ◌≢◌, ℕ, zero, suc, ◌<◌, List, [], ◌∷◌, length, Option, Some, None, refl, sym, ap, ◌∙◌, subst, arith}
 use Rattle.std.specs.Prelude.{Bool, slice_get}
-use Rattle.vale_state_spec.specs.State.{State}
+use Rattle.vale_state_spec.specs.State.{State, dies, object_of}
 use Rattle.vale_state_spec.specs.World.{Isolate, Lives, Object, Own}
 use Rattle.vale_code.specs.Act.{act, act_if}
-use Rattle.vale_code.specs.Frames.{Config, Next}
-use Rattle.vale_code.specs.Instructions.{fetch, instruction_in, with_owner}
+use Rattle.vale_code.specs.Frames.{Config, Next, after_tick}
+use Rattle.vale_code.specs.Instructions.{fetch, instruction_in, onward, with_choice, with_owner, with_registers}
 use Rattle.vale_code.specs.Parts.{Parts}
-use Rattle.vale_code.specs.Registers.{read}
+use Rattle.vale_code.specs.Registers.{put, put_all, read}
 use Rattle.vale_code.specs.Run.{last_state, step}
 use Rattle.vale_code.specs.declared.func.Func.{Func}
 use Rattle.vale_code.specs.declared.instr.Instr.{Instr}
@@ -93,14 +93,20 @@ owner_held names (Some (cell.Ref z)) p s go r e = absurd r
 owner_held names (Some (cell.Iso z)) p s go r e = absurd r
 
 module _ (code : Parts) (function : ℕ) (out : ℕ → Bool) (floors : ℕ → ℕ) (s : Scene) (v : View) (heap : HeapState) (cells : List (Option Cell)) (place left : ℕ) (u : IsUnderWay code function out floors s v heap cells place left) where
+  -- what is left to do, once the owner is known
+  abbrev opening : List ℕ → ℕ → ℕ → Next
+  opening to a n =
+      with_choice (object_of n v.state) v.state (λ o.
+      with_registers (put_all to o.values (put (values_in v.names cells) a None)) v.state (λ regs. after_tick v.state (λ t. onward (active s v place cells) regs s.below (dies n t))))
+
   no_root : (to : List ℕ) (a : ℕ) → fetch code s.function place ≡ Some (i.Open to a) → IsRight (next_of s v place cells (i.Open to a)) → (p : Place) → place_in (held cells a) ≡ Some p → IsRoot heap p → ⊥
-  no_root to a fetch right p at root =
+  no_root to a fetched right p at root =
       let names = v.names in
-      let e = owner_held names (held cells a) p v.state _ (subst (λ o. IsRight (with_owner o v.state _)) (read_values names cells a) right) at in
+      let e = owner_held names (held cells a) p v.state (opening to a) (subst (λ o. IsRight (with_owner o v.state (opening to a))) (read_values names cells a) right) at in
       let own : read (values_in names cells) a ≡ Some (Own (name_at names p)) = read_values names cells a ∙ ap (value_in names) e in
       no_root_law heap None v.low nobody names v.state.world (name_at names p) p u.runs.agrees.stands (u.runs.agrees.known a p at)
-      (λ o lives. (u.sound 0 (config s v place cells) refl).no_root (name_at names p) o (a, ap ended_by fetch, own) lives) root
+      (λ o lives. (u.sound 0 (config s v place cells) refl).no_root (name_at names p) o (a, ap ended_by fetched, own) lives) root
 
   pub fits_opened : (instr : Instr) → fetch code s.function place ≡ Some instr → IsRight (next_of s v place cells instr) → FitsOpened heap cells instr
-  fits_opened (i.Open to a) fetch right = no_root to a fetch right
-  fits_opened _ fetch right = tt
+  fits_opened (i.Open to a) fetched right = no_root to a fetched right
+  fits_opened _ fetched right = tt

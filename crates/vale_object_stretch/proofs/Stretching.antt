@@ -1,5 +1,5 @@
 -- How a stretch goes on from step to step, and where it ends.
-use Rattle.std.specs.Prelude.{Bool, true, false}
+use Rattle.std.specs.Prelude.{Bool, true, false, Err, IfOk, Ok, Result}
 use Rattle.std.proofs.Common.{◌≡◌, ℕ, suc, ◌+◌, ◌*◌, ◌<◌, List, [], ◌∷◌, ◌++◌, Option, Some, None, refl, sym, ap, ◌∙◌, subst, append-nil, append_assoc, arith}
 use Rattle.vale_state_spec.specs.State.{State, main_frame}
 use Rattle.vale_code.specs.Frames.{Config, Next, On, Running}
@@ -12,7 +12,7 @@ use Rattle.vale_heap.specs.HeapState.{HeapState, KnowsFrames}
 use Rattle.vale_heap.specs.Standing.{LowIsFloor}
 use Rattle.vale_heap.specs.declared.body.Cell.{Cell}
 use Rattle.vale_table.specs.Lending.{Same, StillOut}
-use Rattle.vale_turn.specs.View.{IfStopped, IsBody, IsRight, Leads}
+use Rattle.vale_turn.specs.View.{IfStopped, IsBody, IsRight, Leads, Stays}
 use Rattle.vale_turn.specs.declared.stop.Stop.{Stop}
 use Rattle.vale_turn.specs.declared.stop.Stop.TheVariants as stop
 use Rattle.vale_turn.proofs.Stretching.{leads_here, leads_on, less_fuel}
@@ -101,6 +101,42 @@ module _ (code : Parts) (function : ℕ) (s : Scene) (v : View) (c : Config) whe
     ended stop.Aside instr out floors body new after new_place new_left n low at e is right o k same = (left_so new after new_place new_left o, (instr, ap (fetch code s.function) o.place_same ∙ at, k))
     ended stop.Enters instr out floors body new after new_place new_left n low at e is right o k same = (left_so new after new_place new_left o, (instr, ap (fetch code s.function) o.place_same ∙ at, k))
     ended (stop.Leaves from) instr out floors body new after new_place new_left n low at e is right o k same = (left_so new after new_place new_left o, (instr, ap (fetch code s.function) o.place_same ∙ at, k))
+
+-- what a function comes to that stays within itself
+pub obeyed_by : (out : ℕ → Bool) (floors : ℕ → ℕ) (body : List Instr) (instr : Instr) (heap : HeapState) (cells : List (Option Cell)) (place left : ℕ) (told : Stop) (new : HeapState) (after : List (Option Cell)) (new_place new_left : ℕ) → Stays told
+    → ObeysWithinLent out floors body instr heap cells place left told new after new_place new_left → Obeyed out floors body instr heap cells place left told new after new_place new_left
+obeyed_by out floors body instr heap cells place left stop.Going new after new_place new_left k o = o
+obeyed_by out floors body instr heap cells place left (stop.Trap kind at) new after new_place new_left k o = o
+obeyed_by out floors body instr heap cells place left stop.Cut new after new_place new_left k o = o
+obeyed_by out floors body instr heap cells place left stop.Aside new after new_place new_left k o = absurd k
+obeyed_by out floors body instr heap cells place left stop.Enters new after new_place new_left k o = absurd k
+obeyed_by out floors body instr heap cells place left (stop.Leaves from) new after new_place new_left k o = absurd k
+
+pub leaving_by : (told : Stop) (instr : Instr) → Stays told → Leaving told instr
+leaving_by stop.Going instr k = tt
+leaving_by (stop.Trap kind at) instr k = tt
+leaving_by stop.Cut instr k = tt
+leaving_by stop.Aside instr k = absurd k
+leaving_by stop.Enters instr k = absurd k
+leaving_by (stop.Leaves from) instr k = absurd k
+
+pub both_ok : {T E : Type 0} (r : Result T E) (P Q R : T → Type 0) → IfOk r P → IfOk r Q → ((x : T) → P x → Q x → R x) → IfOk r R
+both_ok (Ok x) P Q R p q f = f x p q
+both_ok (Err e) P Q R p q f = tt
+
+-- ---- the function goes on
+
+module _ (code : Parts) (function : ℕ) (s : Scene) (v : View) (heap new : HeapState) (cells after : List (Option Cell)) (place left new_place new_left : ℕ) (frames new_frames : ℕ) (out new_out : ℕ → Bool) (floors new_floors : ℕ → ℕ) where
+  pub way_on : (next : Next) → IsUnderWay code function out floors s v heap cells place left → step code (config s v place cells) ≡ next → (g : GoesOn s v next new after new_place new_left)
+      → StillLent heap new frames new_frames out new_out floors new_floors → IsUnderWay code function new_out new_floors s g.view new after new_place new_left
+  way_on next u e g lent = record {
+    of_code = u.of_code;
+    by_last = u.by_last;
+    of_function = u.of_function;
+    low = subst (λ low. LowIsFloor low new_out new_floors) (sym g.grows.low) (low_on v.low heap new frames new_frames out new_out floors new_floors lent u.low);
+    runs = g.runs;
+    sound = sound_on code (config s v place cells) (config s g.view new_place after) (e ∙ g.is) u.sound;
+  }
 
 -- ---- how much is left to do within the function
 

@@ -54,13 +54,13 @@ returns-in-LoadOwn-clause-stays c =
 pub returns-in-Move-clause-step : goal.returns-in-Move-clause-step
 returns-in-Move-clause-step c =
     let a = c.args in
-    obeys_reference a.body.now a.instr.now a.heap.now a.place.now a.left.now a.base a.texts.now a.registers.now c.obey_reference.result c.obey_reference.new.registers c.obey_reference.new.place c.obey_reference.ensures
+    obeys_reference a.body.now a.instr.now a.heap.now a.place.now a.left.now a.base a.texts.now a.registers.now c.obey_reference.result c.obey_reference.new.registers c.obey_reference.new.place c.obey_reference.ensures.step
 
 pub returns-in-Move-clause-stays : goal.returns-in-Move-clause-stays
 returns-in-Move-clause-stays c =
     let a = c.args in
     stays_by a.body.now a.instr.now a.heap.now a.place.now a.left.now (cells_from a.base a.texts.now a.registers.now) c.obey_reference.result a.heap.now (cells_from a.base a.texts.now c.obey_reference.new.registers) c.obey_reference.new.place a.left.now c.requires.right
-    (obeys_reference a.body.now a.instr.now a.heap.now a.place.now a.left.now a.base a.texts.now a.registers.now c.obey_reference.result c.obey_reference.new.registers c.obey_reference.new.place c.obey_reference.ensures)
+    (obeys_reference a.body.now a.instr.now a.heap.now a.place.now a.left.now a.base a.texts.now a.registers.now c.obey_reference.result c.obey_reference.new.registers c.obey_reference.new.place c.obey_reference.ensures.step)
 
 pub returns-in-Int-clause-step : goal.returns-in-Int-clause-step
 returns-in-Int-clause-step c =
