@@ -60,7 +60,10 @@ first_at test (f ∷ fs) = by (test f) (first_at test fs)
     by true law = refl
     by false law = law
 
-plain_form : (a b : Bool) → (if a then 1 else (if b then 3 else 0)) ≡ 0 → b ≡ false
+abbrev form_by : Bool → Bool → ℕ
+form_by a b = if a then 1 else (if b then 3 else 0)
+
+plain_form : (a b : Bool) → form_by a b ≡ 0 → b ≡ false
 plain_form true b e = absurd (cc)
 plain_form false true e = absurd (cc)
 plain_form false false e = refl

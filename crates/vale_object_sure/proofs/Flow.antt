@@ -83,12 +83,12 @@ free_above true h = omega arith
 free_above false h = omega arith
 
 pub link_goes : (o : BinaryOp) (rs : List Row) (h : ℕ) (at : Spot) (g : Gone) (us ms : Locals) (f : ℕ → Gone → After) → Kept rs g us → ((k : ℕ) → h ≤ k → Goes rs g us (f k g) ms) → own at (link_rules o us ms) ≡ [] → Goes rs g us (link_after o f h g) ms
-link_goes op.Or rs h at g us ms f k go c = still_goes rs (gone_after (f h g)) us ms k (goes_fell rs g us ms (f h g) (go h (omega arith))) (rule_holds at 31 (are_alike us ms) c)
-link_goes op.And rs h at g us ms f k go c = still_goes rs (gone_after (f h g)) us ms k (goes_fell rs g us ms (f h g) (go h (omega arith))) (rule_holds at 31 (are_alike us ms) c)
+link_goes op.Or rs h at g us ms f k go c = still_goes rs g (gone_after (f h g)) us ms k (goes_fell rs g us ms (f h g) (go h (omega arith))) (rule_holds at 31 (are_alike us ms) c)
+link_goes op.And rs h at g us ms f k go c = still_goes rs g (gone_after (f h g)) us ms k (goes_fell rs g us ms (f h g) (go h (omega arith))) (rule_holds at 31 (are_alike us ms) c)
 link_goes o rs h at g us ms f k go c = go (h + 1) (omega arith)
 
 loop_goes : (rs : List Row) (g : Gone) (ls ms : Locals) (o : After) → Kept rs g ls → Goes rs g ls o ms → are_alike ls ms ≡ true → Goes rs g ls (loop_after g o) ms
-loop_goes rs g ls ms (comes g') k j a = still_goes rs g' ls ms k (went_fell rs g g' ls ms j) a
+loop_goes rs g ls ms (comes g') k j a = still_goes rs g g' ls ms k (went_fell rs g g' ls ms j) a
 loop_goes rs g ls ms (never g') k j a = j
 
 -- a statement that declares nothing

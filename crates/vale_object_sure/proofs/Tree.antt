@@ -400,15 +400,15 @@ module _ (p : Parts) (c : Code) (functions : List Function) (out : Gives) (calls
         let two = none_in (block_flow b us).faults (own at (loop_rules ls (expr_flow w ls) (block_returns b) (block_flow b us))) one.1 in
         let alike = and_parts (are_alike ls us) (block_returns b || are_alike us ms) (rule_holds at 32 (are_alike ls us && (block_returns b || are_alike us ms)) two.1) in
         let goes = expr_goes w true h s g ls m.0 st.falls st.kept one.0 in
-        let kept = went_kept (rows s) g g ls us (still_goes (rows s) (gone_after a) ls us st.kept (goes_fell (rows s) g ls us a goes) alike.0) in
+        let kept = went_kept (rows s) g g ls us (still_goes (rows s) g (gone_after a) ls us st.kept (goes_fell (rows s) g ls us a goes) alike.0) in
         let more = falls_up (rows s) h (h + 1) (omega arith) st.falls in
         sure_if (is_value (gives_of (type w)) && (closes s g a && closes s g o)) h _
         (both_true (is_value (gives_of (type w))) (closes s g a && closes s g o) (copy_value (gives_of (type w)) (ap gives_of u.0))
         (both_true (closes s g a) (closes s g o) (still_closes s g ls us a st.kept goes alike.0) (closes_by s g us ms (block_returns b) o (λ e. block_never b (h + 1) s g e) kept (block_goes b (h + 1) s g us m.1 more kept two.0) alike.1)))
         (turns_sure place h a (λ place. expr_code around w place h s g) (λ place. block_code around g.void b place h (h + 1) s g) (λ r. expr_sure w env h s g ls r st m.0 u.1 one.0)
         (λ r. block_sure b env y.void g.void h (h + 1) s g us r (stands_on out env h s g ls st (h + 1) g us (omega arith) kept) refl m.1 u.2 two.0))
-    stmt_sure (foreach at n a e (block open end t ss)) env h s g ls place d st m u f =
-        let b = block open end t ss in
+    stmt_sure (foreach at n a e (block start end t ss)) env h s g ls place d st m u f =
+        let b = block start end t ss in
         let us = (expr_flow a ls).after in
         let vs = (expr_flow e us).after in
         let ms = (body_flow n b vs).after in
