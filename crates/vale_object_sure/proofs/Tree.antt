@@ -28,13 +28,13 @@ use Rattle.vale_lowering.specs.Scopes.{number_of_text}
 use Rattle.vale_lowering_objects.specs.Changes.{step_changes}
 use Rattle.vale_lowering_objects.specs.Lowered.{all_gives, locals_after, link_after, step_view, stays_of, free_register, expr_after, node_after, start_after, step_after, steps_after, place_after, targets_after, args_after, links_after, form_after, elses_after, block_after, stmts_after, stmt_after, Origin, reference, hand, drop_entry, drop_value, drop_scope, gives_list, first_type, truth_number, locals_code, make_code, callee_code, link_code, load_field, load_element, swap_field, swap_element, lend_local, move_out, store, count_code, turns_code, sides, if_comes, then_code, expr_code, node_code, borrow_code, start_code, step_code, steps_code, place_code, targets_code, swap_code, args_code, links_code, form_code, elses_code, block_code, stmts_code, stmt_code}
 use Rattle.vale_lowering_objects.specs.Scopes.{Gives, copy, owner, gives_of, is_value, is_owner, agree, Scope, entry, waiting, find, Gone, without, After, comes, never, met, may_meet, closes, Around}
-use Rattle.vale_lowering_objects.specs.Scopes as g
+use Rattle.vale_lowering_objects.specs.Scopes as sort
 use Rattle.vale_object_facts.specs.Stands.{lent}
 use Rattle.vale_object_facts.specs.Suits.{Sure, IsLocal, refers, expr_suits, node_suits, lent_suits, start_suits, step_suits, steps_suit, place_suits, targets_suit, set_suits, exprs_suit, links_suit, form_suits, elses_suit, block_suits, stmts_suit, stmt_suits}
 use Rattle.vale_object_sure.proofs.Callees.{agree_same, gives_types, many_gives, operands, op_copied, Runs, operator_sure, AllCallable, callee_sure, make_sure}
 use Rattle.vale_object_sure.proofs.Entries.{IsThere, look_up, owner_is, value_is, Stands, stands_on, stands_wait, stands_push}
 use Rattle.vale_object_sure.proofs.Flow.{none_in, rule_holds, expr_goes, node_goes, start_goes, step_goes, steps_go, place_goes, args_go, links_go, form_goes, elses_go, block_goes, stmts_go, stmt_goes, link_goes, Leaves, leaves_block, leaves_pop, Plain, free_above}
-use Rattle.vale_object_sure.proofs.Marks.{are_values, are_locals, takes_value, expr_marks, node_marks, place_marks, exprs_mark, links_mark, step_marks, steps_mark, form_marks, elses_mark, block_marks, stmts_mark, stmt_marks}
+use Rattle.vale_object_sure.proofs.Marks.{has_operator, are_values, are_locals, takes_value, expr_marks, node_marks, place_marks, exprs_mark, links_mark, step_marks, steps_mark, form_marks, elses_mark, block_marks, stmts_mark, stmt_marks}
 use Rattle.vale_object_sure.proofs.Never.{IsNever, block_never}
 use Rattle.vale_object_sure.proofs.Shapes.{sure_more, sure_both, sure_if, then_sure, last_sure, comes_sure, kept_sure, sides_sure, and_sure, turns_sure, count_sure, hand_sure, drop_value_sure, drop_sure, drops_sure, move_sure, lend_sure, from_sure, load_field_sure, load_element_sure, swap_field_sure, swap_element_sure, exchange_sure, store_sure}
 use Rattle.vale_object_sure.proofs.Ties.{Row, rows, Kept, Fell, Goes, both_true, went_kept, fell_twice, goes_fell, gone_after, falls_up, kept_wait}
@@ -91,6 +91,10 @@ module _ (p : Parts) (c : Code) (functions : List Function) (out : Gives) (calls
   links_copied env t x no_links e s = ap gives_of s ∙ e
   links_copied env t x (more_links (link z at o v) xs) e s = links_copied env z.value x xs (ap gives_of s.1 ∙ op_copied o t e) s.3
 
+  first_copied : (env : Env) (t x : Ty) (xs : Links) → has_operator xs → links_suit p c functions env t x xs → gives_of t ≡ copy
+  first_copied env t x no_links m s = absurd m
+  first_copied env t x (more_links (link z at o v) xs) m s = (operands o t (type v) s.0).0
+
   -- an operator and its operand
   link_sure : (o : BinaryOp) (x : Ty) (at : Spot) (place h : ℕ) (s : Scope) (g : Gone) (us ms : Locals) (operand : ℕ → ℕ → Gone → List Instr) (f : ℕ → Gone → After) → Kept (rows s) g us → ((k : ℕ) → h ≤ k → Goes (rows s) g us (f k g) ms) → own at (link_rules o us ms) ≡ []
       → ((q k : ℕ) → h ≤ k → Sure (operand q k g)) → Sure (link_code o x at operand f place h s g)
@@ -139,15 +143,13 @@ module _ (p : Parts) (c : Code) (functions : List Function) (out : Gives) (calls
         (lend_sure (find n.name.0 s) there.is g (y.frozen x) h there.found (there.there (rule_holds n.at 30 (is_whole n.name.0 ls) f)))
     node_sure (paren at e) used x q env h s g ls place st same free m u f =
         sure_if (agree q (gives_of (type e))) h (expr_code around e place h s g) (agree_same q (gives_of (type e)) (same ∙ ap gives_of u.0)) (expr_sure e env h s g ls place st m u.1 f)
-    node_sure (chain e no_links) used x q env h s g ls place st same free m u f = absurd m.0
-    node_sure (chain e (more_links (link z at o v) xs)) used x q env h s g ls place st same free m u f =
-        let all = more_links (link z at o v) xs in
+    node_sure (chain e xs) used x q env h s g ls place st same free m u f =
         let us = (expr_flow e ls).after in
-        let parts = none_in (expr_flow e ls).faults (links_flow all us).faults f in
-        let two = operands o (type e) (type v) u.1.0 in
-        sure_if (is_value (gives_of (type e)) && agree q copy) h _ (both_true (is_value (gives_of (type e))) (agree q copy) (copy_value (gives_of (type e)) two.0) (agree_same q copy (same ∙ links_copied env (type e) x all two.0 u.1)))
-        (then_sure (rows s) g ls us place (h + 1) (expr_code around e place h s g) (expr_after e h s g) (λ place g. links_code around all place h s g) (expr_sure e env h s g ls place st m.1 u.0 parts.0) (expr_goes e true h s g ls m.1 st.falls st.kept parts.0)
-        (λ r g' k. links_sure all env (type e) x h s g' us r (stands_on out env h s g ls st h g' us (omega arith) k) m.2 u.1 parts.1))
+        let parts = none_in (expr_flow e ls).faults (links_flow xs us).faults f in
+        let first = first_copied env (type e) x xs m.0 u.1 in
+        sure_if (is_value (gives_of (type e)) && agree q copy) h _ (both_true (is_value (gives_of (type e))) (agree q copy) (copy_value (gives_of (type e)) first) (agree_same q copy (same ∙ links_copied env (type e) x xs first u.1)))
+        (then_sure (rows s) g ls us place (h + 1) (expr_code around e place h s g) (expr_after e h s g) (λ place g. links_code around xs place h s g) (expr_sure e env h s g ls place st m.1 u.0 parts.0) (expr_goes e true h s g ls m.1 st.falls st.kept parts.0)
+        (λ r g' k. links_sure xs env (type e) x h s g' us r (stands_on out env h s g ls st h g' us (omega arith) k) m.2 u.1 parts.1))
     node_sure (unary at unary_op.Minus e) used x q env h s g ls place st same free m u f =
         sure_if (is_value (gives_of (type e)) && agree q copy) h _ (both_true (is_value (gives_of (type e))) (agree q copy) (copy_value (gives_of (type e)) (ap gives_of u.0)) (agree_same q copy (same ∙ ap gives_of u.1)))
         (last_sure place (h + 1) (expr_code around e place h s g) (expr_after e h s g) (λ place g. unary_code unary_op.Minus at h) (expr_sure e env h s g ls place st m u.2 f) (λ r g'. refl))
@@ -322,7 +324,7 @@ module _ (p : Parts) (c : Code) (functions : List Function) (out : Gives) (calls
 
     elses_sure : (es : Elses) (env : Env) (x : Ty) (q : Gives) (gone : Gone) (before : Locals) (z : Gone) (h : ℕ) (s : Scope) (g : Gone) (ls : Locals) (place : ℕ) → St env h s g ls → Kept (rows s) gone before → Fell (rows s) before z ls → q ≡ gives_of x → elses_mark es → elses_suit p c functions env x es
         → (elses_flow es ls).faults ≡ [] → branches_agree (elses_flow es ls).branches ≡ true → Sure (elses_code around q es gone place h s g)
-    elses_sure no_else env x q gone before z h s g ls place st kept fell same m u f a = sure_if (agree q g.void) h [] (agree_same q g.void (same ∙ ap gives_of u)) refl
+    elses_sure no_else env x q gone before z h s g ls place st kept fell same m u f a = sure_if (agree q sort.void) h [] (agree_same q sort.void (same ∙ ap gives_of u)) refl
     elses_sure (otherwise b) env x q gone before z h s g ls place st kept fell same m u f a = block_sure b env x q h (h + 1) s g ls place (stands_on out env h s g ls st (h + 1) g ls (omega arith) st.kept) same m u f
     elses_sure (more_elses (else_if at w b) es) env x q gone before z h s g ls place st kept fell same m u f a =
         let us = (expr_flow w ls).after in
@@ -350,7 +352,7 @@ module _ (p : Parts) (c : Code) (functions : List Function) (out : Gives) (calls
     block_sure (block at end z ss) env x q to h s g ls place st same m u f = stmts_sure ss end env x q to h s g ls place st same m u.1 f
 
     pub stmts_sure : (ss : Stmts) (end : Spot) (env : Env) (x : Ty) (q : Gives) (to h : ℕ) (s : Scope) (g : Gone) (ls : Locals) (place : ℕ) → St env h s g ls → q ≡ gives_of x → stmts_mark ss → stmts_suit p c functions env x ss → (stmts_flow ss ls).faults ≡ [] → Sure (stmts_code around q end ss place to h s g)
-    stmts_sure no_stmts end env x q to h s g ls place st same m u f = sure_if (agree q g.void) h [] (agree_same q g.void (same ∙ ap gives_of u)) refl
+    stmts_sure no_stmts end env x q to h s g ls place st same m u f = sure_if (agree q sort.void) h [] (agree_same q sort.void (same ∙ ap gives_of u)) refl
     stmts_sure (last e) end env x q to h s g ls place st same m u f =
         sure_if (agree q (gives_of (type e))) h _ (agree_same q (gives_of (type e)) (same ∙ ap gives_of (sym u.0)))
         (comes_sure place (expr_code around e place h s g) (expr_after e h s g) (λ place g. hand q to h) (expr_sure e env h s g ls place st m u.1 f) (λ r g'. hand_sure q to h))
@@ -386,11 +388,11 @@ module _ (p : Parts) (c : Code) (functions : List Function) (out : Gives) (calls
     stmt_sure (declare n x e) env h s g ls place d st m u f = absurd d
     stmt_sure (destructure at ns xs e) env h s g ls place d st m u f = absurd d
     stmt_sure (return_nothing at) env h s g ls place d st m u f =
-        sure_if (agree out g.void) h (drop_scope s g at ++ (i.RetVoid ∷ [])) (agree_same out g.void (st.gives ∙ ap gives_of u)) (sure_both (drop_scope s g at) (i.RetVoid ∷ []) (drops_sure s g at) refl)
+        sure_if (agree out sort.void) h (drop_scope s g at ++ (i.RetVoid ∷ [])) (agree_same out sort.void (st.gives ∙ ap gives_of u)) (sure_both (drop_scope s g at) (i.RetVoid ∷ []) (drops_sure s g at) refl)
     stmt_sure (return_value at e) env h s g ls place d st m u f =
         sure_if (is_value (gives_of (type e)) && agree out (gives_of (type e))) h _ (both_true (is_value (gives_of (type e))) (agree out (gives_of (type e))) (value_is (type e) m.0) (agree_same out (gives_of (type e)) (st.gives ∙ ap gives_of (sym u.0))))
         (comes_sure place (expr_code around e place h s g) (expr_after e h s g) (λ place g. drop_scope s g at ++ (i.Ret h ∷ [])) (expr_sure e env h s g ls place st m.1 u.1 f) (λ r g'. sure_both (drop_scope s g' at) (i.Ret h ∷ []) (drops_sure s g' at) refl))
-    stmt_sure (form_stmt v) env h s g ls place d st m u f = form_sure v env y.void g.void h s g ls place st refl m u f
+    stmt_sure (form_stmt v) env h s g ls place d st m u f = form_sure v env y.void sort.void h s g ls place st refl m u f
     stmt_sure (while at w b) env h s g ls place d st m u f =
         let us = (expr_flow w ls).after in
         let ms = (block_flow b us).after in
@@ -405,8 +407,8 @@ module _ (p : Parts) (c : Code) (functions : List Function) (out : Gives) (calls
         sure_if (is_value (gives_of (type w)) && (closes s g a && closes s g o)) h _
         (both_true (is_value (gives_of (type w))) (closes s g a && closes s g o) (copy_value (gives_of (type w)) (ap gives_of u.0))
         (both_true (closes s g a) (closes s g o) (still_closes s g ls us a st.kept goes alike.0) (closes_by s g us ms (block_returns b) o (λ e. block_never b (h + 1) s g e) kept (block_goes b (h + 1) s g us m.1 more kept two.0) alike.1)))
-        (turns_sure place h a (λ place. expr_code around w place h s g) (λ place. block_code around g.void b place h (h + 1) s g) (λ r. expr_sure w env h s g ls r st m.0 u.1 one.0)
-        (λ r. block_sure b env y.void g.void h (h + 1) s g us r (stands_on out env h s g ls st (h + 1) g us (omega arith) kept) refl m.1 u.2 two.0))
+        (turns_sure place h a (λ place. expr_code around w place h s g) (λ place. block_code around sort.void b place h (h + 1) s g) (λ r. expr_sure w env h s g ls r st m.0 u.1 one.0)
+        (λ r. block_sure b env y.void sort.void h (h + 1) s g us r (stands_on out env h s g ls st (h + 1) g us (omega arith) kept) refl m.1 u.2 two.0))
     stmt_sure (foreach at n a e (block start end t ss)) env h s g ls place d st m u f =
         let b = block start end t ss in
         let us = (expr_flow a ls).after in
@@ -421,12 +423,12 @@ module _ (p : Parts) (c : Code) (functions : List Function) (out : Gives) (calls
         sure_if (is_value (gives_of (type a)) && is_value (gives_of (type e))) h _ (both_true (is_value (gives_of (type a))) (is_value (gives_of (type e))) (copy_value (gives_of (type a)) (ap gives_of u.0)) (copy_value (gives_of (type e)) (ap gives_of u.1)))
         (then_sure (rows s) g ls us place (h + 1) (expr_code around a place h s g) (expr_after a h s g)
         (λ place g. then_code place (h + 2) (expr_code around e place (h + 1) s g) (expr_after e (h + 1) s g) (λ place g.
-        only_if (closes s g (block_after b (h + 2 + 1) inner (without (h + 2) g))) h (count_code place h at (block_after b (h + 2 + 1) inner (without (h + 2) g)) (λ place. block_code around g.void b place h (h + 2 + 1) inner (without (h + 2) g)))))
+        only_if (closes s g (block_after b (h + 2 + 1) inner (without (h + 2) g))) h (count_code place h at (block_after b (h + 2 + 1) inner (without (h + 2) g)) (λ place. block_code around sort.void b place h (h + 2 + 1) inner (without (h + 2) g)))))
         (expr_sure a env h s g ls place st m.0 u.2 two.0) (expr_goes a true h s g ls m.0 st.falls st.kept two.0)
         (λ r g1 k1.
         let st1 = stands_on out env h s g ls st (h + 1) g1 us (omega arith) k1 in
         then_sure (rows s) g1 us vs r (h + 2) (expr_code around e r (h + 1) s g1) (expr_after e (h + 1) s g1)
-        (λ place g. only_if (closes s g (block_after b (h + 2 + 1) inner (without (h + 2) g))) h (count_code place h at (block_after b (h + 2 + 1) inner (without (h + 2) g)) (λ place. block_code around g.void b place h (h + 2 + 1) inner (without (h + 2) g))))
+        (λ place g. only_if (closes s g (block_after b (h + 2 + 1) inner (without (h + 2) g))) h (count_code place h at (block_after b (h + 2 + 1) inner (without (h + 2) g)) (λ place. block_code around sort.void b place h (h + 2 + 1) inner (without (h + 2) g))))
         (expr_sure e env (h + 1) s g1 us r st1 m.1 u.3 two.1) (expr_goes e true (h + 1) s g1 us m.1 st1.falls st1.kept two.1)
         (λ r g2 k2.
         let st2 = stands_on out env h s g ls st (h + 2) g2 vs (omega arith) k2 in
@@ -434,7 +436,7 @@ module _ (p : Parts) (c : Code) (functions : List Function) (out : Gives) (calls
         let o = block_after b (h + 2 + 1) inner (without (h + 2) g2) in
         let leaves = leaves_pop (rows s) (h + 2) n.name.0 false g2 (record { name = n.name.0; whole = true }) vs (stmts_flow ss (declared n vs)).after o st2.falls (stmts_go ss (h + 2 + 1) inner (without (h + 2) g2) (declared n vs) m.2 st3.falls st3.kept three.0) in
         sure_if (closes s g2 o) h _ (closes_by s g2 vs ms returns o (λ e. block_never b (h + 2 + 1) inner (without (h + 2) g2) e) k2 (leaves_block (rows s) g2 vs (stmts_flow ss (declared n vs)).after o leaves) alike.1)
-        (count_sure r h at o (λ place. block_code around g.void b place h (h + 2 + 1) inner (without (h + 2) g2)) (λ r. stmts_sure ss end (with_local n int env) y.void g.void h (h + 2 + 1) inner (without (h + 2) g2) (declared n vs) r st3 refl m.2 u.4.1 three.0)))))
+        (count_sure r h at o (λ place. block_code around sort.void b place h (h + 2 + 1) inner (without (h + 2) g2)) (λ r. stmts_sure ss end (with_local n int env) y.void sort.void h (h + 2 + 1) inner (without (h + 2) g2) (declared n vs) r st3 refl m.2 u.4.1 three.0)))))
     stmt_sure (express (expr x (set at (expr z (name n is_outer moved)) e))) env h s g ls place d st m u f =
         let us = (expr_flow e ls).after in
         let q = gives_of (type e) in
