@@ -1,5 +1,5 @@
 -- The code of what is called is sure.
-use Rattle.std.proofs.Common.{◌≡◌, ℕ, zero, suc, ◌+◌, Bool, true, false, not, ◌&&◌, ◌==◌, nat_le, if◌then◌else◌, List, [], ◌∷◌, length, map, Option, Some, None, slice_get, ◌⊎◌, inl, inr, ⊎_elim, refl, sym, ap, ◌∙◌, subst}
+use Rattle.std.proofs.Common.{◌≡◌, ℕ, suc, ◌+◌, true, false, ◌&&◌, nat_le, List, [], ◌∷◌, length, refl, sym, ap, ◌∙◌, subst}
 use Rattle.std.proofs.lemmas.Bool.{and_parts}
 use Rattle.vale_base.specs.Limits.{width_limit}
 use Rattle.vale_base.specs.declared.spot.Spot.{Spot}
@@ -9,21 +9,19 @@ use Rattle.vale_syntax.specs.declared.tree.BinaryOp.{BinaryOp}
 use Rattle.vale_syntax.specs.declared.tree.BinaryOp.TheVariants as op
 use Rattle.vale_syntax.specs.declared.tree.NameAt.{NameAt}
 use Rattle.vale_rules_spec.specs.TypeRules.{is_bool, is_int, have_order, have_equality, takes_operands, link_gives}
-use Rattle.vale_rules_spec.specs.Types.{Ty, void, int, bool, str, kind, array, ref, imm, iso, same, is_void, is_copy, is_owned, View, shared, frozen}
+use Rattle.vale_rules_spec.specs.Types.{Ty, void, int, bool, str, kind, array, ref, imm, iso, same, is_copy, is_owned}
 use Rattle.vale_rules_spec.specs.Typed.{Callee, built_in, constructor, function, Exprs, no_exprs, more_exprs, Function, type, types}
 use Rattle.vale_model.specs.Parts.{Parts, has_name, first_function, kind_of}
 use Rattle.vale_code.specs.Parts.{Parts as Code}
-use Rattle.vale_code.specs.declared.instr.Instr.{Instr}
 use Rattle.vale_code.specs.declared.instr.Instr.TheVariants as i
-use Rattle.vale_lowering.specs.Instructions as plain
 use Rattle.vale_lowering.specs.Instructions.{registers_from, operator}
 use Rattle.vale_lowering.specs.Scopes.{number_of_function}
-use Rattle.vale_lowering_objects.specs.Lowered.{all_gives, gives_list, first_type, may_be_called, is_copied, are_copied, len_code, copies_code, built_in_code, make_code, callee_code}
+use Rattle.vale_lowering_objects.specs.Lowered.{all_gives, gives_list, may_be_called, len_code, built_in_code, make_code, callee_code}
 use Rattle.vale_lowering_objects.specs.Scopes.{Gives, copy, owner, gives_of, is_value, is_owner, agree, all_agree, Around}
 use Rattle.vale_lowering_objects.specs.Scopes as g
-use Rattle.vale_object_facts.specs.Suits.{HasItems, refers, measured, built_in_suits, IsCalled, callee_suits, Sure}
+use Rattle.vale_object_facts.specs.Suits.{built_in_suits, IsCalled, callee_suits, Sure}
 use Rattle.vale_object_sure.proofs.Entries.{value_is}
-use Rattle.vale_object_sure.proofs.Marks.{are_values, takes_value}
+use Rattle.vale_object_sure.proofs.Marks.{takes_value}
 use Rattle.vale_object_sure.proofs.Shapes.{sure_if}
 use Rattle.vale_object_sure.proofs.Ties.{both_true}
 

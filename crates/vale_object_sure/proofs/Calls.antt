@@ -1,8 +1,7 @@
 -- What lowered code calls may be called.
-use Rattle.std.proofs.Common.{◌≡◌, ℕ, suc, Bool, true, false, ◌&&◌, if◌then◌else◌, List, [], ◌∷◌, map, Option, Some, None, option_map, slice_get, refl, sym, ap, ◌∙◌, subst}
+use Rattle.std.proofs.Common.{◌≡◌, ℕ, suc, Bool, true, false, ◌&&◌, if◌then◌else◌, List, [], ◌∷◌, map, Option, Some, None, option_map, slice_get, refl, sym, ap, ◌∙◌}
 use Rattle.std.proofs.lemmas.Option.{slice_get-map}
 use Rattle.vale_syntax.specs.Tree.{Param}
-use Rattle.vale_syntax.specs.declared.tree.NameAt.{NameAt}
 use Rattle.vale_rules_spec.specs.Declarations.{head_params, param_type}
 use Rattle.vale_rules_spec.specs.Types.{Ty, void, int, bool, str, kind, array, ref, imm, iso, type_of}
 use Rattle.vale_rules_spec.specs.Typed.{Function}
@@ -17,7 +16,7 @@ use Rattle.vale_lowering_objects.specs.Lowered.{all_gives, param_gives_of, resul
 use Rattle.vale_lowering_objects.specs.Program.{code_type}
 use Rattle.vale_lowering_objects.specs.Scopes.{Gives, copy, owner, gives_of, agree, all_agree}
 use Rattle.vale_lowering_objects.specs.Scopes as g
-use Rattle.vale_object_facts.specs.Suits.{IsCalled, code_types}
+use Rattle.vale_object_facts.specs.Suits.{code_types}
 use Rattle.vale_object_sure.proofs.Callees.{AllCallable, agree_same}
 use Rattle.vale_object_sure.proofs.Ties.{both_true}
 

@@ -1,27 +1,26 @@
 -- What is gone after a part that breaks no rule of ownership is what it moved: by induction on the typed tree.
-use Rattle.std.proofs.Common.{◌≡◌, ℕ, ◌+◌, ◌-◌, ◌<◌, ◌≤◌, Bool, true, false, ◌&&◌, ◌||◌, List, [], ◌∷◌, ◌++◌, length, drop, Some, None, Option, if◌then◌else◌, refl, sym, ap, ◌∙◌, subst, arith, append_assoc}
+use Rattle.std.proofs.Common.{◌≡◌, ℕ, ◌+◌, ◌-◌, ◌<◌, ◌≤◌, Bool, true, false, ◌&&◌, ◌||◌, List, [], ◌∷◌, ◌++◌, length, drop, Some, None, Option, refl, sym, ap, ◌∙◌, subst, arith, append_assoc}
 use Rattle.std.proofs.lemmas.Bool.{and_parts}
 use Rattle.std.proofs.Math.Seq.{drop-append_seam}
 use Rattle.vale_base.specs.declared.spot.Spot.{Spot}
-use Rattle.vale_syntax.specs.declared.fault.Fault.{Fault}
 use Rattle.vale_syntax.specs.declared.tree.BinaryOp.{BinaryOp}
 use Rattle.vale_syntax.specs.declared.tree.BinaryOp.TheVariants as op
 use Rattle.vale_syntax.specs.declared.tree.NameAt.{NameAt}
 use Rattle.vale_syntax.specs.declared.tree.UnaryOp.TheVariants as unary_op
 use Rattle.vale_model.specs.Expressions.{numbers_of}
-use Rattle.vale_rules_spec.specs.Judged.{Rules, broken, fault_of, own}
-use Rattle.vale_rules_spec.specs.Owned.{Flow, still, ◌then◌, Branches, add_branch, all_alike, agree, behind, Sides, link_rules, loop_rules, name_flow, expr_flow, node_flow, exprs_flow, links_flow, step_flow, steps_flow, form_flow, elses_flow, block_flow, body_flow, stmts_flow, stmt_flow}
+use Rattle.vale_rules_spec.specs.Judged.{broken, fault_of, own}
+use Rattle.vale_rules_spec.specs.Owned.{still, add_branch, agree, link_rules, loop_rules, expr_flow, node_flow, exprs_flow, links_flow, step_flow, steps_flow, form_flow, elses_flow, block_flow, body_flow, stmts_flow, stmt_flow}
 use Rattle.vale_rules_spec.specs.Returns.{block_returns}
 use Rattle.vale_rules_spec.specs.Types.{Ty, View}
 use Rattle.vale_rules_spec.specs.Typed.{Expr, expr, Node, set, chain, unary, steps, number, quote, truth, name, call, paren, array, iso, form, Exprs, no_exprs, more_exprs, link, Links, no_links, more_links, Step, field, method, index, Steps, no_steps, more_steps, Form, branch, pure, parallel_range, parallel_each, else_if, Elses, no_else, otherwise, more_elses, Block, block, Stmt, declare, destructure, return_nothing, return_value, while, foreach, form_stmt, express, Stmts, no_stmts, last, more_stmts, type}
-use Rattle.vale_rules_spec.specs.Whole.{Local, Locals, declared, all_declared, is_whole, moved, outer, are_alike}
+use Rattle.vale_rules_spec.specs.Whole.{Local, Locals, declared, all_declared, is_whole, outer, are_alike}
 use Rattle.vale_lowering_objects.specs.Changes.{step_changes}
 use Rattle.vale_lowering_objects.specs.Lowered.{all_gives, locals_after, loop_after, link_after, step_view, stays_of, free_register, expr_after, node_after, start_after, step_after, steps_after, place_after, targets_after, args_after, links_after, form_after, elses_after, block_after, stmts_after, stmt_after}
-use Rattle.vale_lowering_objects.specs.Scopes.{Gives, gives_of, is_owner, Scope, entry, waiting, find, Gone, without, After, comes, never, no_run, then_after, met}
+use Rattle.vale_lowering_objects.specs.Scopes.{Gives, gives_of, is_owner, Scope, entry, waiting, find, Gone, without, After, comes, never, then_after, met}
 use Rattle.vale_object_sure.proofs.Marks.{are_locals, expr_marks, node_marks, place_marks, exprs_mark, links_mark, step_marks, steps_mark, form_marks, elses_mark, block_marks, stmts_mark, stmt_marks}
-use Rattle.vale_object_sure.proofs.Never.{IsNever, block_never}
-use Rattle.vale_object_sure.proofs.Ties.{Row, waits, holds, rows, Falls, Kept, Fell, Went, Goes, went_same, fell_same, went_fell, went_kept, fell_kept, goes_then, goes_no_more, gone_after, goes_fell, fell_length, falls_up, kept_push, kept_wait, goes_pop, goes_wait, goes_out, after_went, after_fell, fell_twice}
-use Rattle.vale_object_sure.proofs.Ways.{Met, Rest, rest_of, join, met_then, other_side, met_goes, agree_less, still_goes}
+use Rattle.vale_object_sure.proofs.Never.{block_never}
+use Rattle.vale_object_sure.proofs.Ties.{Row, holds, rows, Falls, Kept, Fell, Goes, went_same, fell_same, went_fell, went_kept, fell_kept, goes_then, goes_no_more, gone_after, goes_fell, fell_length, falls_up, kept_push, kept_wait, goes_pop, goes_wait, goes_out, after_went, after_fell, fell_twice}
+use Rattle.vale_object_sure.proofs.Ways.{Rest, rest_of, join, met_then, other_side, met_goes, agree_less, still_goes}
 
 -- ---- faults
 

@@ -10,21 +10,21 @@ use Rattle.vale_syntax.specs.declared.tree.UnaryOp.{UnaryOp}
 use Rattle.vale_syntax.specs.declared.tree.UnaryOp.TheVariants as u
 use Rattle.vale_syntax.specs.declared.tree.BinaryOp.{BinaryOp}
 use Rattle.vale_syntax.specs.declared.tree.BinaryOp.TheVariants as o
-use Rattle.vale_syntax.specs.Tree.{Expr, set, chain, unary, steps, number, quote, truth, name, call, paren, array, iso, form, Exprs, no_exprs, more_exprs, Link, link, Links, no_links, more_links, Step, field, method, index, Steps, no_steps, more_steps, Form, branch, pure, parallel_range, parallel_each, ElseIf, else_if, Elses, no_else, otherwise, more_elses, Block, block, Stmt, declare, destructure, return_nothing, return_value, while, foreach, form_stmt, express, Stmts, no_stmts, last, more_stmts, FieldDecl, Param, param, Item}
-use Rattle.vale_rules_spec.specs.Declarations.{field_type, param_type, head_params}
+use Rattle.vale_syntax.specs.Tree.{Expr, set, chain, unary, steps, number, quote, truth, name, call, paren, array, iso, form, Exprs, no_exprs, more_exprs, Link, link, Links, no_links, more_links, Step, field, method, index, Steps, no_steps, more_steps, Form, branch, pure, parallel_range, parallel_each, ElseIf, else_if, Elses, no_else, otherwise, more_elses, Block, block, Stmt, declare, destructure, return_nothing, return_value, while, foreach, form_stmt, express, Stmts, no_stmts, last, more_stmts, FieldDecl, Item}
+use Rattle.vale_rules_spec.specs.Declarations.{field_type}
 use Rattle.vale_rules_spec.specs.Judged.{Judged, fine, faulty, broken, both, node, plain as plain_node, scoped, ◌⇒◌}
 use Rattle.vale_rules_spec.specs.Types.{Ty, void, int, bool, str, same, is_void, is_owned, type_of, Seen, a_value, seen_object, is_loose, Local, local_of, is_visible, fits, local_seen, is_outer, is_movable, view_here, as_frozen, object_of}
 use Rattle.vale_rules_spec.specs.Types as y
 use Rattle.vale_rules_spec.specs.Typed as t
-use Rattle.vale_rules_spec.specs.TypeRules.{is_bool, is_int, name_rules, new_name_rules, declare_rules, link_rules, link_gives, unary_rules, unary_gives, borrow_gives, is_owned_place, called, callee, called_rules, called_gives, method_rules, methods_seen, fields_seen, elements_seen, field_rules, index_rules, part_of, stays_in_place, array_rules, set_rules, set_gives, iso_rules, branch_rules, bounds_rules, void_rules, condition_rules, consumed_rules, isolate_in, method_gives, return_nothing_rules, return_value_rules, parallel_gives, struct_fields, field_types, destructure_rules}
+use Rattle.vale_rules_spec.specs.TypeRules.{is_int, name_rules, declare_rules, link_rules, link_gives, unary_rules, unary_gives, borrow_gives, is_owned_place, called, callee, called_rules, called_gives, method_rules, methods_seen, fields_seen, elements_seen, field_rules, index_rules, part_of, stays_in_place, array_rules, set_rules, set_gives, iso_rules, branch_rules, bounds_rules, void_rules, condition_rules, consumed_rules, isolate_in, method_gives, return_nothing_rules, return_value_rules, parallel_gives, struct_fields, field_types, destructure_rules}
 use Rattle.vale_rules_spec.specs.Takes.{is_value_under}
 use Rattle.vale_rules_spec.specs.Typing.{Env, with_local, with_locals, after, deeper, named, name_in, index_view, is_used, form_spot, isolate_of, type_in, is_settable, expr, exprs, operand, links, step, steps_from, in_form, in_else_if, elses, in_block, void_block, stmts, stmt, new_name, new_names}
 use Rattle.vale_object_kinds.proofs.Holds.{Holds, Pair, holds_leaf, holds_node, holds_plain, holds_both, holds_over}
 use Rattle.vale_lowering_objects.specs.Scopes.{copy, gives_of}
 use Rattle.vale_object_typed.specs.Covered.{expr_is_covered, node_is_covered, exprs_are_covered, links_are_covered, step_is_covered, steps_are_covered, form_is_covered, elses_are_covered, block_is_covered, stmts_are_covered, stmt_is_covered}
 use Rattle.vale_object_sure.specs.Lawful.{count, expr_is_lawful, exprs_are_lawful, link_is_lawful, links_are_lawful, step_is_lawful, steps_are_lawful, form_is_lawful, else_if_is_lawful, elses_are_lawful, block_is_lawful, stmts_are_lawful, stmt_is_lawful}
-use Rattle.vale_object_sure.proofs.Marks.{are_values, are_locals, takes_value, expr_marks, node_marks, place_marks, exprs_mark, links_mark, step_marks, steps_mark, form_marks, elses_mark, block_marks, stmts_mark, stmt_marks}
-use Rattle.vale_object_sure.proofs.Values.{Solid, AllSolid, IsValue, SomeSolid, SomeValue, IsSolid, rule_kept, one_rule, asked, not_true, written, fields_values, value_solid, local_solid, solid_part, field_value, element_value, stays, fits_value, elements_values, call_solid}
+use Rattle.vale_object_sure.proofs.Marks.{are_locals, expr_marks, place_marks, exprs_mark, links_mark, step_marks, steps_mark, form_marks, elses_mark, block_marks, stmts_mark, stmt_marks}
+use Rattle.vale_object_sure.proofs.Values.{Solid, AllSolid, IsValue, SomeSolid, SomeValue, IsSolid, rule_kept, one_rule, asked, not_true, written, value_solid, local_solid, solid_part, field_value, element_value, stays, fits_value, elements_values, call_solid}
 
 -- ---- locals
 

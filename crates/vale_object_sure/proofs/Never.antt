@@ -1,10 +1,10 @@
 -- No run comes after a block that always returns.
-use Rattle.std.proofs.Common.{◌≡◌, ℕ, ◌+◌, Bool, true, false, ◌||◌, ◌&&◌, List, [], ◌∷◌, ◌⊎◌, inl, inr, ⊎_elim, refl}
+use Rattle.std.proofs.Common.{◌≡◌, ℕ, ◌+◌, Bool, true, false, ◌||◌, List, [], ◌∷◌, ◌⊎◌, inl, inr, ⊎_elim, refl}
 use Rattle.std.proofs.lemmas.Bool.{and_parts}
 use Rattle.vale_model.specs.Expressions.{numbers_of}
-use Rattle.vale_rules_spec.specs.Returns.{block_returns, stmts_return, stmt_returns, expr_returns, node_returns, form_returns, elses_return}
-use Rattle.vale_rules_spec.specs.Typed.{Expr, expr, Node, set, chain, unary, steps, number, quote, truth, name, call, paren, array, iso, form, Form, branch, pure, parallel_range, parallel_each, else_if, Elses, no_else, otherwise, more_elses, Block, block, Stmt, declare, destructure, return_nothing, return_value, while, foreach, form_stmt, express, Stmts, no_stmts, last, more_stmts}
-use Rattle.vale_lowering_objects.specs.Lowered.{all_gives, locals_after, expr_after, node_after, form_after, elses_after, block_after, stmts_after, stmt_after}
+use Rattle.vale_rules_spec.specs.Returns.{block_returns, stmts_return, expr_returns, form_returns, elses_return}
+use Rattle.vale_rules_spec.specs.Typed.{Expr, expr, form, Form, branch, pure, parallel_range, parallel_each, else_if, Elses, no_else, otherwise, more_elses, Block, block, declare, destructure, return_nothing, return_value, while, foreach, form_stmt, express, Stmts, no_stmts, last, more_stmts}
+use Rattle.vale_lowering_objects.specs.Lowered.{all_gives, locals_after, expr_after, form_after, elses_after, block_after, stmts_after, stmt_after}
 use Rattle.vale_lowering_objects.specs.Scopes.{Gives, gives_of, Scope, entry, Gone, without, After, comes, never, no_run, then_after, met}
 
 abbrev pub IsNever : After → Type 0

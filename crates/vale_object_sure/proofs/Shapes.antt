@@ -1,17 +1,15 @@
 -- Code is sure where what it is put together of is.
-use Rattle.std.proofs.Common.{◌≡◌, ℕ, zero, suc, ◌+◌, pos, Bool, true, false, not, ◌&&◌, if◌then◌else◌, List, [], ◌∷◌, ◌++◌, length, Option, Some, None, refl, sym, ap, ◌∙◌, subst}
+use Rattle.std.proofs.Common.{◌≡◌, ℕ, ◌+◌, pos, Bool, true, false, not, ◌&&◌, if◌then◌else◌, List, [], ◌∷◌, ◌++◌, length, Option, Some, refl, sym, ◌∙◌, subst}
 use Rattle.std.specs.List.{list_all}
 use Rattle.std.proofs.lemmas.List.Folds.{list_all-append}
 use Rattle.vale_base.specs.declared.spot.Spot.{Spot}
-use Rattle.vale_syntax.specs.declared.tree.BinaryOp.{BinaryOp}
-use Rattle.vale_syntax.specs.declared.tree.BinaryOp.TheVariants as op
 use Rattle.vale_rules_spec.specs.Types as y
 use Rattle.vale_rules_spec.specs.Whole.{Locals}
 use Rattle.vale_code.specs.declared.instr.Instr.{Instr}
 use Rattle.vale_code.specs.declared.instr.Instr.TheVariants as i
 use Rattle.vale_lowering.specs.Instructions.{only_if, loop_code, and_code}
 use Rattle.vale_lowering_objects.specs.Lowered.{dead_code, then_code, if_comes, jump_over, sides, turns_code, count_code, hand, move_out, Origin, at_hand, reference, origin_of, lend, lend_local, is_there, from_local, load_field, load_element, swap_field, swap_element, exchange_by, exchange, store_by, store, drop_value, drop_entry, drop_scope, free_register}
-use Rattle.vale_lowering_objects.specs.Scopes.{Gives, void, copy, owner, is_value, is_owner, agree, Entry, Scope, Gone, is_gone, same_truth, After, comes, never}
+use Rattle.vale_lowering_objects.specs.Scopes.{Gives, void, copy, owner, is_value, is_owner, Entry, Scope, Gone, is_gone, same_truth, After, comes, never}
 use Rattle.vale_object_facts.specs.Suits.{is_sure, Sure}
 use Rattle.vale_object_sure.proofs.Ties.{Row, Kept, Goes, went_kept, fell_kept, both_true, truth_itself}
 

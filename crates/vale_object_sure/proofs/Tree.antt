@@ -1,5 +1,5 @@
 -- The code of a typed tree that keeps the rules of types and of ownership is sure: by induction on the tree.
-use Rattle.std.proofs.Common.{◌≡◌, ℕ, ◌+◌, ◌<◌, ◌≤◌, Bool, true, false, not, ◌&&◌, ◌||◌, nat_le, if◌then◌else◌, List, [], ◌∷◌, ◌++◌, length, Option, Some, None, refl, sym, ap, ◌∙◌, subst, arith}
+use Rattle.std.proofs.Common.{◌≡◌, ℕ, ◌+◌, ◌≤◌, Bool, true, false, ◌&&◌, ◌||◌, List, [], ◌∷◌, ◌++◌, length, refl, sym, ap, ◌∙◌, subst, arith}
 use Rattle.std.proofs.lemmas.Bool.{and_parts}
 use Rattle.vale_base.specs.declared.spot.Spot.{Spot}
 use Rattle.vale_syntax.specs.declared.tree.BinaryOp.{BinaryOp}
@@ -10,13 +10,12 @@ use Rattle.vale_text.specs.Operations.{is_int}
 use Rattle.vale_rules_spec.specs.Judged.{own}
 use Rattle.vale_rules_spec.specs.Owned.{still, add_branch, agree as branches_agree, link_rules, loop_rules, expr_flow, node_flow, exprs_flow, links_flow, step_flow, steps_flow, form_flow, elses_flow, block_flow, body_flow, stmts_flow, stmt_flow}
 use Rattle.vale_rules_spec.specs.Returns.{block_returns}
-use Rattle.vale_rules_spec.specs.TypeRules.{takes_operands, link_gives}
 use Rattle.vale_rules_spec.specs.Types.{Ty, int, bool, array, is_void, is_owned, View, Local as TypedLocal}
 use Rattle.vale_rules_spec.specs.Types as y
 use Rattle.vale_rules_spec.specs.Typed.{Expr, expr, Node, set, chain, unary, steps, number, quote, truth, name, call, paren, iso, form, Function, Exprs, no_exprs, more_exprs, link, Links, no_links, more_links, Step, field, method, index, Steps, no_steps, more_steps, Form, branch, pure, parallel_range, parallel_each, else_if, Elses, no_else, otherwise, more_elses, Block, block, Stmt, declare, destructure, return_nothing, return_value, while, foreach, form_stmt, express, Stmts, no_stmts, last, more_stmts, type, types, step_seen}
 use Rattle.vale_rules_spec.specs.Typed as tree
-use Rattle.vale_rules_spec.specs.Typing.{Env, with_local, with_locals, after}
-use Rattle.vale_rules_spec.specs.Whole.{Local, Locals, declared, all_declared, is_whole, outer, are_alike}
+use Rattle.vale_rules_spec.specs.Typing.{Env, with_local, with_locals}
+use Rattle.vale_rules_spec.specs.Whole.{Locals, declared, all_declared, is_whole, are_alike}
 use Rattle.vale_model.specs.Expressions.{expr_spot, numbers_of}
 use Rattle.vale_model.specs.Parts.{Parts, field_place}
 use Rattle.vale_code.specs.Parts.{Parts as Code}
@@ -26,18 +25,18 @@ use Rattle.vale_lowering.specs.Instructions.{unary_code, registers_from, operato
 use Rattle.vale_lowering.specs.Texts.{is_lawful_text}
 use Rattle.vale_lowering.specs.Scopes.{number_of_text}
 use Rattle.vale_lowering_objects.specs.Changes.{step_changes}
-use Rattle.vale_lowering_objects.specs.Lowered.{all_gives, locals_after, link_after, step_view, stays_of, free_register, expr_after, node_after, start_after, step_after, steps_after, place_after, targets_after, args_after, links_after, form_after, elses_after, block_after, stmts_after, stmt_after, Origin, reference, hand, drop_entry, drop_value, drop_scope, gives_list, first_type, truth_number, locals_code, make_code, callee_code, link_code, load_field, load_element, swap_field, swap_element, lend_local, move_out, store, count_code, turns_code, sides, if_comes, then_code, expr_code, node_code, borrow_code, start_code, step_code, steps_code, place_code, targets_code, swap_code, args_code, links_code, form_code, elses_code, block_code, stmts_code, stmt_code}
+use Rattle.vale_lowering_objects.specs.Lowered.{all_gives, locals_after, link_after, step_view, stays_of, free_register, expr_after, node_after, start_after, step_after, args_after, elses_after, block_after, stmts_after, stmt_after, Origin, reference, hand, drop_entry, drop_value, drop_scope, gives_list, first_type, truth_number, locals_code, make_code, callee_code, link_code, load_element, swap_element, lend_local, move_out, store, count_code, sides, if_comes, then_code, expr_code, node_code, borrow_code, start_code, step_code, steps_code, place_code, targets_code, swap_code, args_code, links_code, form_code, elses_code, block_code, stmts_code, stmt_code}
 use Rattle.vale_lowering_objects.specs.Scopes.{Gives, copy, owner, gives_of, is_value, is_owner, agree, Scope, entry, waiting, find, Gone, without, After, comes, never, met, may_meet, closes, Around}
 use Rattle.vale_lowering_objects.specs.Scopes as sort
 use Rattle.vale_object_facts.specs.Stands.{lent}
 use Rattle.vale_object_facts.specs.Suits.{Sure, IsLocal, refers, expr_suits, node_suits, lent_suits, start_suits, step_suits, steps_suit, place_suits, targets_suit, set_suits, exprs_suit, links_suit, form_suits, elses_suit, block_suits, stmts_suit, stmt_suits}
-use Rattle.vale_object_sure.proofs.Callees.{agree_same, gives_types, many_gives, operands, op_copied, Runs, operator_sure, AllCallable, callee_sure, make_sure}
+use Rattle.vale_object_sure.proofs.Callees.{agree_same, gives_types, operands, op_copied, operator_sure, AllCallable, callee_sure, make_sure}
 use Rattle.vale_object_sure.proofs.Entries.{IsThere, look_up, owner_is, value_is, Stands, stands_on, stands_wait, stands_push}
-use Rattle.vale_object_sure.proofs.Flow.{none_in, rule_holds, expr_goes, node_goes, start_goes, step_goes, steps_go, place_goes, args_go, links_go, form_goes, elses_go, block_goes, stmts_go, stmt_goes, link_goes, Leaves, leaves_block, leaves_pop, Plain, free_above}
-use Rattle.vale_object_sure.proofs.Marks.{has_operator, are_values, are_locals, takes_value, expr_marks, node_marks, place_marks, exprs_mark, links_mark, step_marks, steps_mark, form_marks, elses_mark, block_marks, stmts_mark, stmt_marks}
+use Rattle.vale_object_sure.proofs.Flow.{none_in, rule_holds, expr_goes, node_goes, start_goes, step_goes, elses_go, block_goes, stmts_go, stmt_goes, link_goes, leaves_block, leaves_pop, Plain, free_above}
+use Rattle.vale_object_sure.proofs.Marks.{has_operator, are_values, are_locals, expr_marks, node_marks, place_marks, exprs_mark, links_mark, step_marks, steps_mark, form_marks, elses_mark, block_marks, stmts_mark, stmt_marks}
 use Rattle.vale_object_sure.proofs.Never.{IsNever, block_never}
-use Rattle.vale_object_sure.proofs.Shapes.{sure_more, sure_both, sure_if, then_sure, last_sure, comes_sure, kept_sure, sides_sure, and_sure, turns_sure, count_sure, hand_sure, drop_value_sure, drop_sure, drops_sure, move_sure, lend_sure, from_sure, load_field_sure, load_element_sure, swap_field_sure, swap_element_sure, exchange_sure, store_sure}
-use Rattle.vale_object_sure.proofs.Ties.{Row, rows, Kept, Fell, Goes, both_true, went_kept, fell_twice, goes_fell, gone_after, falls_up, kept_wait}
+use Rattle.vale_object_sure.proofs.Shapes.{sure_both, sure_if, then_sure, last_sure, comes_sure, kept_sure, sides_sure, and_sure, turns_sure, count_sure, hand_sure, drop_value_sure, drop_sure, drops_sure, move_sure, lend_sure, from_sure, load_field_sure, load_element_sure, swap_field_sure, swap_element_sure, exchange_sure, store_sure}
+use Rattle.vale_object_sure.proofs.Ties.{rows, Kept, Fell, Goes, both_true, went_kept, fell_twice, goes_fell, gone_after, falls_up}
 use Rattle.vale_object_sure.proofs.Values.{copied, owns}
 use Rattle.vale_object_sure.proofs.Ways.{agree_less, sides_meet, still_closes, still_goes}
 

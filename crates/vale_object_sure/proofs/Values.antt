@@ -1,20 +1,19 @@
 -- Which types have values: what is read of arrays and fields, and what fits where a value is wanted.
-use Rattle.std.proofs.Common.{◌≡◌, ℕ, suc, Bool, true, false, not, ◌&&◌, ◌||◌, ◌==◌, List, [], ◌∷◌, length, Option, Some, None, is_some, if◌then◌else◌, refl, sym, ap, ◌∙◌, subst}
+use Rattle.std.proofs.Common.{◌≡◌, ℕ, Bool, true, false, not, ◌&&◌, ◌||◌, ◌==◌, List, [], ◌∷◌, length, Option, Some, None, is_some, if◌then◌else◌, refl, sym, ap, ◌∙◌}
 use Rattle.std.specs.List.{list_all}
-use Rattle.std.specs.Option.{option_and_then, option_map, option_map_or}
-use Rattle.std.proofs.lemmas.Bool.{and_parts, eqb-true}
+use Rattle.std.proofs.lemmas.Bool.{and_parts}
 use Rattle.vale_syntax.specs.declared.built_in.BuiltIn.{BuiltIn}
 use Rattle.vale_syntax.specs.declared.built_in.BuiltIn.TheVariants as b
 use Rattle.vale_syntax.specs.declared.tree.NameAt.{NameAt}
-use Rattle.vale_syntax.specs.Tree.{TypeExpr, int_type, bool_type, str_type, named_type, array_type, ref_type, imm_ref_type, iso_type, FieldDecl, field_decl, Param, param, Head, head, Item}
+use Rattle.vale_syntax.specs.Tree.{TypeExpr, int_type, bool_type, str_type, named_type, array_type, ref_type, imm_ref_type, iso_type, FieldDecl, Param, Head, head, Item}
 use Rattle.vale_rules_spec.specs.Declarations.{field_type, param_type, head_params}
 use Rattle.vale_rules_spec.specs.Judged.{Rules, broken, ◌⇒◌}
 use Rattle.vale_rules_spec.specs.TypeRules.{is_int, arity, takes_arguments, is_array_ref, popped, built_in_gives, all_fit, as_many, field_types, param_types, head_gives, is_pure_head, called_rules, called_gives, callee, Called, nothing, language, struct, program, is_owned_place, borrow_gives, array_in, part_of, stays_in_place}
-use Rattle.vale_rules_spec.specs.Types.{Ty, void, int, bool, str, kind, array, ref, imm, iso, type_of, result_of, same, is_void, is_copy, is_owned, View, blind, direct, shared, frozen, seen_object, Seen, a_value, value_view, view_here, as_frozen, as_shared, part_seen, object_of, Local, local_of, local_seen, fits, fits_argument}
+use Rattle.vale_rules_spec.specs.Types.{Ty, void, int, bool, str, kind, array, ref, imm, iso, type_of, result_of, same, is_void, is_copy, is_owned, View, blind, direct, shared, frozen, seen_object, Seen, a_value, view_here, as_frozen, as_shared, part_seen, object_of, Local, local_seen, fits, fits_argument}
 use Rattle.vale_rules_spec.specs.Typing.{type_in}
 use Rattle.vale_lowering_objects.specs.Scopes as g
 use Rattle.vale_lowering_objects.specs.Scopes.{Gives, copy, gives_of}
-use Rattle.vale_object_sure.proofs.Marks.{are_values, are_locals, takes_value}
+use Rattle.vale_object_sure.proofs.Marks.{are_values, takes_value}
 
 -- ---- rows
 

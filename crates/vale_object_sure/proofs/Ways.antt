@@ -1,11 +1,11 @@
 -- The branches of an `if`: what is gone where they meet.
-use Rattle.std.proofs.Common.{◌≡◌, ℕ, Bool, true, false, ◌&&◌, List, [], ◌∷◌, refl, sym, ap, ◌∙◌, subst}
+use Rattle.std.proofs.Common.{◌≡◌, Bool, true, false, ◌&&◌, List, [], ◌∷◌, refl, sym, ap, ◌∙◌, subst}
 use Rattle.std.proofs.lemmas.Bool.{and_parts}
 use Rattle.vale_rules_spec.specs.Owned.{Branches, add_branch, all_alike, agree, behind}
 use Rattle.vale_rules_spec.specs.Whole.{Locals, are_alike}
-use Rattle.vale_lowering_objects.specs.Scopes.{Scope, Gone, same_gone, After, comes, never, no_run, then_after, met, may_meet, closes}
+use Rattle.vale_lowering_objects.specs.Scopes.{Scope, Gone, After, comes, never, no_run, then_after, met, may_meet, closes}
 use Rattle.vale_object_sure.proofs.Never.{IsNever}
-use Rattle.vale_object_sure.proofs.Ties.{Row, rows, Kept, Fell, Went, Goes, went_same, fell_same, went_fell, went_kept, fell_kept, went_twice, fell_twice, fell_from, gone_after, goes_fell, alike_both, alike_itself, went_alike, went_gone}
+use Rattle.vale_object_sure.proofs.Ties.{Row, rows, Kept, Fell, Went, Goes, went_same, fell_same, went_fell, went_kept, fell_kept, went_twice, fell_twice, fell_from, alike_both, alike_itself, went_alike, went_gone}
 
 -- a run comes after one of the branches, and this is gone there
 abbrev pub Led : List Row → Gone → Locals → Branches → Gone → Type 0

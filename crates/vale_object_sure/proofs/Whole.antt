@@ -1,12 +1,11 @@
 -- The bodies of a program that keeps the rules are sure.
-use Rattle.std.proofs.Common.{◌≡◌, ℕ, zero, suc, ◌+◌, ◌≤◌, Bool, true, false, not, List, [], ◌∷◌, ◌++◌, length, Option, Some, refl, sym, ap, ◌∙◌, subst, arith}
+use Rattle.std.proofs.Common.{◌≡◌, ℕ, zero, suc, ◌+◌, ◌≤◌, Bool, true, false, not, List, [], ◌∷◌, ◌++◌, length, Some, refl, sym, ap, ◌∙◌, subst, arith}
 use Rattle.std.specs.Prelude.{slice_get, flat_map}
-use Rattle.std.specs.List.{list_any}
 use Rattle.vale_syntax.specs.declared.fault.Fault.{Fault}
-use Rattle.vale_syntax.specs.Tree.{Head, head, Param, param, Function, function, Item, struct_item, interface_item, impl_item, function_item, tree}
+use Rattle.vale_syntax.specs.Tree.{Head, head, Param, param, Function, function, Item, struct_item, interface_item, impl_item, function_item}
 use Rattle.vale_rules_spec.specs.Declarations.{head_name, head_params}
-use Rattle.vale_rules_spec.specs.Judged.{Judged, fine, faulty, both, unless, own, broken, ◌⇒◌, plain as plain_node}
-use Rattle.vale_rules_spec.specs.Owned.{function_flow, function_faults, drop_rules, item_faults, items_faults, method_faults, owned}
+use Rattle.vale_rules_spec.specs.Judged.{Judged, fine, faulty, both, unless, own, ◌⇒◌, plain as plain_node}
+use Rattle.vale_rules_spec.specs.Owned.{function_flow, function_faults, drop_rules, items_faults, method_faults, owned}
 use Rattle.vale_rules_spec.specs.Returns.{block_returns}
 use Rattle.vale_rules_spec.specs.TypeRules.{head_gives, function_rules}
 use Rattle.vale_rules_spec.specs.Types.{Ty, void, is_void, type_of}
@@ -23,7 +22,7 @@ use Rattle.vale_lowering.specs.Instructions.{only_if}
 use Rattle.vale_lowering.specs.Scopes.{head_result}
 use Rattle.vale_lowering_objects.specs.Code.{functions_in, lowered}
 use Rattle.vale_lowering_objects.specs.Lowered.{if_comes, block_after, block_code, drop_scope, param_gives_of, result_gives}
-use Rattle.vale_lowering_objects.specs.Program.{lowered_body, names_in}
+use Rattle.vale_lowering_objects.specs.Program.{lowered_body}
 use Rattle.vale_lowering_objects.specs.Scopes.{Gives, gives_of, agree, Scope, Gone, After, comes, never, parameters}
 use Rattle.vale_lowering_objects.specs.Scopes as g
 use Rattle.vale_object_facts.specs.Suits.{Sure, block_suits}
@@ -31,7 +30,7 @@ use Rattle.vale_object_kinds.proofs.Holds.{Holds, Pair, holds_node, holds_plain,
 use Rattle.vale_object_typed.specs.Covered.{block_is_covered, function_is_covered}
 use Rattle.vale_object_typed.specs.Fit.{TypedProgramsFit, LoweredHasTables, FunctionsBreakNoRule}
 use Rattle.vale_object_sure.specs.Lawful.{function_is_lawful, item_is_lawful, items_are_lawful}
-use Rattle.vale_object_sure.specs.Sure.{IsKept, SureBodies, OwnedFunctionsBreakNoRule}
+use Rattle.vale_object_sure.specs.Sure.{SureBodies, OwnedFunctionsBreakNoRule}
 use Rattle.vale_object_sure.proofs.Callees.{AllCallable, agree_same}
 use Rattle.vale_object_sure.proofs.Calls.{all_callable}
 use Rattle.vale_object_sure.proofs.Entries.{Stands, stands_on, stands_push}
