@@ -82,5 +82,5 @@ all_callable p n ts x called =
     let texts = texts_of p fs in
     let number = number_of_function (has_name n.name.0) fs in
     let here : option_map (lowered_function p texts fs) (first_function (has_name n.name.0) fs) ≡ Some called.func =
-        ap (option_map (lowered_function p texts fs)) (sym (first_at (has_name n.name.0) fs)) ∙ sym (slice_get-map (lowered_function p texts fs) fs number) ∙ called.here in
+    ap (option_map (lowered_function p texts fs)) (sym (first_at (has_name n.name.0) fs)) ∙ sym (slice_get-map (lowered_function p texts fs) fs number) ∙ called.here in
     called_by p texts fs ts x called.func (first_function (has_name n.name.0) fs) here called.plain called.takes called.gives

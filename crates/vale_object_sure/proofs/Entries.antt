@@ -31,6 +31,7 @@ look_up n (x ∷ s) g ls vs v m k e = by x.name refl ls vs m k e (λ ls vs m k e
   where
     past : (ls ms : Locals) → has_name n x.name ≡ false → (is_whole n ms ≡ true → is_whole n ls ≡ true) → IsThere n s g ls v → IsThere n (x ∷ s) g ms v
     past ls ms other whole t = record { is = t.is; found = ap (λ b. if b then Some x else find n s) other ∙ t.found; owned = t.owned; value = t.value; there = λ w. t.there (whole w) }
+
     chosen : (b : Bool) (q : ℕ) (l : Local) (ls : Locals) (w : y.Local) (vs : List y.Local) → x.name ≡ Some q → (q == n) ≡ b → l.name ≡ q → w.name ≡ q → (l.whole ≡ true → is_gone x.register g ≡ false) → x.owned ≡ is_owned w.ty → is_void w.ty ≡ false
         → (if w.name == n then Some w else local_of n vs) ≡ Some v → (local_of n vs ≡ Some v → IsThere n s g ls v) → IsThere n (x ∷ s) g (l ∷ ls) v
     chosen true q l ls w vs named same ln wn there owned value e later =
@@ -45,6 +46,7 @@ look_up n (x ∷ s) g ls vs v m k e = by x.name refl ls vs m k e (λ ls vs m k e
     chosen false q l ls w vs named same ln wn there owned value e later =
         past ls (l ∷ ls) (ap (has_name n) named ∙ same) (λ h. sym (ap (λ b. if b then l.whole else is_whole n ls) (ap (λ z. z == n) ln ∙ same)) ∙ h)
         (later (sym (ap (λ b. if b then Some w else local_of n vs) (ap (λ z. z == n) wn ∙ same)) ∙ e))
+
     by : (o : Option ℕ) → x.name ≡ o → (ls : Locals) (vs : List y.Local) → Named (row o x.register x.owned ∷ rows s) vs → Kept (row o x.register x.owned ∷ rows s) g ls → local_of n vs ≡ Some v → ((ls : Locals) (vs : List y.Local) → Named (rows s) vs → Kept (rows s) g ls → local_of n vs ≡ Some v → IsThere n s g ls v) → IsThere n (x ∷ s) g ls v
     by None named ls vs m k e later = past ls ls (ap (has_name n) named) (λ h. h) (later ls vs m k e)
     by (Some q) named [] vs m k e later = absurd k

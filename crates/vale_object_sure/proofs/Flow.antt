@@ -55,6 +55,7 @@ outer_is extra ls ms e = ap (λ n. drop (length (extra ++ ms) - n) (extra ++ ms)
         long : (extra ms : Locals) → length (extra ++ ms) ≡ length extra + length ms
         long [] ms = omega arith
         long (x ∷ extra) ms = let h = long extra ms in omega (arith, h)
+
         many : (extra ms : Locals) → length (extra ++ ms) - length ms ≡ length extra
         many extra ms = let h = long extra ms in omega (arith, h)
 

@@ -177,9 +177,6 @@ pub goes_fell : (rs : List Row) (g : Gone) (ls ms : Locals) (o : After) → Goes
 goes_fell rs g ls ms (comes g') k = went_fell rs g g' ls ms k
 goes_fell rs g ls ms (never g') k = k
 
-pub goes_kept : (rs : List Row) (g : Gone) (ls ms : Locals) (o : After) → Goes rs g ls o ms → Kept rs (gone_after o) ms
-goes_kept rs g ls ms o k = fell_kept rs (gone_after o) ls ms (goes_fell rs g ls ms o k)
-
 pub fell_length : (rs : List Row) (g : Gone) (ls ms : Locals) → Fell rs ls g ms → length ms ≡ length ls
 fell_length [] g [] [] k = refl
 fell_length [] g [] (m ∷ ms) k = absurd k
@@ -363,6 +360,7 @@ find_spot n (x ∷ s) = by x.name (find_spot n s)
     chosen : (b : Bool) → register_in (find n s) ≡ spot n (rows s) → register_in (if b then Some x else find n s) ≡ (if b then Some x.register else spot n (rows s))
     chosen true rest = refl
     chosen false rest = rest
+
     by : (o : Option ℕ) → register_in (find n s) ≡ spot n (rows s) → register_in (if has_name n o then Some x else find n s) ≡ spot n (row o x.register x.owned ∷ rows s)
     by None rest = rest
     by (Some m) rest = chosen (m == n) rest

@@ -182,10 +182,10 @@ sure_bodies fit tables names items decls program k j f here cov =
     let p = parts_of program in
     let zs = typed_items names program (in_items names items items) k.types in
     let marks : AllMarks names items p.kinds (lowered program).texts (functions_in p) =
-        subst (λ q. AllMarks names items p.kinds (lowered program).texts (functions_in (parts_of q))) zs.2
-        (subst (λ q. Holds (ItemsMark names items p.kinds (lowered program).texts) q) zs.1 (items_mark names items p.kinds (lowered program).texts items k.literals)) in
+    subst (λ q. AllMarks names items p.kinds (lowered program).texts (functions_in (parts_of q))) zs.2
+    (subst (λ q. Holds (ItemsMark names items p.kinds (lowered program).texts) q) zs.1 (items_mark names items p.kinds (lowered program).texts items k.literals)) in
     let owners : AllOwn (functions_in p) =
-        subst (λ q. AllOwn (functions_in (parts_of q))) zs.2 (all_own names zs.0 (without_faults (items_faults names zs.0) (t.typed names zs.0) (t.typed names zs.0) (subst (λ q. owned q ≡ fine q) (sym zs.2) k.owners))) in
+    subst (λ q. AllOwn (functions_in (parts_of q))) zs.2 (all_own names zs.0 (without_faults (items_faults names zs.0) (t.typed names zs.0) (t.typed names zs.0) (subst (λ q. owned q ≡ fine q) (sym zs.2) k.owners))) in
     function_sure p (lowered program) (functions_in p) f (all_callable p) (marks_at names items p.kinds (lowered program).texts (functions_in p) j f marks here cov)
     (fit names items program (lowered program) (functions_in p) k.types k.plain (tables names items decls program k.declares k.types) j f here cov) (owns_at (functions_in p) j f owners here)
 
