@@ -1,5 +1,5 @@
 -- How a stretch goes on from step to step, and where it ends.
-use Rattle.std.specs.Prelude.{Bool, true, false, Err, IfOk, Ok, Result}
+use Rattle.std.specs.Prelude.{Bool, true, false, Err, IfOk, Ok, Result, slice_get}
 use Rattle.std.proofs.Common.{◌≡◌, ℕ, suc, ◌+◌, ◌*◌, ◌<◌, List, [], ◌∷◌, ◌++◌, Option, Some, None, refl, sym, ap, ◌∙◌, subst, append-nil, append_assoc, arith}
 use Rattle.vale_state_spec.specs.State.{State, main_frame}
 use Rattle.vale_code.specs.Frames.{Config, Next, On, Running}
@@ -7,6 +7,7 @@ use Rattle.vale_code.specs.Fuel.{at_below, at_top, for_tick, fuel}
 use Rattle.vale_code.specs.Instructions.{fetch}
 use Rattle.vale_code.specs.Parts.{Parts}
 use Rattle.vale_code.specs.Run.{go_on, step, steps}
+use Rattle.vale_code.specs.declared.func.Func.{Func}
 use Rattle.vale_code.specs.declared.instr.Instr.{Instr}
 use Rattle.vale_heap.specs.HeapState.{HeapState, KnowsFrames}
 use Rattle.vale_heap.specs.Standing.{LowIsFloor}
@@ -22,13 +23,14 @@ use Rattle.vale_object_turn.specs.Steps.{GoesOn, Runs, Scene, Stepped, config, n
 use Rattle.vale_object_within.specs.Within.{ObeysWithinLent}
 use Rattle.vale_object_stretch.specs.Sound.{IsSound}
 use Rattle.vale_object_stretch.specs.Stretch.{Ended, IsSame, IsSteady, IsUnderWay, Leaving, Led, LedTo, Obeyed}
+use Rattle.vale_object_stretch.proofs.Instructions.{is_body, is_here, is_right, step_is}
 
 -- ---- what is kept from step to step
 
 pub sound_on : (code : Parts) (c d : Config) → step code c ≡ On d → IsSound code c → IsSound code d
 sound_on code c d e sound = λ n f h. sound (suc n) f (ap (λ x. go_on x (steps code n)) e ∙ h)
 
-grows_here : (v : View) → Grows v v
+pub grows_here : (v : View) → Grows v v
 grows_here v = record { more = []; names = sym (append-nil v.names); low = refl }
 
 grows_then : (u v w : View) → Grows u v → Grows v w → Grows u w
@@ -37,7 +39,7 @@ grows_then u v w g h = record { more = g.more ++ h.more; names = h.names ∙ (ap
 steady_then : (s t u : State) → IsSteady s t → IsSteady t u → IsSteady s u
 steady_then s t u g h = record { ticks = h.ticks ∙ g.ticks; pieces = h.pieces ∙ g.pieces; frozen = h.frozen ∙ g.frozen }
 
-steady_here : (s : State) → IsSteady s s
+pub steady_here : (s : State) → IsSteady s s
 steady_here s = record { ticks = refl; pieces = refl; frozen = refl }
 
 pub lent_here : (heap : HeapState) (frames : ℕ) (out : ℕ → Bool) (floors : ℕ → ℕ) → KnowsFrames heap out → StillLent heap heap frames frames out out floors floors
@@ -65,7 +67,7 @@ low_on low h k fh fk oh ok lh lk lent is f slot e = is f slot (out_before oh ok 
 -- ---- from one place of a function on
 
 module _ (code : Parts) (function : ℕ) (s : Scene) (v : View) (c : Config) where
-  pub led_here : (heap : HeapState) (cells : List (Option Cell)) (place left : ℕ) → c ≡ config s v place cells → Runs v heap cells left → Led code s v c heap cells place left
+  abbrev pub led_here : (heap : HeapState) (cells : List (Option Cell)) (place left : ℕ) → c ≡ config s v place cells → Runs v heap cells left → Led code s v c heap cells place left
   led_here heap cells place left is runs = record { view = v; grows = grows_here v; runs = runs; steady = steady_here v.state; leads = subst (λ d. Leads code c d) is (leads_here code c) }
 
   module _ (heap : HeapState) (cells : List (Option Cell)) (place left : ℕ) (l : Led code s v c heap cells place left) where
@@ -153,3 +155,38 @@ module _ (code : Parts) (s : Scene) where
   measures_less v w cells after place left new_place new_left e h on =
       let less = less_fuel code (config s v place cells) (config s w new_place after) on in
       omega (arith, less, measured v cells place left e, measured w after new_place new_left h)
+
+-- ---- one instruction of a stretch
+
+module _ (code : Parts) (function : ℕ) (func : Func) (body : List Instr) (instr : Instr) (found : slice_get code.funcs function ≡ Some func) (is : func.body ≡ body) where
+  module _ (heap new : HeapState) (cells after : List (Option Cell)) (place left new_place new_left : ℕ) (frames new_frames : ℕ) (out new_out : ℕ → Bool) (floors new_floors : ℕ → ℕ) (at : slice_get body place ≡ Some instr) where
+    -- where it goes on, it goes on so
+    pub goes_so : (s : Scene) (v : View) → IsUnderWay code function out floors s v heap cells place left → Obeyed out floors body instr heap cells place left stop.Going new after new_place new_left
+        → GoesOn s v (next_of s v place cells instr) new after new_place new_left
+    goes_so s v u o = o s v u.low (is_body code function out floors s v heap cells place left u func body instr found is at) u.runs (is_right code function out floors s v heap cells place left u func body instr found is at)
+
+    pub led_so : (s : Scene) (v : View) (c : Config) (l : Led code s v c heap cells place left) → IsUnderWay code function out floors s l.view heap cells place left → Obeyed out floors body instr heap cells place left stop.Going new after new_place new_left
+        → StillLent heap new frames new_frames out new_out floors new_floors
+        → (d : Led code s v c new after new_place new_left) × IsUnderWay code function new_out new_floors s d.view new after new_place new_left
+    unfolding led_on goes_so
+    led_so s v c l u o lent =
+        let g = goes_so s l.view u o in
+        let e = step_is code function out floors s l.view heap cells place left u func body instr found is at in
+        ( led_on code function s v c heap cells place left l (next_of s l.view place cells instr) new after new_place new_left e g
+        , way_on code function s l.view heap new cells after place left new_place new_left frames new_frames out new_out floors new_floors (next_of s l.view place cells instr) u e g lent)
+
+    pub less_so : (s : Scene) (v : View) → IsUnderWay code function out floors s v heap cells place left → Obeyed out floors body instr heap cells place left stop.Going new after new_place new_left
+        → measure code function new_place new_left < measure code function place left
+    less_so s v u o =
+        let g = goes_so s v u o in
+        let e = step_is code function out floors s v heap cells place left u func body instr found is at in
+        subst (λ f. measure code f new_place new_left < measure code f place left) u.of_function
+        (measures_less code s v g.view cells after place left new_place new_left u.runs.ticks_left g.runs.ticks_left (e ∙ g.is))
+
+    -- where it doesn't, the stretch ends
+    pub ended_so : (s : Scene) (v : View) (c : Config) (l : Led code s v c heap cells place left) → IsUnderWay code function out floors s l.view heap cells place left → (told : Stop) → (told ≡ stop.Going → ⊥)
+        → Obeyed out floors body instr heap cells place left told new after new_place new_left → Leaving told instr → IfStopped told (new_left ≡ left) → Ended code s v c told new after new_place new_left
+    ended_so s v c l u told n o k same =
+        ended code function s v c heap cells place left l told instr out floors body new after new_place new_left n u.low
+        (is_here code function out floors s l.view heap cells place left u func body instr found is at) (step_is code function out floors s l.view heap cells place left u func body instr found is at)
+        (is_body code function out floors s l.view heap cells place left u func body instr found is at) (is_right code function out floors s l.view heap cells place left u func body instr found is at) o k same

@@ -51,12 +51,12 @@ pub fn go<L: Lender<Body>>(
     let body = function_of(code, function).body.as_slice();
     'turns: loop {
         let instr = instr_at(body, *place);
-        let came = once(
+        let stop = once(
             alloc, body, heap, lender, registers, texts, base, place, left, instr,
-        );
-        match came {
-            Ok(Stop::Going) => {}
-            _ => return came,
+        )?;
+        match stop {
+            Stop::Going => {}
+            _ => return Ok(stop),
         }
     }
 }
