@@ -1,4 +1,4 @@
-use Rattle.std.proofs.Common.{ap, subst, ◌∙◌}
+use Rattle.std.proofs.Common.{ap, subst}
 use Rattle.std.specs.Prelude.{Err, List, Result, ℕ}
 use Rattle.vale_base.specs.declared.fault.Fail.{Fail}
 use Rattle.vale_base.specs.declared.trap.TrapKind.{TrapKind}
@@ -17,4 +17,5 @@ returns-in-Ok-clause-step c =
 pub returns-in-Err-Is-clause-step : goal.returns-in-Err-Is-clause-step
 returns-in-Err-Is-clause-step c = λ meaning g.
     let cells = cells_from c.args.base c.args.texts.now c.args.registers.now in
-    lands_trap c.args.to c.args.at cells cells c.args.place.now c.in-Err-Is.kind (λ s. gives_text s meaning) c.args.place.now (λ s. ap (gives_text s) (subst (λ (o : Result (List ℕ) (Fail TrapKind)). Gives o meaning) c.in-Err-Is.is g))
+    let e = subst (λ (f : Fail TrapKind). Gives (Err f) meaning) c.in-Err-Is.field-0-is (subst (λ (o : Result (List ℕ) (Fail TrapKind)). Gives o meaning) c.in-Err-Is.is g) in
+    lands_trap c.args.to c.args.at cells cells c.args.place.now c.in-Err-Is.kind (λ s. gives_text s meaning) c.args.place.now (λ s. ap (gives_text s) e)

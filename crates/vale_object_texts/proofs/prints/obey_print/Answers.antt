@@ -8,6 +8,6 @@ pub is_line-line-requires : goal.is_line-line-requires
 is_line-line-requires c =
     let k = prints_right (cells_from c.args.base c.args.texts.now c.args.registers.now) c.args.place.now c.args.from c.args.choice c.requires.right in k.0
 
-pub shown_bytes-shown-requires-clause-right : goal.shown_bytes-shown-requires-clause-right
-shown_bytes-shown-requires-clause-right c =
+pub shown_bytes-requires-clause-right : goal.shown_bytes-requires-clause-right
+shown_bytes-requires-clause-right c =
     let k = prints_right (cells_from c.args.base c.args.texts.now c.args.registers.now) c.args.place.now c.args.from c.args.choice c.requires.right in k.1

@@ -73,8 +73,8 @@ int_at-number-requires c =
     let t = from_base c.args.base (text_at c.args.texts.now) in
     spells t c.args.registers.now c.args.place.now c.args.instr.now c.requires.right c.in-TextOf.to c.in-TextOf.from c.in-TextOf.is
 
-pub returns-in-TextOf-Ok-clause-step : goal.returns-in-TextOf-Ok-clause-step
-returns-in-TextOf-Ok-clause-step c =
+pub returns-in-Ok-clause-step : goal.returns-in-Ok-clause-step
+returns-in-Ok-clause-step c =
     let t = from_base c.args.base (text_at c.args.texts.now) in
     let cells = cells_from c.args.base c.args.texts.now c.args.registers.now in
     let z = c.int_at-number.result in
