@@ -98,7 +98,9 @@ pub(crate) fn land_text(
 {
     match outcome {
         Ok(text) => take_text(alloc, registers, texts, base, place, to, text),
-        Err(Fail::Is(kind)) => Ok(Stop::Trap(kind, at)),
-        Err(Fail::Memory) => Err(Memory),
+        Err(fault) => match fault {
+            Fail::Memory => Err(Memory),
+            Fail::Is(kind) => Ok(Stop::Trap(kind, at)),
+        },
     }
 }

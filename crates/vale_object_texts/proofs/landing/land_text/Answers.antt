@@ -14,8 +14,8 @@ returns-in-Ok-clause-step c =
     let new = cells_from c.args.base c.take_text.new.texts c.take_text.new.registers in
     lands_made c.args.outcome c.in-Ok.text c.take_text.result c.args.to c.args.at cells new c.args.place.now c.take_text.new.place c.in-Ok.is c.take_text.ensures.step
 
-pub returns-in-Err-Is-clause-step : goal.returns-in-Err-Is-clause-step
-returns-in-Err-Is-clause-step c = λ meaning g.
+pub returns-in-Is-clause-step : goal.returns-in-Is-clause-step
+returns-in-Is-clause-step c = λ meaning g.
     let cells = cells_from c.args.base c.args.texts.now c.args.registers.now in
-    let e = subst (λ (f : Fail TrapKind). Gives (Err f) meaning) c.in-Err-Is.field-0-is (subst (λ (o : Result (List ℕ) (Fail TrapKind)). Gives o meaning) c.in-Err-Is.is g) in
-    lands_trap c.args.to c.args.at cells cells c.args.place.now c.in-Err-Is.kind (λ s. gives_text s meaning) c.args.place.now (λ s. ap (gives_text s) e)
+    let e = subst (λ (f : Fail TrapKind). Gives (Err f) meaning) c.in-Is.is (subst (λ (o : Result (List ℕ) (Fail TrapKind)). Gives o meaning) c.in-Err.is g) in
+    lands_trap c.args.to c.args.at cells cells c.args.place.now c.in-Is.kind (λ s. gives_text s meaning) c.args.place.now (λ s. ap (gives_text s) e)
