@@ -1,7 +1,7 @@
 -- From the innermost function, by its registers, to all frames, and back.
 use Rattle.std.proofs.Common.{◌≡◌, ℕ, ◌+◌, ◌-◌, ◌<◌, ◌≤◌, List, ◌∷◌, length, take, drop, Option, Some, None, refl, sym, ap, ◌∙◌, subst, arith}
-use Rattle.std.specs.Prelude.{Bool, slice_get}
-use Rattle.std.proofs.lemmas.List.{length-take}
+use Rattle.std.specs.Prelude.{Bool, IfOk, Result, slice_get}
+use Rattle.std.proofs.lemmas.List.{length-take-le}
 use Rattle.vale_code.specs.Frames as meaning
 use Rattle.vale_code.specs.Frames.{Config}
 use Rattle.vale_code.specs.Instructions.{fetch}
@@ -17,7 +17,9 @@ use Rattle.vale_turn.specs.declared.stop.Stop.{Stop}
 use Rattle.vale_turn.specs.declared.stop.Stop.TheVariants as stop
 use Rattle.vale_object_cells.specs.Names.{AllKnown, values_in}
 use Rattle.vale_object_cells.specs.declared.register.Register.{Register}
+use Rattle.vale_object_cells.specs.Cells.{cells_from}
 use Rattle.vale_object_steps.specs.Views.{Grows, View}
+use Rattle.vale_object_steps.specs.declared.effect.Want.{Want}
 use Rattle.vale_object_turn.specs.Steps as turn
 use Rattle.vale_object_stretch.specs.Stretch as stretch
 use Rattle.vale_object_stretch.specs.Stretch.{AreFit, Leaving}
@@ -30,6 +32,19 @@ use Rattle.vale_object_frames.proofs.FrameLaws.{frames_more, frames_same, known_
 use Rattle.vale_object_flow.specs.Flow.{Runs, all_frames, row_of}
 use Rattle.vale_object_flow.specs.declared.control.Control.{Control}
 use Rattle.vale_object_advance.specs.Advance.{AllFit, Ended, IsUnderWay, Led, config_of, scene_of}
+
+-- ---- registers that are part of others
+
+-- what a stretch comes to, over these registers before it and those after it
+abbrev pub Went : Result Stop Want → Parts → ℕ → (ℕ → Bool) → (ℕ → ℕ) → HeapState → HeapState → ℕ → List (List ℕ) → List (List ℕ) → ℕ → ℕ → ℕ → ℕ → List Register → List Register → Type 0
+Went r code function out floors heap new base texts newer place left new_place new_left x y =
+    IfOk r (λ told. (s : turn.Scene) (v : View) → stretch.IsUnderWay code function out floors s v heap (cells_from base texts x) place left
+    → stretch.Ended code s v (turn.config s v place (cells_from base texts x)) told new (cells_from base newer y) new_place new_left)
+
+pub went_as : (r : Result Stop Want) (code : Parts) (function : ℕ) (out : ℕ → Bool) (floors : ℕ → ℕ) (heap new : HeapState) (base : ℕ) (texts newer : List (List ℕ)) (place left new_place new_left : ℕ) (x own y after : List Register) → x ≡ own → y ≡ after
+    → Went r code function out floors heap new base texts newer place left new_place new_left own after → Went r code function out floors heap new base texts newer place left new_place new_left x y
+went_as r code function out floors heap new base texts newer place left new_place new_left x own y after a b h =
+    subst (λ z. Went r code function out floors heap new base texts newer place left new_place new_left z y) (sym a) (subst (λ z. Went r code function out floors heap new base texts newer place left new_place new_left own z) (sym b) h)
 
 -- ---- the innermost function
 
@@ -47,7 +62,7 @@ module _ (code : Parts) (v : View) (heap : HeapState) (c : Control) (left : ℕ)
   pub fits_within : c.end ≤ length c.registers.items → AllFit code → Runs code v heap (all_frames c) c.texts (row_of c) left → AreFit code c.top.function (c.end - c.top.base)
   fits_within few fits r =
       let p = r.lie.0 in
-      let count : length (row_of c) ≡ c.end = length-take c.end c.registers.items few in
+      let count : length (row_of c) ≡ c.end = length-take-le c.end c.registers.items few in
       subst (AreFit code c.top.function) (let size = p.size in omega (arith, size, count)) (fits.fit c.top.function p.func p.found)
 
 -- ---- the same frames once it has gone on
@@ -62,7 +77,7 @@ module _ (code : Parts) (v : View) (old new : Control) (end : new.end ≡ old.en
   low = take base (row_of old)
 
   within : (i : ℕ) → i < length low → text_at new.texts i ≡ text_at old.texts i
-  within i lt = others i (let count = length-take base (row_of old) few in omega (arith, lt, count))
+  within i lt = others i (let count = length-take-le base (row_of old) few in omega (arith, lt, count))
 
   base_is : new.top.base ≡ base
   base_is = ap (λ (a : Active). a.base) top
@@ -134,6 +149,6 @@ module _ (code : Parts) (v : View) (old new : Control) (end : new.end ≡ old.en
     ended_so stop.Going e = e
     ended_so (stop.Trap kind at) e = e
     ended_so stop.Cut e = e
-    ended_so stop.Aside e = (led_so (config_of code v old) e.0, (e.1, ap (λ f. fetch code f new.top.place) function_is ∙ e.2, e.3))
-    ended_so stop.Enters e = (led_so (config_of code v old) e.0, (e.1, ap (λ f. fetch code f new.top.place) function_is ∙ e.2, e.3))
-    ended_so (stop.Leaves from) e = (led_so (config_of code v old) e.0, (e.1, ap (λ f. fetch code f new.top.place) function_is ∙ e.2, e.3))
+    ended_so stop.Aside e = (led_so (config_of code v old) e.0, (e.1.0, ap (λ f. fetch code f new.top.place) function_is ∙ e.1.1, e.1.2))
+    ended_so stop.Enters e = (led_so (config_of code v old) e.0, (e.1.0, ap (λ f. fetch code f new.top.place) function_is ∙ e.1.1, e.1.2))
+    ended_so (stop.Leaves from) e = (led_so (config_of code v old) e.0, (e.1.0, ap (λ f. fetch code f new.top.place) function_is ∙ e.1.1, e.1.2))

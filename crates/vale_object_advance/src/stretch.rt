@@ -95,6 +95,43 @@ fn go_within<L: Lender<Body>>(
     )
 }
 
+// The same of a row.
+#[inline(always)]
+fn go_in_row<L: Lender<Body>>(
+    alloc: Global,
+    code: &Code,
+    function: u32,
+    heap: &mut Heap,
+    lender: &mut L,
+    registers: &mut Vec<Register>,
+    texts: &mut Row,
+    base: usize,
+    end: usize,
+    place: &mut usize,
+    left: &mut u64,
+) -> Result<Stop, Want>
+    requires there { function < length code.now.funcs }
+    requires base { base ≤ end }
+    requires end { end ≤ length registers.old.items }
+    requires fit { AreFit code.now function (end - base) }
+    requires frames { L.frames lender.old ≤ length heap.old.seats }
+    requires known { KnowsFrames heap.old (L.out lender.old) }
+    requires under_way { (s : Scene) × (v : View) × stretch.IsUnderWay code.now function (L.out lender.old) (L.floors lender.old) s v heap.old (cells_of base end texts.old registers.old.items) place.old left.old }
+    ensures ends { IfOk result (λ told. (s : Scene) (v : View) → stretch.IsUnderWay code.now function (L.out lender.old) (L.floors lender.old) s v heap.old (cells_of base end texts.old registers.old.items) place.old left.old
+        → stretch.Ended code.now s v (config s v place.old (cells_of base end texts.old registers.old.items)) told heap.new (cells_of base end texts.new registers.new.items) place.new left.new) }
+    ensures refused { IsErrOf result Want.Page → HasNoRoom heap.new × IsFull (L.frames lender.old) (L.out lender.new) }
+    ensures lent { StillLent heap.old heap.new (L.frames lender.old) (L.frames lender.new) (L.out lender.old) (L.out lender.new) (L.floors lender.old) (L.floors lender.new) }
+    ensures of_hand { OfHand heap.old (L.hand lender.old) → OfHand heap.new (L.hand lender.new) }
+    ensures others { OnOk result ((i : ℕ) → i < base → text_at texts.new i ≡ text_at texts.old i) }
+    ensures below { take base (take end registers.new.items) ≡ take base (take end registers.old.items) }
+    ensures size { length registers.new.items ≡ length registers.old.items }
+    ensures ticks { left.new ≤ left.old }
+{
+    go_within(
+        alloc, code, function, heap, lender, registers, texts, base, end, place, left,
+    )
+}
+
 /// Runs the innermost function up to where another is entered, this one is left, an object is destroyed, something is printed, or
 /// the run ends. A page is wanting only where no page of the innermost region and no spare page has room, and all frames are out.
 #[inline(always)]
@@ -121,7 +158,7 @@ pub fn run_on<L: Lender<Body>>(
     ensures ticks { left.new ≤ left.old }
 {
     let mut place = control.top.place;
-    let came = go_within(
+    let came = go_in_row(
         alloc,
         code,
         control.top.function,
