@@ -1,3 +1,0 @@
-pub mod ItemLaws
-pub mod SignatureLaws
-pub mod TextLaws
