@@ -171,9 +171,10 @@ module _ (code : Parts) (function : ℕ) (func : Func) (body : List Instr) (inst
     unfolding led_on goes_so
     led_so s v c l u o lent =
         let g = goes_so s l.view u o in
-        let e = step_is code function out floors s l.view heap cells place left u func body instr found is at in
-        ( led_on code function s v c heap cells place left l (next_of s l.view place cells instr) new after new_place new_left e g
-        , way_on code function s l.view heap new cells after place left new_place new_left frames new_frames out new_out floors new_floors (next_of s l.view place cells instr) u e g lent)
+        let e = step_is code function out floors s l.view heap cells place left u func body instr found is at in (
+          led_on code function s v c heap cells place left l (next_of s l.view place cells instr) new after new_place new_left e g,
+          way_on code function s l.view heap new cells after place left new_place new_left frames new_frames out new_out floors new_floors (next_of s l.view place cells instr) u e g lent,
+        )
 
     pub less_so : (s : Scene) (v : View) → IsUnderWay code function out floors s v heap cells place left → Obeyed out floors body instr heap cells place left stop.Going new after new_place new_left
         → measure code function new_place new_left < measure code function place left

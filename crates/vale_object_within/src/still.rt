@@ -59,13 +59,9 @@ pub(crate) fn obey_still(
             choice,
             left: one,
             right,
-        } => Ok(obey_compare(
-            registers, texts, base, place, *to, *choice, *one, *right,
-        )),
-        Instr::Move { .. }
-        | Instr::Borrow { .. }
-        | Instr::Frozen { .. }
-        | Instr::Upcast { .. } => Ok(obey_reference(registers, place, instr)),
+        } => Ok(obey_compare(registers, texts, base, place, *to, *choice, *one, *right)),
+        Instr::Move { .. } | Instr::Borrow { .. } | Instr::Frozen { .. } | Instr::Upcast { .. } =>
+            Ok(obey_reference(registers, place, instr)),
         Instr::LoadOwn { .. }
         | Instr::Load { .. }
         | Instr::LoadLive { .. }

@@ -38,7 +38,7 @@ once-requires-clause-fit g c =
     let a = c.args in
     let l = c.turns in
     let at : fetch a.code.now a.function l.place ≡ Some c.instr_at-instr.result.now =
-        fetched a.code.now a.function l.place c.function_of.result.now c.instr_at-instr.result.now c.function_of.ensures (ap (λ b. slice_get b l.place) (sym c.as_slice-body.ensures) ∙ c.instr_at-instr.ensures.found) in
+    fetched a.code.now a.function l.place c.function_of.result.now c.instr_at-instr.result.now c.function_of.ensures (ap (λ b. slice_get b l.place) (sym c.as_slice-body.ensures) ∙ c.instr_at-instr.ensures.found) in
     subst (λ n. IsFit c.instr_at-instr.result.now n) (sym l.invariant.count) (c.requires.fit.fit l.place c.instr_at-instr.result.now at)
 
 pub once-requires-clause-opened : goal.once-requires-clause-opened
