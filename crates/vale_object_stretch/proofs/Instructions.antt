@@ -77,8 +77,8 @@ module _ (code : Parts) (function : ℕ) (out : ℕ → Bool) (floors : ℕ → 
       is = is;
     }
 
-    pub rule_within : HasRuleWithin body heap cells place left instr
-    rule_within = record { rule = record { scene = s; view = v; runs = u.runs; right = is_right }; is_body = is_body }
+    pub rule_within : HasRuleWithin code body heap cells place left instr
+    rule_within = record { rule = record { scene = s; view = v; runs = u.runs; right = is_right }; of_code = u.of_code; is_body = is_body }
 
 -- ---- what is taken apart
 

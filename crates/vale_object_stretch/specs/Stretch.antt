@@ -64,11 +64,11 @@ pub record IsSame (heap : HeapState) (cells : List (Option Cell)) (place left : 
   pub left_same : new_left ≡ left
 
 -- An instruction is obeyed within its function, or it is left to be done elsewhere.
-abbrev pub Obeyed : (ℕ → Bool) → (ℕ → ℕ) → List Instr → Instr → HeapState → List (Option Cell) → ℕ → ℕ → Stop → HeapState → List (Option Cell) → ℕ → ℕ → Type 0
-Obeyed out floors body instr heap cells place left stop.Aside new after new_place new_left = IsSame heap cells place left new after new_place new_left
-Obeyed out floors body instr heap cells place left stop.Enters new after new_place new_left = IsSame heap cells place left new after new_place new_left
-Obeyed out floors body instr heap cells place left (stop.Leaves from) new after new_place new_left = IsSame heap cells place left new after new_place new_left
-Obeyed out floors body instr heap cells place left told new after new_place new_left = ObeysWithinLent out floors body instr heap cells place left told new after new_place new_left
+abbrev pub Obeyed : (ℕ → Bool) → (ℕ → ℕ) → Parts → List Instr → Instr → HeapState → List (Option Cell) → ℕ → ℕ → Stop → HeapState → List (Option Cell) → ℕ → ℕ → Type 0
+Obeyed out floors code body instr heap cells place left stop.Aside new after new_place new_left = IsSame heap cells place left new after new_place new_left
+Obeyed out floors code body instr heap cells place left stop.Enters new after new_place new_left = IsSame heap cells place left new after new_place new_left
+Obeyed out floors code body instr heap cells place left (stop.Leaves from) new after new_place new_left = IsSame heap cells place left new after new_place new_left
+Obeyed out floors code body instr heap cells place left told new after new_place new_left = ObeysWithinLent out floors code body instr heap cells place left told new after new_place new_left
 
 -- ---- a stretch
 

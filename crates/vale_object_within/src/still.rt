@@ -7,12 +7,13 @@ ghost use Rattle.vale_object_within.specs.Within.{HasRoomFor, HasRuleWithin, Obe
 
 use std::alloc::Global;
 use vale_base::Memory;
-use vale_code::Instr;
+use vale_code::{Code, Instr};
 use vale_heap::Heap;
 use vale_object_cells::Register;
 use vale_object_compares::obey_compare;
 use vale_object_copies::obey_copy;
 use vale_object_numbers::{obey_jump, obey_number};
+use vale_object_texts::{obey_quote, obey_reading, obey_text};
 use vale_object_turn::{obey_look, obey_reference};
 use vale_registers::Row;
 use vale_turn::Stop;
@@ -21,6 +22,7 @@ use vale_turn::Stop;
 #[inline(always)]
 pub(crate) fn obey_still(
     alloc: Global,
+    code: &Code,
     body: &[Instr],
     heap: &Heap,
     registers: &mut [Register],
@@ -34,8 +36,8 @@ pub(crate) fn obey_still(
     requires room { HasRoomFor instr.now (length registers.old) }
     requires few { base + length registers.old < 2 ^ 64 }
     requires place { place.old + 1 < 2 ^ 64 }
-    requires right { HasRuleWithin body.now heap.now (cells_from base texts.old registers.old) place.old left.old instr.now }
-    ensures step { IfOk result (λ told. ObeysWithin body.now instr.now heap.now (cells_from base texts.old registers.old) place.old left.old told heap.now (cells_from base texts.new registers.new) place.new left.new) }
+    requires right { HasRuleWithin code.now body.now heap.now (cells_from base texts.old registers.old) place.old left.old instr.now }
+    ensures step { IfOk result (λ told. ObeysWithin code.now body.now instr.now heap.now (cells_from base texts.old registers.old) place.old left.old told heap.now (cells_from base texts.new registers.new) place.new left.new) }
     ensures others { OnOk result ((i : ℕ) → i < base → text_at texts.new i ≡ text_at texts.old i) }
     ensures ticks { left.new ≤ left.old }
     ensures kept { IfOk result (λ told. IfStopped told (left.new ≡ left.old)) }
@@ -60,6 +62,15 @@ pub(crate) fn obey_still(
             left: one,
             right,
         } => Ok(obey_compare(registers, texts, base, place, *to, *choice, *one, *right)),
+        Instr::Text { to, text } => {
+            obey_quote(alloc, code, registers, texts, base, place, *to, *text)
+        }
+        Instr::Join { .. } | Instr::Slice { .. } | Instr::TextOf { .. } => {
+            obey_text(alloc, registers, texts, base, place, instr)
+        }
+        Instr::TextLen { .. } | Instr::Byte { .. } | Instr::IsNum { .. } | Instr::Num { .. } => {
+            Ok(obey_reading(registers, texts, base, place, instr))
+        }
         Instr::Move { .. } | Instr::Borrow { .. } | Instr::Frozen { .. } | Instr::Upcast { .. } =>
             Ok(obey_reference(registers, place, instr)),
         Instr::LoadOwn { .. }

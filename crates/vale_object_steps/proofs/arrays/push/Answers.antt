@@ -32,6 +32,6 @@ returns-then-len-ge-WIDTH_LIMIT-clause-step c = push_full c.args.object c.args.v
 
 pub returns-in-Ok-push-clause-step : goal.returns-in-Ok-push-clause-step
 returns-in-Ok-push-clause-step c =
-      let left : Body = record { kind = c.in-Some.body.now.kind; cells = c.push.new.self } in
-      push_found c.args.object c.args.value c.args.heap.now (cells_from c.args.base c.args.texts.now c.args.registers.now) c.place_at-place.result c.in-Some.body.now left c.in-Ok.cell _ (c.place_at-place.ensures (from_base c.args.base (text_at c.args.texts.now))) (sym c.in-Some.ensures.value) c.in-Some.ensures.found
-      (c.in-Some.ensures.stands left) refl c.in-Ok-push.ensures (subst (λ n. n < width_limit) c.len.ensures c.if-len-ge-WIDTH_LIMIT.false) c.in-Ok.ensures.cell c.in-Ok.ensures.cells
+    let left : Body = record { kind = c.in-Some.body.now.kind; cells = c.push.new.self } in
+    push_found c.args.object c.args.value c.args.heap.now (cells_from c.args.base c.args.texts.now c.args.registers.now) c.place_at-place.result c.in-Some.body.now left c.in-Ok.cell _ (c.place_at-place.ensures (from_base c.args.base (text_at c.args.texts.now))) (sym c.in-Some.ensures.value) c.in-Some.ensures.found
+    (c.in-Some.ensures.stands left) refl c.in-Ok-push.ensures (subst (λ n. n < width_limit) c.len.ensures c.if-len-ge-WIDTH_LIMIT.false) c.in-Ok.ensures.cell c.in-Ok.ensures.cells

@@ -79,7 +79,7 @@ turns-smaller g c =
     let after = cells_from a.base n.texts n.registers in
     let body = c.as_slice-body.result.now in
     let instr = c.instr_at-instr.result.now in
-    let obeyed = subst (λ told. Obeyed out floors body instr l.heap cells l.place l.left told n.heap after n.place n.left) c.in-Going.is c.in_ok-stop.ensures.step in
+    let obeyed = subst (λ told. Obeyed out floors a.code.now body instr l.heap cells l.place l.left told n.heap after n.place n.left) c.in-Going.is c.in_ok-stop.ensures.step in
     less_so a.code.now a.function c.function_of.result.now body instr c.function_of.ensures (sym c.as_slice-body.ensures) l.heap n.heap cells after l.place l.left n.place n.left (g.L.Lender.frames l.lender) (g.L.Lender.frames n.lender) out (g.L.Lender.out n.lender) floors (g.L.Lender.floors n.lender)
     c.instr_at-instr.ensures.found r.0 w.0.view w.1 obeyed
 
@@ -95,7 +95,7 @@ turns-preserved g c =
     let body = c.as_slice-body.result.now in
     let instr = c.instr_at-instr.result.now in
     let e = c.in_ok-stop.ensures in
-    let obeyed = subst (λ told. Obeyed out floors body instr l.heap cells l.place l.left told n.heap after n.place n.left) c.in-Going.is e.step in
+    let obeyed = subst (λ told. Obeyed out floors a.code.now body instr l.heap cells l.place l.left told n.heap after n.place n.left) c.in-Going.is e.step in
     record {
       leads = λ s v u.
           let w = l.invariant.leads s v u in
