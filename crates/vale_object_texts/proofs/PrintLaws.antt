@@ -1,6 +1,6 @@
 -- What is printed, by names.
-use Rattle.std.proofs.Common.{◌≡◌, ℕ, ◌+◌, ◌<◌, ℤ, length, List, [], ◌∷◌, ◌++◌, Bool, true, false, if◌then◌else◌, Option, Some, None, refl, sym, ap, subst, ◌∙◌}
-use Rattle.vale_state_spec.specs.State.{Answer, State, gives, print, print_text, printed, shown}
+use Rattle.std.proofs.Common.{◌≡◌, ℕ, ◌+◌, ◌<◌, ℤ, length, List, [], ◌∷◌, ◌++◌, Bool, true, false, if◌then◌else◌, Option, Some, None, refl, sym, ap, ◌∙◌}
+use Rattle.vale_state_spec.specs.State.{State, gives, print, print_text, printed, shown}
 use Rattle.vale_state_spec.specs.World.{Value}
 use Rattle.vale_code.specs.Frames.{Active, Frame, Next}
 use Rattle.vale_code.specs.Instructions.{certain, truth_of, with_choice, with_value}

@@ -6,6 +6,7 @@ ghost use Rattle.vale_code.specs.Instructions.{truth_of};
 ghost use Rattle.vale_code.specs.declared.instr.Instr.{Instr};
 ghost use Rattle.vale_heap.specs.HeapState.{HeapState};
 ghost use Rattle.vale_heap.specs.declared.body.Place.{Place as APlace};
+ghost use Rattle.vale_turn.specs.View.{Stays};
 ghost use Rattle.vale_object_cells.specs.Cells.{cells_from};
 ghost use Rattle.vale_object_turn.specs.Steps.{HasRule};
 ghost use Rattle.vale_object_texts.specs.Printing.{HasPrinted, shown_in};
@@ -103,6 +104,7 @@ pub fn obey_print(
     requires place { place.old + 1 < 2 ^ 64 }
     requires right { (heap : HeapState) × (left : ℕ) × HasRule heap (cells_from base texts.now registers.now) place.old left (Instr.Print from choice) }
     ensures step { IfOk result (λ told. HasPrinted (Instr.Print from choice) (cells_from base texts.now registers.now) place.old spent pieces.old.items told place.new pieces.new.items) }
+    ensures stays { IfOk result (λ told. Stays told) }
     ensures kept { OnErr result (pieces.new.items ≡ pieces.old.items) }
 {
     let line = is_line(choice);

@@ -1,4 +1,4 @@
-use Rattle.std.proofs.Common.{◌<◌, ◌+◌, ℤ, Some, ap, length, rules, subst, sym, ◌∙◌}
+use Rattle.std.proofs.Common.{◌<◌, ◌+◌, ℤ, Some, ap, rules, subst, sym, ◌∙◌}
 use Rattle.std.specs.Prelude.{Result, slice_set}
 use Rattle.std.proofs.lemmas.Int.{to_z-of_z}
 use mir.Syntax.{w64}

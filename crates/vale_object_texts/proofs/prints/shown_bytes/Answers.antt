@@ -1,4 +1,4 @@
-use Rattle.std.proofs.Common.{List, Global, Some, Vec, ℕ, ◌≡◌, ap, length, rules, sym, ◌+◌, ◌<◌, ◌∙◌, arith}
+use Rattle.std.proofs.Common.{List, Global, Some, Vec, ℕ, ◌≡◌, ap, length, rules, sym, ◌<◌, ◌∙◌, arith}
 use Rattle.std.proofs.lemmas.Int.{to_z-of_z}
 use mir.Syntax.{w64}
 use Rattle.vale_state_spec.specs.State.{shown}

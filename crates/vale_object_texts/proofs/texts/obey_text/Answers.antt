@@ -1,5 +1,5 @@
-use Rattle.std.proofs.Common.{ℤ, ap, rules, subst, sym, ◌∙◌, of_z, to_z}
-use Rattle.std.specs.Prelude.{Ok, Result, List, ℕ}
+use Rattle.std.proofs.Common.{ℤ, ap, rules, subst, ◌∙◌, of_z, to_z}
+use Rattle.std.specs.Prelude.{Ok}
 use Rattle.std.proofs.lemmas.Int.{to_z-of_z}
 use mir.Syntax.{w64}
 use Rattle.vale_code.specs.declared.instr.Instr.TheVariants as i
