@@ -1,15 +1,27 @@
 -- The parameters of a function.
 use Rattle.std.proofs.Common.{◌≡◌, ℕ, suc, ◌+◌, ◌<◌, List, [], ◌∷◌, ◌++◌, length, get_or, drop, map, refl, ap, sym, ◌∙◌}
 use Rattle.std.proofs.lemmas.List.{drop_more}
+use Rattle.std.specs.Prelude.{max}
+use Rattle.vale_code.specs.Operands.{room_for}
+use Rattle.vale_code.specs.declared.instr.Instr.{Instr}
+use Rattle.vale_lowering.specs.Lowered as lowering
 use Rattle.vale_syntax.specs.declared.tree.Param.{Param}
 use Rattle.vale_syntax.specs.View.{view_type, view_param}
 use Rattle.vale_rules_spec.specs.Types.{type_of}
 use Rattle.vale_model.specs.Parts.{param_names}
+use Rattle.vale_lowering_objects.specs.Code.{registers_in}
 use Rattle.vale_lowering_objects.specs.Lowered.{param_gives_of}
 use Rattle.vale_lowering_objects.specs.Scopes.{Gives, Entry, Scope, entry, gives_of, parameters}
 use Rattle.vale_lower_flow.specs.declared.scope.Local.{Local}
 use Rattle.vale_lower_flow.specs.Entries.{entry_of, framed}
 use Rattle.vale_lower_flow.proofs.ScopeLaws.{framed_more}
+
+-- the registers that instructions name, by either of the two recursions that say them
+pub same_room : (xs : List Instr) → lowering.registers_in xs ≡ registers_in xs
+same_room [] = refl
+same_room (x ∷ xs) = ap (λ (n : ℕ). max (room_for x) n) (same_room xs)
+
+pub ruleset rooms = (same_room)
 
 pub names_length : (ps : List Param) → length (param_names (map view_param ps)) ≡ length ps
 names_length [] = refl

@@ -1,5 +1,5 @@
 // The kinds of the code.
-ghost use Rattle.std.specs.Prelude.{◌≡◌, ◌<◌, [], length, map, IfOk};
+ghost use Rattle.std.specs.Prelude.{◌≡◌, [], map, IfOk};
 ghost use Rattle.vale_syntax.specs.View.{view_field, view_head};
 ghost use Rattle.vale_rules_spec.specs.Types as y;
 ghost use Rattle.vale_core.specs.View.{view_ty, view_function};
@@ -111,16 +111,18 @@ impl<'p> Described<'p> {
     }
 }
 
-/// The kinds of the code of a program, in the order of their numbers.
+/// The kinds of the code of a program, in the order of their numbers. More than 2^32 - 1 functions are want of memory.
 pub fn code_kinds(
     alloc: Global,
     tables: &Tables,
     texts: &Texts,
     functions: &[&Function],
 ) -> Result<Sequence<KindInfo>, Memory>
-    requires { length functions.now < 4294967296 }
     ensures { IfOk result (λ ks. ks ≡ map (kind_info (parts_in tables.now) (texts_of texts.now) (map (λ g. view_function g.now) functions.now)) (parts_in tables.now).kinds) }
 {
+    if functions.len() > u32::MAX as usize {
+        return Err(Memory);
+    }
     let described = Described {
         alloc,
         tables,

@@ -18,7 +18,7 @@ use vale_base::Memory;
 use vale_code::{Func, Instr, Sequence};
 use vale_core::Function;
 use vale_lower_calls::gives_of_written;
-use vale_lower_expr::{Texts, text_of};
+use vale_lower_expr::{Texts, registers_in, text_of};
 use vale_lower_flow::{Local, above};
 use vale_lower_parts::declared;
 use vale_lower_tables::Tables;
@@ -59,18 +59,6 @@ fn larger(one: u64, other: u64) -> u64
     if one < other { other } else { one }
 }
 
-// More than each register that one of the instructions names.
-#[tactic(auto, using(vale_code::proofs::OperandLaws::larger_laws))]
-fn registers_in(code: &[Instr]) -> u64
-    ensures { result ≡ registers_in code.now }
-{
-    let mut room: u64 = 0;
-    for instr in code {
-        room = larger(room, instr.room());
-    }
-    room
-}
-
 /// How many parameters there are. A number that is 2^32 or more is want of memory.
 #[tactic(auto, using(crate::proofs::SignatureLaws::names_length))]
 pub fn param_count(params: &[Param]) -> Result<u32, Memory>
@@ -83,6 +71,7 @@ pub fn param_count(params: &[Param]) -> Result<u32, Memory>
 }
 
 // How many registers a function has. A number that is 2^32 or more is want of memory.
+#[tactic(auto, using(crate::proofs::SignatureLaws::rooms))]
 fn register_count(params: &[Param], code: &[Instr]) -> Result<u32, Memory>
     ensures { IfOk result (λ n. n ≡ max (length (param_names (map view_param params.now)) + 1) (registers_in code.now)) }
 {
