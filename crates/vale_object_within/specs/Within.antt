@@ -19,12 +19,16 @@ use Rattle.vale_object_turn.specs.Steps.{HasRule, Runs, Scene, Stepped, next_of}
 use Rattle.vale_object_numbers.specs.Numbers.{is_jump, is_number}
 use Rattle.vale_object_texts.specs.Texts.{makes_text, reads_text}
 
+-- those on texts
+abbrev pub is_on_text : Instr → Bool
+is_on_text (i.Text to text) = true
+is_on_text instr = makes_text instr || reads_text instr
+
 -- those that leave all objects as they are: on numbers, truths, texts and references, copies, comparisons, looks, jumps and ticks
 abbrev pub is_still : Instr → Bool
 is_still (i.Copy to a) = true
 is_still (i.Cmp to choice a b) = true
-is_still (i.Text to text) = true
-is_still instr = is_number instr || (is_jump instr || (is_reference instr || (is_look instr || (makes_text instr || reads_text instr))))
+is_still instr = is_number instr || (is_jump instr || (is_reference instr || (is_look instr || is_on_text instr)))
 
 -- those that make an object, change one or take one apart
 abbrev pub is_busy : Instr → Bool

@@ -5,6 +5,7 @@ ghost use Rattle.vale_turn.specs.View.{IfStopped, Stays};
 ghost use Rattle.vale_object_cells.specs.Cells.{cells_from};
 ghost use Rattle.vale_object_within.specs.Within.{HasRoomFor, HasRuleWithin, ObeysWithin, is_still};
 
+use crate::texts::obey_on_text;
 use std::alloc::Global;
 use vale_base::Memory;
 use vale_code::{Code, Instr};
@@ -13,7 +14,6 @@ use vale_object_cells::Register;
 use vale_object_compares::obey_compare;
 use vale_object_copies::obey_copy;
 use vale_object_numbers::{obey_jump, obey_number};
-use vale_object_texts::{obey_quote, obey_reading, obey_text};
 use vale_object_turn::{obey_look, obey_reference};
 use vale_registers::Row;
 use vale_turn::Stop;
@@ -62,15 +62,6 @@ pub(crate) fn obey_still(
             left: one,
             right,
         } => Ok(obey_compare(registers, texts, base, place, *to, *choice, *one, *right)),
-        Instr::Text { to, text } => {
-            obey_quote(alloc, code, registers, texts, base, place, *to, *text)
-        }
-        Instr::Join { .. } | Instr::Slice { .. } | Instr::TextOf { .. } => {
-            obey_text(alloc, registers, texts, base, place, instr)
-        }
-        Instr::TextLen { .. } | Instr::Byte { .. } | Instr::IsNum { .. } | Instr::Num { .. } => {
-            Ok(obey_reading(registers, texts, base, place, instr))
-        }
         Instr::Move { .. } | Instr::Borrow { .. } | Instr::Frozen { .. } | Instr::Upcast { .. } =>
             Ok(obey_reference(registers, place, instr)),
         Instr::LoadOwn { .. }
@@ -81,6 +72,6 @@ pub(crate) fn obey_still(
         | Instr::ElemLive { .. }
         | Instr::Len { .. }
         | Instr::LenLive { .. } => obey_look(alloc, heap, registers, texts, base, place, instr),
-        _ => unreachable!(),
+        _ => obey_on_text(alloc, code, registers, texts, base, place, instr),
     }
 }

@@ -67,30 +67,13 @@ returns-in-Int-clause-step c =
     let a = c.args in
     obeys_number a.code.now a.body.now a.instr.now a.heap.now a.place.now a.left.now a.base a.texts.now a.registers.now c.obey_number.result c.obey_number.new.registers c.obey_number.new.place c.obey_number.ensures.step
 
-pub obey_quote-requires-clause-right : goal.obey_quote-requires-clause-right
-obey_quote-requires-clause-right c =
-    let a = c.args in
-    let rule = rule_of_code a.code.now a.body.now a.instr.now a.heap.now a.place.now a.left.now (cells_from a.base a.texts.now a.registers.now) (i.Text c.in-Text.to c.in-Text.text) c.in-Text.is c.requires.right in
-    (a.heap.now, a.left.now, rule)
+pub obey_on_text-requires-clause-right : goal.obey_on_text-requires-clause-right
+obey_on_text-requires-clause-right c = (c.args.body.now, c.args.heap.now, c.args.left.now, c.requires.right)
 
-pub returns-in-Text-clause-step : goal.returns-in-Text-clause-step
-returns-in-Text-clause-step c =
+pub returns-in_default-clause-step : goal.returns-in_default-clause-step
+returns-in_default-clause-step c =
     let a = c.args in
     let cells = cells_from a.base a.texts.now a.registers.now in
-    let after = cells_from a.base c.obey_quote.new.texts c.obey_quote.new.registers in
-    IfOk-weaker c.obey_quote.result _ (λ told. ObeysWithin a.code.now a.body.now a.instr.now a.heap.now cells a.place.now a.left.now told a.heap.now after c.obey_quote.new.place a.left.now)
-    (λ told o. obeys_of_code a.code.now a.body.now a.instr.now a.heap.now a.place.now a.left.now cells (i.Text c.in-Text.to c.in-Text.text) c.in-Text.is told a.heap.now after c.obey_quote.new.place a.left.now (o a.heap.now a.left.now)) c.obey_quote.ensures.step
-
-pub returns-in-Join-clause-step : goal.returns-in-Join-clause-step
-returns-in-Join-clause-step c =
-    let a = c.args in
-    let cells = cells_from a.base a.texts.now a.registers.now in
-    let after = cells_from a.base c.obey_text.new.texts c.obey_text.new.registers in
-    IfOk-weaker c.obey_text.result _ (λ told. ObeysWithin a.code.now a.body.now a.instr.now a.heap.now cells a.place.now a.left.now told a.heap.now after c.obey_text.new.place a.left.now)
-    (λ told o. obeys_as a.code.now a.body.now a.instr.now a.heap.now a.place.now a.left.now cells a.instr.now refl told a.heap.now after c.obey_text.new.place a.left.now (o a.heap.now a.left.now)) c.obey_text.ensures.step
-
-pub returns-in-TextLen-clause-step : goal.returns-in-TextLen-clause-step
-returns-in-TextLen-clause-step c =
-    let a = c.args in
-    obeys_as a.code.now a.body.now a.instr.now a.heap.now a.place.now a.left.now (cells_from a.base a.texts.now a.registers.now) a.instr.now refl c.obey_reading.result a.heap.now
-    (cells_from a.base a.texts.now c.obey_reading.new.registers) c.obey_reading.new.place a.left.now (c.obey_reading.ensures.step a.heap.now a.left.now)
+    let after = cells_from a.base c.obey_on_text.new.texts c.obey_on_text.new.registers in
+    IfOk-weaker c.obey_on_text.result _ (λ told. ObeysWithin a.code.now a.body.now a.instr.now a.heap.now cells a.place.now a.left.now told a.heap.now after c.obey_on_text.new.place a.left.now)
+    (λ told o. o a.body.now a.heap.now a.left.now) c.obey_on_text.ensures.step
