@@ -1,6 +1,6 @@
 -- How a stretch goes on from step to step, and where it ends.
 use Rattle.std.specs.Prelude.{Bool, true, false, Err, IfOk, Ok, Result, slice_get}
-use Rattle.std.proofs.Common.{◌≡◌, ℕ, suc, ◌+◌, ◌*◌, ◌<◌, List, [], ◌∷◌, ◌++◌, Option, Some, None, refl, sym, ap, ◌∙◌, subst, append-nil, append_assoc, arith}
+use Rattle.std.proofs.Common.{◌≡◌, ℕ, suc, ◌+◌, ◌*◌, ◌<◌, List, [], ◌++◌, Option, Some, None, refl, sym, ap, ◌∙◌, subst, append-nil, append_assoc, arith}
 use Rattle.vale_state_spec.specs.State.{State, main_frame}
 use Rattle.vale_code.specs.Frames.{Config, Next, On, Running}
 use Rattle.vale_code.specs.Fuel.{at_below, at_top, for_tick, fuel}
@@ -12,14 +12,14 @@ use Rattle.vale_code.specs.declared.instr.Instr.{Instr}
 use Rattle.vale_heap.specs.HeapState.{HeapState, KnowsFrames}
 use Rattle.vale_heap.specs.Standing.{LowIsFloor}
 use Rattle.vale_heap.specs.declared.body.Cell.{Cell}
-use Rattle.vale_table.specs.Lending.{Same, StillOut}
+use Rattle.vale_table.specs.Lending.{StillOut}
 use Rattle.vale_turn.specs.View.{IfStopped, IsBody, IsRight, Leads, Stays}
 use Rattle.vale_turn.specs.declared.stop.Stop.{Stop}
 use Rattle.vale_turn.specs.declared.stop.Stop.TheVariants as stop
 use Rattle.vale_turn.proofs.Stretching.{leads_here, leads_on, less_fuel}
 use Rattle.vale_object_steps.specs.Lent.{StillLent}
 use Rattle.vale_object_steps.specs.Views.{Grows, View}
-use Rattle.vale_object_turn.specs.Steps.{GoesOn, Runs, Scene, Stepped, config, next_of}
+use Rattle.vale_object_turn.specs.Steps.{GoesOn, Runs, Scene, config, next_of}
 use Rattle.vale_object_within.specs.Within.{ObeysWithinLent}
 use Rattle.vale_object_stretch.specs.Sound.{IsSound}
 use Rattle.vale_object_stretch.specs.Stretch.{Ended, IsSame, IsSteady, IsUnderWay, Leaving, Led, LedTo, Obeyed}

@@ -1,12 +1,11 @@
 -- A stretch of steps within one function, in a run with objects.
-use Rattle.std.specs.Prelude.{◌≡◌, ◌||◌, ℕ, ◌+◌, ◌<◌, List, ◌∷◌, Option, Some, None, Bool, true, false}
-use Rattle.vale_base.specs.declared.spot.Spot.{Spot}
+use Rattle.std.specs.Prelude.{◌≡◌, ◌||◌, ℕ, ◌+◌, List, ◌∷◌, Option, Some, None, Bool, true, false}
 use Rattle.vale_state_spec.specs.Outcome.{Cut}
 use Rattle.vale_state_spec.specs.State.{State}
-use Rattle.vale_code.specs.Frames.{Config, On, Over, trap}
+use Rattle.vale_code.specs.Frames.{Config, Over, trap}
 use Rattle.vale_code.specs.Instructions.{fetch}
 use Rattle.vale_code.specs.Parts.{Parts}
-use Rattle.vale_code.specs.Run.{last_state, step, steps}
+use Rattle.vale_code.specs.Run.{last_state, step}
 use Rattle.vale_code.specs.declared.instr.Instr.{Instr}
 use Rattle.vale_code.specs.declared.instr.Instr.TheVariants as i
 use Rattle.vale_heap.specs.HeapState.{HeapState}

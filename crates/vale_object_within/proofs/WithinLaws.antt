@@ -5,7 +5,6 @@ use Rattle.vale_code.specs.Parts.{Parts}
 use Rattle.vale_code.specs.declared.instr.Instr.{Instr}
 use Rattle.vale_registers.specs.Passing.{from_base}
 use Rattle.vale_registers.specs.Texts.{text_at}
-use Rattle.vale_table.specs.Lending.{Same, StillOut}
 use Rattle.vale_heap.specs.HeapState.{HeapState, KeepsFrames, KnowsFrames}
 use Rattle.vale_heap.specs.declared.body.Cell.{Cell}
 use Rattle.vale_turn.specs.View.{Stays}

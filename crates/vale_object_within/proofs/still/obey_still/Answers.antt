@@ -3,9 +3,8 @@ use Rattle.std.proofs.lemmas.Result.{IfOk-weaker}
 use Rattle.vale_code.specs.declared.instr.Instr.TheVariants as i
 use Rattle.vale_turn.specs.View.{Stays}
 use Rattle.vale_object_cells.specs.Cells.{cells_from}
-use Rattle.vale_object_turn.specs.Steps.{Obeys}
 use Rattle.vale_object_within.specs.Within.{ObeysWithin}
-use Rattle.vale_object_within.proofs.WithinLaws.{obeys_as, obeys_number, obeys_of_code, obeys_reference, rule_of, rule_of_code, stays_by}
+use Rattle.vale_object_within.proofs.WithinLaws.{obeys_as, obeys_number, obeys_reference, rule_of, stays_by}
 use Rattle.vale_object_within.proofs.still.obey_still.Goals as goal
 
 pub obey_jump-requires-clause-right : goal.obey_jump-requires-clause-right

@@ -4,7 +4,7 @@ use Rattle.vale_code.specs.declared.instr.Instr.{Instr}
 use Rattle.vale_code.specs.declared.instr.Instr.TheVariants as i
 use Rattle.vale_heap.specs.HeapState.{HeapState}
 use Rattle.vale_object_cells.specs.Cells.{cells_from}
-use Rattle.vale_object_within.specs.Within.{HasRuleWithin, ObeysWithin}
+use Rattle.vale_object_within.specs.Within.{ObeysWithin}
 use Rattle.vale_object_within.proofs.WithinLaws.{obeys_as, obeys_of_code, rule_of_code}
 use Rattle.vale_object_within.proofs.texts.obey_on_text.Goals as goal
 

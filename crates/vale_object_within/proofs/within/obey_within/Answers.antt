@@ -1,9 +1,7 @@
-use Rattle.std.proofs.Common.{refl, subst, ap}
+use Rattle.std.proofs.Common.{refl, subst}
 use Rattle.vale_turn.specs.View.{Stays}
 use Rattle.vale_object_cells.specs.Cells.{cells_from}
-use Rattle.vale_object_turn.specs.Steps.{Obeys}
-use Rattle.vale_object_within.specs.Within.{FitsOpened, ObeysWithin, ObeysWithinLent}
-use Rattle.vale_code.specs.declared.instr.Instr.TheVariants as i
+use Rattle.vale_object_within.specs.Within.{FitsOpened, ObeysWithinLent}
 use Rattle.vale_object_within.proofs.WithinLaws.{lent_by, obeys_as, on_if_ok, stays_by, still_lent}
 use Rattle.vale_object_within.proofs.within.obey_within.Goals as goal
 
