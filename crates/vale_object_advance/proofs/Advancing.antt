@@ -1,16 +1,13 @@
 -- From the innermost function, by its registers, to all frames, and back.
-use Rattle.std.proofs.Common.{◌≡◌, ℕ, ◌+◌, ◌-◌, ◌<◌, ◌≤◌, List, ◌∷◌, length, take, drop, Option, Some, None, refl, sym, ap, ◌∙◌, subst, arith}
-use Rattle.std.specs.Prelude.{Bool, IfOk, Result, slice_get}
+use Rattle.std.proofs.Common.{◌≡◌, ℕ, ◌-◌, ◌<◌, ◌≤◌, List, ◌∷◌, length, take, Option, refl, sym, ap, ◌∙◌, subst, arith}
+use Rattle.std.specs.Prelude.{Bool, IfOk, Result}
 use Rattle.std.proofs.lemmas.List.{length-take-le}
 use Rattle.vale_code.specs.Frames as meaning
 use Rattle.vale_code.specs.Frames.{Config}
 use Rattle.vale_code.specs.Instructions.{fetch}
 use Rattle.vale_code.specs.Parts.{Parts}
-use Rattle.vale_code.specs.declared.func.Func.{Func}
-use Rattle.vale_code.specs.declared.instr.Instr.{Instr}
 use Rattle.vale_heap.specs.HeapState.{HeapState}
 use Rattle.vale_heap.specs.declared.body.Cell.{Cell}
-use Rattle.vale_heap.specs.declared.body.Place.{Place}
 use Rattle.vale_registers.specs.Texts.{text_at}
 use Rattle.vale_turn.specs.View.{Leads}
 use Rattle.vale_turn.specs.declared.stop.Stop.{Stop}
@@ -24,9 +21,8 @@ use Rattle.vale_object_turn.specs.Steps as turn
 use Rattle.vale_object_stretch.specs.Stretch as stretch
 use Rattle.vale_object_stretch.specs.Stretch.{AreFit, Leaving}
 use Rattle.vale_object_passing.specs.Passing.{cells_of}
-use Rattle.vale_object_frames.specs.Frames.{AreKnown, IsPlaced, Lie, active_of, call_of, frames_in}
+use Rattle.vale_object_frames.specs.Frames.{AreKnown, Lie, call_of, frames_in}
 use Rattle.vale_object_frames.specs.declared.frame.Active.{Active}
-use Rattle.vale_object_frames.specs.declared.frame.Frame.{Frame}
 use Rattle.vale_object_frames.specs.declared.frame.Frame.TheVariants as frame
 use Rattle.vale_object_frames.proofs.FrameLaws.{frames_more, frames_same, known_by_more, known_same}
 use Rattle.vale_object_flow.specs.Flow.{Runs, all_frames, row_of}

@@ -1,8 +1,8 @@
 -- What an instruction of a sound run has: a rule, a place, and no root that it takes apart.
-use Rattle.std.proofs.Common.{◌≡◌, ◌≢◌, ℕ, zero, suc, ◌<◌, List, [], ◌∷◌, length, Option, Some, None, refl, sym, ap, ◌∙◌, subst, arith}
+use Rattle.std.proofs.Common.{◌≡◌, ℕ, zero, suc, ◌<◌, List, [], ◌∷◌, length, Option, Some, None, refl, sym, ap, ◌∙◌, subst, arith}
 use Rattle.std.specs.Prelude.{Bool, slice_get}
 use Rattle.vale_state_spec.specs.State.{State, dies, object_of}
-use Rattle.vale_state_spec.specs.World.{Isolate, Lives, Object, Own}
+use Rattle.vale_state_spec.specs.World.{Own}
 use Rattle.vale_code.specs.Act.{act, act_if}
 use Rattle.vale_code.specs.Frames.{Config, Next, after_tick}
 use Rattle.vale_code.specs.Instructions.{fetch, instruction_in, onward, with_choice, with_owner, with_registers}
@@ -23,9 +23,9 @@ use Rattle.vale_object_cells.specs.Cells.{held, place_in}
 use Rattle.vale_object_cells.specs.Names.{name_at, value_in, values_in}
 use Rattle.vale_object_cells.proofs.Naming.{read_values}
 use Rattle.vale_object_steps.specs.Views.{View, nobody}
-use Rattle.vale_object_turn.specs.Steps.{HasRule, Runs, Scene, active, config, next_of}
+use Rattle.vale_object_turn.specs.Steps.{Scene, active, config, next_of}
 use Rattle.vale_object_within.specs.Within.{FitsOpened, HasRuleWithin}
-use Rattle.vale_object_stretch.specs.Sound.{IsGood, IsSound, ended_by}
+use Rattle.vale_object_stretch.specs.Sound.{IsGood, ended_by}
 use Rattle.vale_object_stretch.specs.Stretch.{IsUnderWay}
 
 index_within : (xs : List Instr) (n : ℕ) (x : Instr) → slice_get xs n ≡ Some x → n < length xs
@@ -77,8 +77,8 @@ module _ (code : Parts) (function : ℕ) (out : ℕ → Bool) (floors : ℕ → 
       is = is;
     }
 
-    pub rule_within : HasRuleWithin body heap cells place left instr
-    rule_within = record { rule = record { scene = s; view = v; runs = u.runs; right = is_right }; is_body = is_body }
+    pub rule_within : HasRuleWithin code body heap cells place left instr
+    rule_within = record { rule = record { scene = s; view = v; runs = u.runs; right = is_right }; of_code = u.of_code; is_body = is_body }
 
 -- ---- what is taken apart
 

@@ -1,6 +1,6 @@
 -- How a stretch goes on from step to step, and where it ends.
 use Rattle.std.specs.Prelude.{Bool, true, false, Err, IfOk, Ok, Result, slice_get}
-use Rattle.std.proofs.Common.{◌≡◌, ℕ, suc, ◌+◌, ◌*◌, ◌<◌, List, [], ◌∷◌, ◌++◌, Option, Some, None, refl, sym, ap, ◌∙◌, subst, append-nil, append_assoc, arith}
+use Rattle.std.proofs.Common.{◌≡◌, ℕ, suc, ◌+◌, ◌*◌, ◌<◌, List, [], ◌++◌, Option, Some, None, refl, sym, ap, ◌∙◌, subst, append-nil, append_assoc, arith}
 use Rattle.vale_state_spec.specs.State.{State, main_frame}
 use Rattle.vale_code.specs.Frames.{Config, Next, On, Running}
 use Rattle.vale_code.specs.Fuel.{at_below, at_top, for_tick, fuel}
@@ -12,14 +12,14 @@ use Rattle.vale_code.specs.declared.instr.Instr.{Instr}
 use Rattle.vale_heap.specs.HeapState.{HeapState, KnowsFrames}
 use Rattle.vale_heap.specs.Standing.{LowIsFloor}
 use Rattle.vale_heap.specs.declared.body.Cell.{Cell}
-use Rattle.vale_table.specs.Lending.{Same, StillOut}
+use Rattle.vale_table.specs.Lending.{StillOut}
 use Rattle.vale_turn.specs.View.{IfStopped, IsBody, IsRight, Leads, Stays}
 use Rattle.vale_turn.specs.declared.stop.Stop.{Stop}
 use Rattle.vale_turn.specs.declared.stop.Stop.TheVariants as stop
 use Rattle.vale_turn.proofs.Stretching.{leads_here, leads_on, less_fuel}
 use Rattle.vale_object_steps.specs.Lent.{StillLent}
 use Rattle.vale_object_steps.specs.Views.{Grows, View}
-use Rattle.vale_object_turn.specs.Steps.{GoesOn, Runs, Scene, Stepped, config, next_of}
+use Rattle.vale_object_turn.specs.Steps.{GoesOn, Runs, Scene, config, next_of}
 use Rattle.vale_object_within.specs.Within.{ObeysWithinLent}
 use Rattle.vale_object_stretch.specs.Sound.{IsSound}
 use Rattle.vale_object_stretch.specs.Stretch.{Ended, IsSame, IsSteady, IsUnderWay, Leaving, Led, LedTo, Obeyed}
@@ -94,25 +94,25 @@ module _ (code : Parts) (function : ℕ) (s : Scene) (v : View) (c : Config) whe
         (subst (λ k. Led code s v c heap cells place k) (sym same.left_same) l)))
 
     -- a stop that isn't going on ends the stretch here
-    pub ended : (told : Stop) (instr : Instr) (out : ℕ → Bool) (floors : ℕ → ℕ) (body : List Instr) (new : HeapState) (after : List (Option Cell)) (new_place new_left : ℕ) → (told ≡ stop.Going → ⊥) → LowIsFloor l.view.low out floors
+    pub ended : (told : Stop) (instr : Instr) (out : ℕ → Bool) (floors : ℕ → ℕ) (body : List Instr) (new : HeapState) (after : List (Option Cell)) (new_place new_left : ℕ) → (told ≡ stop.Going → ⊥) → LowIsFloor l.view.low out floors → s.code ≡ code
         → fetch code s.function place ≡ Some instr → step code there ≡ next_of s l.view place cells instr → IsBody s.code s.function body → IsRight (next_of s l.view place cells instr)
-        → Obeyed out floors body instr heap cells place left told new after new_place new_left → Leaving told instr → IfStopped told (new_left ≡ left) → Ended code s v c told new after new_place new_left
-    ended stop.Going instr out floors body new after new_place new_left n low at e is right o k same = n refl
-    ended (stop.Trap kind spot) instr out floors body new after new_place new_left n low at e is right o k same = (there, ends_here new_left same, e ∙ o s l.view low is l.runs right)
-    ended stop.Cut instr out floors body new after new_place new_left n low at e is right o k same = (there, ends_here new_left same, e ∙ o s l.view low is l.runs right)
-    ended stop.Aside instr out floors body new after new_place new_left n low at e is right o k same = (left_so new after new_place new_left o, (instr, ap (fetch code s.function) o.place_same ∙ at, k))
-    ended stop.Enters instr out floors body new after new_place new_left n low at e is right o k same = (left_so new after new_place new_left o, (instr, ap (fetch code s.function) o.place_same ∙ at, k))
-    ended (stop.Leaves from) instr out floors body new after new_place new_left n low at e is right o k same = (left_so new after new_place new_left o, (instr, ap (fetch code s.function) o.place_same ∙ at, k))
+        → Obeyed out floors code body instr heap cells place left told new after new_place new_left → Leaving told instr → IfStopped told (new_left ≡ left) → Ended code s v c told new after new_place new_left
+    ended stop.Going instr out floors body new after new_place new_left n low oc at e is right o k same = n refl
+    ended (stop.Trap kind spot) instr out floors body new after new_place new_left n low oc at e is right o k same = (there, ends_here new_left same, e ∙ o s l.view low oc is l.runs right)
+    ended stop.Cut instr out floors body new after new_place new_left n low oc at e is right o k same = (there, ends_here new_left same, e ∙ o s l.view low oc is l.runs right)
+    ended stop.Aside instr out floors body new after new_place new_left n low oc at e is right o k same = (left_so new after new_place new_left o, (instr, ap (fetch code s.function) o.place_same ∙ at, k))
+    ended stop.Enters instr out floors body new after new_place new_left n low oc at e is right o k same = (left_so new after new_place new_left o, (instr, ap (fetch code s.function) o.place_same ∙ at, k))
+    ended (stop.Leaves from) instr out floors body new after new_place new_left n low oc at e is right o k same = (left_so new after new_place new_left o, (instr, ap (fetch code s.function) o.place_same ∙ at, k))
 
 -- what a function comes to that stays within itself
-pub obeyed_by : (out : ℕ → Bool) (floors : ℕ → ℕ) (body : List Instr) (instr : Instr) (heap : HeapState) (cells : List (Option Cell)) (place left : ℕ) (told : Stop) (new : HeapState) (after : List (Option Cell)) (new_place new_left : ℕ) → Stays told
-    → ObeysWithinLent out floors body instr heap cells place left told new after new_place new_left → Obeyed out floors body instr heap cells place left told new after new_place new_left
-obeyed_by out floors body instr heap cells place left stop.Going new after new_place new_left k o = o
-obeyed_by out floors body instr heap cells place left (stop.Trap kind at) new after new_place new_left k o = o
-obeyed_by out floors body instr heap cells place left stop.Cut new after new_place new_left k o = o
-obeyed_by out floors body instr heap cells place left stop.Aside new after new_place new_left k o = absurd k
-obeyed_by out floors body instr heap cells place left stop.Enters new after new_place new_left k o = absurd k
-obeyed_by out floors body instr heap cells place left (stop.Leaves from) new after new_place new_left k o = absurd k
+pub obeyed_by : (out : ℕ → Bool) (floors : ℕ → ℕ) (code : Parts) (body : List Instr) (instr : Instr) (heap : HeapState) (cells : List (Option Cell)) (place left : ℕ) (told : Stop) (new : HeapState) (after : List (Option Cell)) (new_place new_left : ℕ) → Stays told
+    → ObeysWithinLent out floors code body instr heap cells place left told new after new_place new_left → Obeyed out floors code body instr heap cells place left told new after new_place new_left
+obeyed_by out floors code body instr heap cells place left stop.Going new after new_place new_left k o = o
+obeyed_by out floors code body instr heap cells place left (stop.Trap kind at) new after new_place new_left k o = o
+obeyed_by out floors code body instr heap cells place left stop.Cut new after new_place new_left k o = o
+obeyed_by out floors code body instr heap cells place left stop.Aside new after new_place new_left k o = absurd k
+obeyed_by out floors code body instr heap cells place left stop.Enters new after new_place new_left k o = absurd k
+obeyed_by out floors code body instr heap cells place left (stop.Leaves from) new after new_place new_left k o = absurd k
 
 pub leaving_by : (told : Stop) (instr : Instr) → Stays told → Leaving told instr
 leaving_by stop.Going instr k = tt
@@ -161,11 +161,11 @@ module _ (code : Parts) (s : Scene) where
 module _ (code : Parts) (function : ℕ) (func : Func) (body : List Instr) (instr : Instr) (found : slice_get code.funcs function ≡ Some func) (is : func.body ≡ body) where
   module _ (heap new : HeapState) (cells after : List (Option Cell)) (place left new_place new_left : ℕ) (frames new_frames : ℕ) (out new_out : ℕ → Bool) (floors new_floors : ℕ → ℕ) (at : slice_get body place ≡ Some instr) where
     -- where it goes on, it goes on so
-    pub goes_so : (s : Scene) (v : View) → IsUnderWay code function out floors s v heap cells place left → Obeyed out floors body instr heap cells place left stop.Going new after new_place new_left
+    pub goes_so : (s : Scene) (v : View) → IsUnderWay code function out floors s v heap cells place left → Obeyed out floors code body instr heap cells place left stop.Going new after new_place new_left
         → GoesOn s v (next_of s v place cells instr) new after new_place new_left
-    goes_so s v u o = o s v u.low (is_body code function out floors s v heap cells place left u func body instr found is at) u.runs (is_right code function out floors s v heap cells place left u func body instr found is at)
+    goes_so s v u o = o s v u.low u.of_code (is_body code function out floors s v heap cells place left u func body instr found is at) u.runs (is_right code function out floors s v heap cells place left u func body instr found is at)
 
-    pub led_so : (s : Scene) (v : View) (c : Config) (l : Led code s v c heap cells place left) → IsUnderWay code function out floors s l.view heap cells place left → Obeyed out floors body instr heap cells place left stop.Going new after new_place new_left
+    pub led_so : (s : Scene) (v : View) (c : Config) (l : Led code s v c heap cells place left) → IsUnderWay code function out floors s l.view heap cells place left → Obeyed out floors code body instr heap cells place left stop.Going new after new_place new_left
         → StillLent heap new frames new_frames out new_out floors new_floors
         → (d : Led code s v c new after new_place new_left) × IsUnderWay code function new_out new_floors s d.view new after new_place new_left
     unfolding led_on goes_so
@@ -176,7 +176,7 @@ module _ (code : Parts) (function : ℕ) (func : Func) (body : List Instr) (inst
           way_on code function s l.view heap new cells after place left new_place new_left frames new_frames out new_out floors new_floors (next_of s l.view place cells instr) u e g lent,
         )
 
-    pub less_so : (s : Scene) (v : View) → IsUnderWay code function out floors s v heap cells place left → Obeyed out floors body instr heap cells place left stop.Going new after new_place new_left
+    pub less_so : (s : Scene) (v : View) → IsUnderWay code function out floors s v heap cells place left → Obeyed out floors code body instr heap cells place left stop.Going new after new_place new_left
         → measure code function new_place new_left < measure code function place left
     less_so s v u o =
         let g = goes_so s v u o in
@@ -186,8 +186,8 @@ module _ (code : Parts) (function : ℕ) (func : Func) (body : List Instr) (inst
 
     -- where it doesn't, the stretch ends
     pub ended_so : (s : Scene) (v : View) (c : Config) (l : Led code s v c heap cells place left) → IsUnderWay code function out floors s l.view heap cells place left → (told : Stop) → (told ≡ stop.Going → ⊥)
-        → Obeyed out floors body instr heap cells place left told new after new_place new_left → Leaving told instr → IfStopped told (new_left ≡ left) → Ended code s v c told new after new_place new_left
+        → Obeyed out floors code body instr heap cells place left told new after new_place new_left → Leaving told instr → IfStopped told (new_left ≡ left) → Ended code s v c told new after new_place new_left
     ended_so s v c l u told n o k same =
-        ended code function s v c heap cells place left l told instr out floors body new after new_place new_left n u.low
+        ended code function s v c heap cells place left l told instr out floors body new after new_place new_left n u.low u.of_code
         (is_here code function out floors s l.view heap cells place left u func body instr found is at) (step_is code function out floors s l.view heap cells place left u func body instr found is at)
         (is_body code function out floors s l.view heap cells place left u func body instr found is at) (is_right code function out floors s l.view heap cells place left u func body instr found is at) o k same

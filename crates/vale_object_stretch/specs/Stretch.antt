@@ -1,12 +1,11 @@
 -- A stretch of steps within one function, in a run with objects.
-use Rattle.std.specs.Prelude.{◌≡◌, ◌||◌, ℕ, ◌+◌, ◌<◌, List, ◌∷◌, Option, Some, None, Bool, true, false}
-use Rattle.vale_base.specs.declared.spot.Spot.{Spot}
+use Rattle.std.specs.Prelude.{◌≡◌, ◌||◌, ℕ, ◌+◌, List, ◌∷◌, Option, Some, None, Bool, true, false}
 use Rattle.vale_state_spec.specs.Outcome.{Cut}
 use Rattle.vale_state_spec.specs.State.{State}
-use Rattle.vale_code.specs.Frames.{Config, On, Over, trap}
+use Rattle.vale_code.specs.Frames.{Config, Over, trap}
 use Rattle.vale_code.specs.Instructions.{fetch}
 use Rattle.vale_code.specs.Parts.{Parts}
-use Rattle.vale_code.specs.Run.{last_state, step, steps}
+use Rattle.vale_code.specs.Run.{last_state, step}
 use Rattle.vale_code.specs.declared.instr.Instr.{Instr}
 use Rattle.vale_code.specs.declared.instr.Instr.TheVariants as i
 use Rattle.vale_heap.specs.HeapState.{HeapState}
@@ -64,11 +63,11 @@ pub record IsSame (heap : HeapState) (cells : List (Option Cell)) (place left : 
   pub left_same : new_left ≡ left
 
 -- An instruction is obeyed within its function, or it is left to be done elsewhere.
-abbrev pub Obeyed : (ℕ → Bool) → (ℕ → ℕ) → List Instr → Instr → HeapState → List (Option Cell) → ℕ → ℕ → Stop → HeapState → List (Option Cell) → ℕ → ℕ → Type 0
-Obeyed out floors body instr heap cells place left stop.Aside new after new_place new_left = IsSame heap cells place left new after new_place new_left
-Obeyed out floors body instr heap cells place left stop.Enters new after new_place new_left = IsSame heap cells place left new after new_place new_left
-Obeyed out floors body instr heap cells place left (stop.Leaves from) new after new_place new_left = IsSame heap cells place left new after new_place new_left
-Obeyed out floors body instr heap cells place left told new after new_place new_left = ObeysWithinLent out floors body instr heap cells place left told new after new_place new_left
+abbrev pub Obeyed : (ℕ → Bool) → (ℕ → ℕ) → Parts → List Instr → Instr → HeapState → List (Option Cell) → ℕ → ℕ → Stop → HeapState → List (Option Cell) → ℕ → ℕ → Type 0
+Obeyed out floors code body instr heap cells place left stop.Aside new after new_place new_left = IsSame heap cells place left new after new_place new_left
+Obeyed out floors code body instr heap cells place left stop.Enters new after new_place new_left = IsSame heap cells place left new after new_place new_left
+Obeyed out floors code body instr heap cells place left (stop.Leaves from) new after new_place new_left = IsSame heap cells place left new after new_place new_left
+Obeyed out floors code body instr heap cells place left told new after new_place new_left = ObeysWithinLent out floors code body instr heap cells place left told new after new_place new_left
 
 -- ---- a stretch
 

@@ -10,7 +10,7 @@ ghost use Rattle.vale_object_within.specs.Within.{FitsOpened, HasRuleWithin};
 ghost use Rattle.vale_object_stretch.specs.Stretch.{IsFit, Leaving, Obeyed};
 
 use std::alloc::Global;
-use vale_code::Instr;
+use vale_code::{Code, Instr};
 use vale_heap::{Body, Heap};
 use vale_object_cells::Register;
 use vale_object_steps::Want;
@@ -23,6 +23,7 @@ use vale_turn::Stop;
 #[inline(always)]
 pub(crate) fn once<L: Lender<Body>>(
     alloc: Global,
+    code: &Code,
     body: &[Instr],
     heap: &mut Heap,
     lender: &mut L,
@@ -39,8 +40,8 @@ pub(crate) fn once<L: Lender<Body>>(
     requires frames { L.frames lender.old ≤ length heap.old.seats }
     requires known { KnowsFrames heap.old (L.out lender.old) }
     requires opened { FitsOpened heap.old (cells_from base texts.old registers.old) instr.now }
-    requires right { HasRuleWithin body.now heap.old (cells_from base texts.old registers.old) place.old left.old instr.now }
-    ensures step { IfOk result (λ told. Obeyed (L.out lender.old) (L.floors lender.old) body.now instr.now heap.old (cells_from base texts.old registers.old) place.old left.old told heap.new (cells_from base texts.new registers.new) place.new left.new) }
+    requires right { HasRuleWithin code.now body.now heap.old (cells_from base texts.old registers.old) place.old left.old instr.now }
+    ensures step { IfOk result (λ told. Obeyed (L.out lender.old) (L.floors lender.old) code.now body.now instr.now heap.old (cells_from base texts.old registers.old) place.old left.old told heap.new (cells_from base texts.new registers.new) place.new left.new) }
     ensures leaving { IfOk result (λ told. Leaving told instr.now) }
     ensures refused { IsErrOf result Want.Page → HasNoRoom heap.old × IsFull (L.frames lender.old) (L.out lender.new) }
     ensures full { IsErrOf result Want.Page → HasNoRoom heap.new }
@@ -56,7 +57,7 @@ pub(crate) fn once<L: Lender<Body>>(
         Instr::RetVoid => Ok(Stop::Leaves(None)),
         Instr::Destroy { .. } | Instr::Print { .. } => Ok(Stop::Aside),
         _ => obey_within(
-            alloc, body, heap, lender, registers, texts, base, place, left, instr,
+            alloc, code, body, heap, lender, registers, texts, base, place, left, instr,
         ),
     }
 }

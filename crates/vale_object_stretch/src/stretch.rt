@@ -52,7 +52,7 @@ pub fn go<L: Lender<Body>>(
     'turns: loop {
         let instr = instr_at(body, *place);
         let stop = once(
-            alloc, body, heap, lender, registers, texts, base, place, left, instr,
+            alloc, code, body, heap, lender, registers, texts, base, place, left, instr,
         )?;
         match stop {
             Stop::Going => {}

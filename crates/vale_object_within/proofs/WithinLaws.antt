@@ -1,10 +1,10 @@
 -- From what each group of instructions comes to, to what holds of all that go on within their function.
 use Rattle.std.proofs.Common.{◌≡◌, ℕ, List, Option, refl, sym, subst}
 use Rattle.std.specs.Prelude.{Bool, Err, IfOk, Ok, OnOk, Result}
+use Rattle.vale_code.specs.Parts.{Parts}
 use Rattle.vale_code.specs.declared.instr.Instr.{Instr}
 use Rattle.vale_registers.specs.Passing.{from_base}
 use Rattle.vale_registers.specs.Texts.{text_at}
-use Rattle.vale_table.specs.Lending.{Same, StillOut}
 use Rattle.vale_heap.specs.HeapState.{HeapState, KeepsFrames, KnowsFrames}
 use Rattle.vale_heap.specs.declared.body.Cell.{Cell}
 use Rattle.vale_turn.specs.View.{Stays}
@@ -15,62 +15,71 @@ use Rattle.vale_object_cells.specs.declared.register.Register.{Register}
 use Rattle.vale_object_steps.specs.Lent.{StillLent}
 use Rattle.vale_object_turn.specs.Steps.{HasRule, Obeys, ObeysLent}
 use Rattle.vale_object_numbers.specs.Numbers.{HasRuleIn, HasRuleOf, ObeysAll, ObeysOf}
+use Rattle.vale_object_texts.specs.Texts.{HasRuleIn as HasRuleInCode, ObeysIn}
 use Rattle.vale_object_within.specs.Within.{HasRuleWithin, ObeysWithin, ObeysWithinLent}
 
-module _ (body : List Instr) (instr : Instr) (heap : HeapState) (place left : ℕ) where
+module _ (code : Parts) (body : List Instr) (instr : Instr) (heap : HeapState) (place left : ℕ) where
   -- ---- over registers whose texts stand in a row
 
   module _ (base : ℕ) (texts : List (List ℕ)) (registers : List Register) where
-    pub rule_in : HasRuleWithin body heap (cells_from base texts registers) place left instr → (l : ℕ) × HasRuleIn registers place l instr
+    pub rule_in : HasRuleWithin code body heap (cells_from base texts registers) place left instr → (l : ℕ) × HasRuleIn registers place l instr
     rule_in h = (left, record { text = from_base base (text_at texts); heap = heap; rule = h.rule })
 
-    pub rule_of : HasRuleWithin body heap (cells_from base texts registers) place left instr → HasRuleOf body registers place left instr
+    pub rule_of : HasRuleWithin code body heap (cells_from base texts registers) place left instr → HasRuleOf body registers place left instr
     rule_of h = record { text = from_base base (text_at texts); heap = heap; rule = h.rule; is_body = h.is_body }
 
-    pub rule_by : HasRuleWithin body heap (cells_from base texts registers) place left instr → (t : ℕ → List ℕ) × (h : HeapState) × (l : ℕ) × HasRule h (cells_in t registers) place l instr
+    pub rule_by : HasRuleWithin code body heap (cells_from base texts registers) place left instr → (t : ℕ → List ℕ) × (h : HeapState) × (l : ℕ) × HasRule h (cells_in t registers) place l instr
     rule_by h = (from_base base (text_at texts), heap, left, h.rule)
 
     pub obeys_number : (told : Stop) (new : List Register) (new_place : ℕ) → ((l : ℕ) → ObeysAll instr registers place l told new new_place l)
-        → ObeysWithin body instr heap (cells_from base texts registers) place left told heap (cells_from base texts new) new_place left
-    obeys_number told new new_place o s v b runs right = o left (from_base base (text_at texts)) heap s v runs right
+        → ObeysWithin code body instr heap (cells_from base texts registers) place left told heap (cells_from base texts new) new_place left
+    obeys_number told new new_place o s v oc b runs right = o left (from_base base (text_at texts)) heap s v runs right
 
     pub obeys_jump : (told : Stop) (new_place new_left : ℕ) → ObeysOf body instr registers place left told new_place new_left
-        → ObeysWithin body instr heap (cells_from base texts registers) place left told heap (cells_from base texts registers) new_place new_left
-    obeys_jump told new_place new_left o s v b runs right = o (from_base base (text_at texts)) heap s v b runs right
+        → ObeysWithin code body instr heap (cells_from base texts registers) place left told heap (cells_from base texts registers) new_place new_left
+    obeys_jump told new_place new_left o s v oc b runs right = o (from_base base (text_at texts)) heap s v b runs right
 
     pub obeys_reference : (told : Stop) (new : List Register) (new_place : ℕ)
         → ((t : ℕ → List ℕ) (h : HeapState) (l : ℕ) → Obeys instr h (cells_in t registers) place l told h (cells_in t new) new_place l)
-        → ObeysWithin body instr heap (cells_from base texts registers) place left told heap (cells_from base texts new) new_place left
-    obeys_reference told new new_place o s v b runs right = o (from_base base (text_at texts)) heap left s v runs right
+        → ObeysWithin code body instr heap (cells_from base texts registers) place left told heap (cells_from base texts new) new_place left
+    obeys_reference told new new_place o s v oc b runs right = o (from_base base (text_at texts)) heap left s v runs right
 
   -- ---- over any cells
 
   module _ (cells : List (Option Cell)) where
     -- the same rule of the instruction that this is
-    pub rule_as : (same : Instr) → instr ≡ same → HasRuleWithin body heap cells place left instr → HasRule heap cells place left same
+    pub rule_as : (same : Instr) → instr ≡ same → HasRuleWithin code body heap cells place left instr → HasRule heap cells place left same
     rule_as same is h = subst (HasRule heap cells place left) is h.rule
 
     pub obeys_as : (same : Instr) → instr ≡ same → (told : Stop) (new : HeapState) (after : List (Option Cell)) (new_place new_left : ℕ) → Obeys same heap cells place left told new after new_place new_left
-        → ObeysWithin body instr heap cells place left told new after new_place new_left
-    obeys_as same is told new after new_place new_left o s v b = subst (λ i. Obeys i heap cells place left told new after new_place new_left) (sym is) o s v
+        → ObeysWithin code body instr heap cells place left told new after new_place new_left
+    obeys_as same is told new after new_place new_left o s v oc b = subst (λ i. Obeys i heap cells place left told new after new_place new_left) (sym is) o s v
+
+    -- of a text of the code
+    pub rule_of_code : (same : Instr) → instr ≡ same → HasRuleWithin code body heap cells place left instr → HasRuleInCode code heap cells place left same
+    rule_of_code same is h = subst (HasRuleInCode code heap cells place left) is (record { rule = h.rule; is_code = h.of_code })
+
+    pub obeys_of_code : (same : Instr) → instr ≡ same → (told : Stop) (new : HeapState) (after : List (Option Cell)) (new_place new_left : ℕ) → ObeysIn code same heap cells place left told new after new_place new_left
+        → ObeysWithin code body instr heap cells place left told new after new_place new_left
+    obeys_of_code same is told new after new_place new_left o s v oc b = subst (λ i. ObeysIn code i heap cells place left told new after new_place new_left) (sym is) o s v oc
 
     -- a function that goes on within itself stays so
-    pub stays_by : (told : Stop) (new : HeapState) (after : List (Option Cell)) (new_place new_left : ℕ) → HasRuleWithin body heap cells place left instr
-        → ObeysWithin body instr heap cells place left told new after new_place new_left → Stays told
+    pub stays_by : (told : Stop) (new : HeapState) (after : List (Option Cell)) (new_place new_left : ℕ) → HasRuleWithin code body heap cells place left instr
+        → ObeysWithin code body instr heap cells place left told new after new_place new_left → Stays told
     stays_by stop.Going new after new_place new_left h o = tt
-    stays_by stop.Aside new after new_place new_left h o = o h.rule.scene h.rule.view h.is_body h.rule.runs h.rule.right
-    stays_by stop.Enters new after new_place new_left h o = o h.rule.scene h.rule.view h.is_body h.rule.runs h.rule.right
-    stays_by (stop.Leaves from) new after new_place new_left h o = o h.rule.scene h.rule.view h.is_body h.rule.runs h.rule.right
+    stays_by stop.Aside new after new_place new_left h o = o h.rule.scene h.rule.view h.of_code h.is_body h.rule.runs h.rule.right
+    stays_by stop.Enters new after new_place new_left h o = o h.rule.scene h.rule.view h.of_code h.is_body h.rule.runs h.rule.right
+    stays_by (stop.Leaves from) new after new_place new_left h o = o h.rule.scene h.rule.view h.of_code h.is_body h.rule.runs h.rule.right
     stays_by (stop.Trap kind at) new after new_place new_left h o = tt
     stays_by stop.Cut new after new_place new_left h o = tt
 
     pub lent_as : (same : Instr) → instr ≡ same → (out : ℕ → Bool) (floors : ℕ → ℕ) (told : Stop) (new : HeapState) (after : List (Option Cell)) (new_place new_left : ℕ)
-        → ObeysLent out floors same heap cells place left told new after new_place new_left → ObeysWithinLent out floors body instr heap cells place left told new after new_place new_left
-    lent_as same is out floors told new after new_place new_left o s v low b = subst (λ i. ObeysLent out floors i heap cells place left told new after new_place new_left) (sym is) o s v low
+        → ObeysLent out floors same heap cells place left told new after new_place new_left → ObeysWithinLent out floors code body instr heap cells place left told new after new_place new_left
+    lent_as same is out floors told new after new_place new_left o s v low oc b = subst (λ i. ObeysLent out floors i heap cells place left told new after new_place new_left) (sym is) o s v low
 
     pub lent_by : (out : ℕ → Bool) (floors : ℕ → ℕ) (told : Stop) (new : HeapState) (after : List (Option Cell)) (new_place new_left : ℕ)
-        → ObeysWithin body instr heap cells place left told new after new_place new_left → ObeysWithinLent out floors body instr heap cells place left told new after new_place new_left
-    lent_by out floors told new after new_place new_left o s v low b = o s v b
+        → ObeysWithin code body instr heap cells place left told new after new_place new_left → ObeysWithinLent out floors code body instr heap cells place left told new after new_place new_left
+    lent_by out floors told new after new_place new_left o s v low oc b = o s v oc b
 
 -- ---- what a lender keeps
 

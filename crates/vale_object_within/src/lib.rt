@@ -2,6 +2,7 @@
 #![tactic(auto)]
 
 mod still;
+mod texts;
 mod within;
 
 pub use within::obey_within;

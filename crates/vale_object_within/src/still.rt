@@ -5,9 +5,10 @@ ghost use Rattle.vale_turn.specs.View.{IfStopped, Stays};
 ghost use Rattle.vale_object_cells.specs.Cells.{cells_from};
 ghost use Rattle.vale_object_within.specs.Within.{HasRoomFor, HasRuleWithin, ObeysWithin, is_still};
 
+use crate::texts::obey_on_text;
 use std::alloc::Global;
 use vale_base::Memory;
-use vale_code::Instr;
+use vale_code::{Code, Instr};
 use vale_heap::Heap;
 use vale_object_cells::Register;
 use vale_object_compares::obey_compare;
@@ -21,6 +22,7 @@ use vale_turn::Stop;
 #[inline(always)]
 pub(crate) fn obey_still(
     alloc: Global,
+    code: &Code,
     body: &[Instr],
     heap: &Heap,
     registers: &mut [Register],
@@ -34,8 +36,8 @@ pub(crate) fn obey_still(
     requires room { HasRoomFor instr.now (length registers.old) }
     requires few { base + length registers.old < 2 ^ 64 }
     requires place { place.old + 1 < 2 ^ 64 }
-    requires right { HasRuleWithin body.now heap.now (cells_from base texts.old registers.old) place.old left.old instr.now }
-    ensures step { IfOk result (λ told. ObeysWithin body.now instr.now heap.now (cells_from base texts.old registers.old) place.old left.old told heap.now (cells_from base texts.new registers.new) place.new left.new) }
+    requires right { HasRuleWithin code.now body.now heap.now (cells_from base texts.old registers.old) place.old left.old instr.now }
+    ensures step { IfOk result (λ told. ObeysWithin code.now body.now instr.now heap.now (cells_from base texts.old registers.old) place.old left.old told heap.now (cells_from base texts.new registers.new) place.new left.new) }
     ensures others { OnOk result ((i : ℕ) → i < base → text_at texts.new i ≡ text_at texts.old i) }
     ensures ticks { left.new ≤ left.old }
     ensures kept { IfOk result (λ told. IfStopped told (left.new ≡ left.old)) }
@@ -70,6 +72,6 @@ pub(crate) fn obey_still(
         | Instr::ElemLive { .. }
         | Instr::Len { .. }
         | Instr::LenLive { .. } => obey_look(alloc, heap, registers, texts, base, place, instr),
-        _ => unreachable!(),
+        _ => obey_on_text(alloc, code, registers, texts, base, place, instr),
     }
 }

@@ -11,7 +11,7 @@ ghost use Rattle.vale_object_within.specs.Within.{FitsOpened, HasRoomFor, HasRul
 use crate::still::obey_still;
 use std::alloc::Global;
 use vale_base::Memory;
-use vale_code::Instr;
+use vale_code::{Code, Instr};
 use vale_heap::{Body, Heap};
 use vale_object_cells::Register;
 use vale_object_steps::Want;
@@ -36,6 +36,7 @@ fn wanting(came: Result<Stop, Memory>) -> Result<Stop, Want>
 /// innermost region and no spare page has room, and all frames are out.
 pub fn obey_within<L: Lender<Body>>(
     alloc: Global,
+    code: &Code,
     body: &[Instr],
     heap: &mut Heap,
     lender: &mut L,
@@ -53,8 +54,8 @@ pub fn obey_within<L: Lender<Body>>(
     requires frames { L.frames lender.old ≤ length heap.old.seats }
     requires known { KnowsFrames heap.old (L.out lender.old) }
     requires opened { FitsOpened heap.old (cells_from base texts.old registers.old) instr.now }
-    requires right { HasRuleWithin body.now heap.old (cells_from base texts.old registers.old) place.old left.old instr.now }
-    ensures step { IfOk result (λ told. ObeysWithinLent (L.out lender.old) (L.floors lender.old) body.now instr.now heap.old (cells_from base texts.old registers.old) place.old left.old told heap.new (cells_from base texts.new registers.new) place.new left.new) }
+    requires right { HasRuleWithin code.now body.now heap.old (cells_from base texts.old registers.old) place.old left.old instr.now }
+    ensures step { IfOk result (λ told. ObeysWithinLent (L.out lender.old) (L.floors lender.old) code.now body.now instr.now heap.old (cells_from base texts.old registers.old) place.old left.old told heap.new (cells_from base texts.new registers.new) place.new left.new) }
     ensures refused { IsErrOf result Want.Page → HasNoRoom heap.old × IsFull (L.frames lender.old) (L.out lender.new) }
     ensures full { IsErrOf result Want.Page → HasNoRoom heap.new }
     ensures lent { StillLent heap.old heap.new (L.frames lender.old) (L.frames lender.new) (L.out lender.old) (L.out lender.new) (L.floors lender.old) (L.floors lender.new) }
@@ -98,7 +99,7 @@ pub fn obey_within<L: Lender<Body>>(
             alloc, heap, registers, texts, base, place, instr,
         )),
         _ => wanting(obey_still(
-            alloc, body, heap, registers, texts, base, place, left, instr,
+            alloc, code, body, heap, registers, texts, base, place, left, instr,
         )),
     }
 }

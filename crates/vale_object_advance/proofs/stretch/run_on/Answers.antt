@@ -1,4 +1,4 @@
-use Rattle.std.proofs.Common.{◌≡◌, ◌≤◌, ◌<◌, ◌∙◌, ℕ, arith, length, refl, sym, take}
+use Rattle.std.proofs.Common.{◌≡◌, ◌<◌, ◌∙◌, ℕ, arith, length, refl, sym}
 use Rattle.std.proofs.lemmas.List.{length-take-le}
 use Rattle.vale_registers.specs.Texts.{text_at}
 use Rattle.vale_object_passing.specs.Passing.{cells_of}

@@ -14,9 +14,9 @@ returns-in_default-clause-step g c =
     let cells = cells_from a.base a.texts.now a.registers.now in
     let n = c.obey_within.new in
     let after = cells_from a.base n.texts n.registers in
-    both_ok c.obey_within.result (λ told. Stays told) (λ told. ObeysWithinLent out floors a.body.now a.instr.now a.heap.now cells a.place.now a.left.now told n.heap after n.place n.left)
-    (λ told. Obeyed out floors a.body.now a.instr.now a.heap.now cells a.place.now a.left.now told n.heap after n.place n.left) c.obey_within.ensures.stays c.obey_within.ensures.step
-    (λ told k o. obeyed_by out floors a.body.now a.instr.now a.heap.now cells a.place.now a.left.now told n.heap after n.place n.left k o)
+    both_ok c.obey_within.result (λ told. Stays told) (λ told. ObeysWithinLent out floors a.code.now a.body.now a.instr.now a.heap.now cells a.place.now a.left.now told n.heap after n.place n.left)
+    (λ told. Obeyed out floors a.code.now a.body.now a.instr.now a.heap.now cells a.place.now a.left.now told n.heap after n.place n.left) c.obey_within.ensures.stays c.obey_within.ensures.step
+    (λ told k o. obeyed_by out floors a.code.now a.body.now a.instr.now a.heap.now cells a.place.now a.left.now told n.heap after n.place n.left k o)
 
 pub returns-in_default-clause-leaving : goal.returns-in_default-clause-leaving
 returns-in_default-clause-leaving g c = IfOk-weaker c.obey_within.result (λ told. Stays told) (λ told. Leaving told c.args.instr.now) (λ told k. leaving_by told c.args.instr.now k) c.obey_within.ensures.stays

@@ -1,9 +1,7 @@
-use Rattle.std.proofs.Common.{◌≡◌, ◌<◌, ℕ, ◌∙◌, Some, ap, arith, length, refl, sym, subst}
-use Rattle.std.specs.Prelude.{IfOk, Ok, OnOk, slice_get}
-use Rattle.vale_registers.specs.Texts.{text_at}
+use Rattle.std.proofs.Common.{◌≡◌, ◌<◌, ◌∙◌, Some, ap, arith, length, refl, sym, subst}
+use Rattle.std.specs.Prelude.{slice_get}
 use Rattle.vale_code.specs.Instructions.{fetch}
 use Rattle.vale_turn.proofs.Stretching.{fetched}
-use Rattle.vale_turn.specs.declared.stop.Stop.TheVariants as stop
 use Rattle.vale_object_cells.specs.Cells.{cells_from}
 use Rattle.vale_object_turn.specs.Steps.{config}
 use Rattle.vale_object_stretch.specs.Stretch.{IsFit, Obeyed}
@@ -79,7 +77,7 @@ turns-smaller g c =
     let after = cells_from a.base n.texts n.registers in
     let body = c.as_slice-body.result.now in
     let instr = c.instr_at-instr.result.now in
-    let obeyed = subst (λ told. Obeyed out floors body instr l.heap cells l.place l.left told n.heap after n.place n.left) c.in-Going.is c.in_ok-stop.ensures.step in
+    let obeyed = subst (λ told. Obeyed out floors a.code.now body instr l.heap cells l.place l.left told n.heap after n.place n.left) c.in-Going.is c.in_ok-stop.ensures.step in
     less_so a.code.now a.function c.function_of.result.now body instr c.function_of.ensures (sym c.as_slice-body.ensures) l.heap n.heap cells after l.place l.left n.place n.left (g.L.Lender.frames l.lender) (g.L.Lender.frames n.lender) out (g.L.Lender.out n.lender) floors (g.L.Lender.floors n.lender)
     c.instr_at-instr.ensures.found r.0 w.0.view w.1 obeyed
 
@@ -95,12 +93,12 @@ turns-preserved g c =
     let body = c.as_slice-body.result.now in
     let instr = c.instr_at-instr.result.now in
     let e = c.in_ok-stop.ensures in
-    let obeyed = subst (λ told. Obeyed out floors body instr l.heap cells l.place l.left told n.heap after n.place n.left) c.in-Going.is e.step in
+    let obeyed = subst (λ told. Obeyed out floors a.code.now body instr l.heap cells l.place l.left told n.heap after n.place n.left) c.in-Going.is e.step in
     record {
       leads = λ s v u.
           let w = l.invariant.leads s v u in
           led_so a.code.now a.function c.function_of.result.now body instr c.function_of.ensures (sym c.as_slice-body.ensures) l.heap n.heap cells after l.place l.left n.place n.left (g.L.Lender.frames l.lender) (g.L.Lender.frames n.lender) out (g.L.Lender.out n.lender) floors (g.L.Lender.floors n.lender)
-          c.instr_at-instr.ensures.found s v _ w.0 w.1 obeyed e.lent;
+          c.instr_at-instr.ensures.found s v (config s v a.place.now (cells_from a.base a.texts.now a.registers.now)) w.0 w.1 obeyed e.lent;
       lent = lent_then a.heap.now l.heap n.heap _ _ _ _ _ _ _ _ _ l.invariant.lent e.lent;
       of_hand = λ h. e.of_hand (l.invariant.of_hand h);
       others = λ i lt. e.others i lt ∙ l.invariant.others i lt;
@@ -116,7 +114,7 @@ returns-in_default-clause-ends g c = λ s v u.
     let e = c.in_ok-stop.ensures in
     let w = l.invariant.leads s v u in
     ended_so a.code.now a.function c.function_of.result.now c.as_slice-body.result.now c.instr_at-instr.result.now c.function_of.ensures (sym c.as_slice-body.ensures) l.heap n.heap (cells_from a.base l.texts l.registers) (cells_from a.base n.texts n.registers) l.place l.left n.place n.left
-    (g.L.Lender.frames l.lender) (g.L.Lender.frames n.lender) (g.L.Lender.out l.lender) (g.L.Lender.out n.lender) (g.L.Lender.floors l.lender) (g.L.Lender.floors n.lender) c.instr_at-instr.ensures.found s v _ w.0 w.1 c.in_ok-stop.stop c.in_default.not-Going e.step e.leaving e.kept
+    (g.L.Lender.frames l.lender) (g.L.Lender.frames n.lender) (g.L.Lender.out l.lender) (g.L.Lender.out n.lender) (g.L.Lender.floors l.lender) (g.L.Lender.floors n.lender) c.instr_at-instr.ensures.found s v (config s v a.place.now (cells_from a.base a.texts.now a.registers.now)) w.0 w.1 c.in_ok-stop.stop c.in_default.not-Going e.step e.leaving e.kept
 
 pub returns-in_default-clause-lent : goal.returns-in_default-clause-lent
 returns-in_default-clause-lent g c = lent_then c.args.heap.now c.turns.heap c.once.new.heap _ _ _ _ _ _ _ _ _ c.turns.invariant.lent c.in_ok-stop.ensures.lent
