@@ -6,7 +6,7 @@ use Rattle.vale_state_spec.specs.World.{Freeze, Isolate, relabelled}
 use Rattle.vale_code.specs.Frames as meaning
 use Rattle.vale_code.specs.Frames.{Next}
 use Rattle.vale_code.specs.Parts.{Parts}
-use Rattle.vale_heap.specs.HeapState.{HeapState, IsRoot, innermost, rehomed, seat_at, with_merged}
+use Rattle.vale_heap.specs.HeapState.{HeapState, IsRoot, KeepsFrames, innermost, rehomed, seat_at, with_merged}
 use Rattle.vale_heap.specs.Standing.{Stands, StandsIsoMerged}
 use Rattle.vale_heap.specs.declared.body.Cell.TheVariants.{Iso, Own}
 use Rattle.vale_heap.specs.declared.body.Place.{Place}
@@ -23,6 +23,9 @@ use Rattle.vale_object_flow.specs.declared.control.Came.{Came}
 use Rattle.vale_object_flow.specs.declared.control.Came.TheVariants as came
 use Rattle.vale_object_flow.specs.declared.control.Control.{Control}
 use Rattle.vale_object_drops.specs.Destroying.{CanDestroy, Destroys, destroy_next, stack_of}
+
+pub keeps_then : (a b c : HeapState) → KeepsFrames a b → KeepsFrames b c → KeepsFrames a c
+keeps_then a b c f g = record { as_long = g.as_long ∙ f.as_long; known = λ out k. g.known out (f.known out k); of_hand = λ hand ok. g.of_hand hand (f.of_hand hand ok) }
 
 -- the objects of an isolate are of the innermost region
 abbrev pub merged : View → Place → View

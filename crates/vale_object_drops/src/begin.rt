@@ -1,7 +1,7 @@
 // How the destruction of an object begins, over the frames of a run.
 ghost use Rattle.std.specs.Prelude.{◌≡◌, ◌+◌, ◌-◌, ◌<◌, ◌≤◌, ◌^◌, ◌∷◌, ℕ, IfOk, List, None, OnOk, Some, drop, length, replicate, slice_get, take};
 ghost use Rattle.vale_code.specs.declared.func.Func.{Func as AFunc};
-ghost use Rattle.vale_heap.specs.HeapState.{IsRoot};
+ghost use Rattle.vale_heap.specs.HeapState.{IsRoot, KeepsFrames};
 ghost use Rattle.vale_heap.specs.declared.body.Cell.{Cell};
 ghost use Rattle.vale_object_cells.specs.Cells.{cells_in};
 ghost use Rattle.vale_object_drops.specs.Destroying.{CanDestroy, Destroys, HasDestructors, IsEntered};
@@ -92,6 +92,7 @@ pub(crate) fn destroy_owner(
     requires right { CanDestroy code.now depth heap.old control.old left.old (Cell.Own place) at }
     ensures step { IfOk result (λ told. Destroys code.now depth heap.old control.old left.old (Cell.Own place) at told heap.new control.new left.new) }
     ensures end { OnOk result (control.new.end ≤ length control.new.registers.items) }
+    ensures keeps { KeepsFrames heap.old heap.new }
     ensures ticks { left.new ≤ left.old }
 {
     match begin(code, heap, place, depth, left) {
@@ -125,6 +126,7 @@ pub(crate) fn destroy_isolate(
     requires right { CanDestroy code.now depth heap.old control.old left.old (Cell.Iso place) at }
     ensures step { IfOk result (λ told. Destroys code.now depth heap.old control.old left.old (Cell.Iso place) at told heap.new control.new left.new) }
     ensures end { OnOk result (control.new.end ≤ length control.new.registers.items) }
+    ensures keeps { KeepsFrames heap.old heap.new }
     ensures ticks { left.new ≤ left.old }
 {
     heap.merge(place);

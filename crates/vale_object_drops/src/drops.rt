@@ -1,5 +1,6 @@
 // The instruction that destroys, and the values of an object that has died.
 ghost use Rattle.std.specs.Prelude.{◌≡◌, ◌+◌, ◌<◌, ◌≤◌, ◌^◌, IfOk, OnOk, drop, length, take};
+ghost use Rattle.vale_heap.specs.HeapState.{KeepsFrames};
 ghost use Rattle.vale_object_frames.specs.Stacks.{IsDropping};
 ghost use Rattle.vale_object_drops.specs.Destroying.{CanDrop, CanDropNext, Drops, DropsNextOne, FitsNext, FitsRegister, HasDestructors, HoldsOwned, IsLifted};
 
@@ -66,6 +67,7 @@ pub fn destroy(
     requires right { CanDrop code.now depth heap.old control.old left.old from at }
     ensures step { IfOk result (λ told. Drops code.now depth heap.old control.old left.old from at told heap.new control.new left.new) }
     ensures end { OnOk result (control.new.end ≤ length control.new.registers.items) }
+    ensures keeps { KeepsFrames heap.old heap.new }
     ensures ticks { left.new ≤ left.old }
 {
     let cell = lift_from(&mut control.registers, control.top.base, control.end, from);
@@ -104,6 +106,7 @@ pub fn drop_next(
     requires right { CanDropNext code.now depth heap.old control.old left.old }
     ensures step { IfOk result (λ told. DropsNextOne code.now depth heap.old control.old left.old told heap.new control.new left.new) }
     ensures end { OnOk result (control.new.end ≤ length control.new.registers.items) }
+    ensures keeps { KeepsFrames heap.old heap.new }
     ensures ticks { left.new ≤ left.old }
 {
     match control.below.next_owned() {

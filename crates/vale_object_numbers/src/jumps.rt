@@ -1,7 +1,7 @@
 // Jumps and ticks.
 ghost use Rattle.std.specs.Prelude.{◌≡◌, ◌+◌, ◌<◌, ◌≤◌, ◌^◌, ◌||◌, List, nat_lt, slice_get, true};
 ghost use Rattle.vale_code.specs.Instructions.{is_tick};
-ghost use Rattle.vale_turn.specs.View.{Stays};
+ghost use Rattle.vale_turn.specs.View.{IfStopped, Stays};
 ghost use Rattle.vale_object_cells.specs.declared.register.Register.{Register as ARegister};
 ghost use Rattle.vale_object_numbers.specs.Numbers.{HasRuleOf, Leaps, ObeysOf, is_jump};
 
@@ -28,6 +28,7 @@ fn is_free(body: &[Instr], place: usize, target: usize) -> bool
 fn leap(body: &[Instr], place: &mut usize, left: &mut u64, target: u32) -> Stop
     ensures step { (registers : List ARegister) → Leaps body.now registers target place.old left.old result place.new left.new }
     ensures ticks { left.new ≤ left.old }
+    ensures kept { IfStopped result (left.new ≡ left.old) }
     ensures stays { Stays result }
 {
     let target = target as usize;
@@ -57,6 +58,7 @@ pub fn obey_jump(
     requires right { HasRuleOf body.now registers.now place.old left.old instr.now }
     ensures step { ObeysOf body.now instr.now registers.now place.old left.old result place.new left.new }
     ensures ticks { left.new ≤ left.old }
+    ensures kept { IfStopped result (left.new ≡ left.old) }
     ensures stays { Stays result }
 {
     match instr {

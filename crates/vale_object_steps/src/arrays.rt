@@ -1,6 +1,7 @@
 // Elements of arrays.
 ghost use Rattle.std.specs.Prelude.{◌≡◌, ℕ, ◌+◌, ◌<◌, ◌^◌, IfOk, List, OnOk, length, pos};
 ghost use Rattle.vale_registers.specs.Texts.{text_at};
+ghost use Rattle.vale_heap.specs.HeapState.{KeepsFrames};
 ghost use Rattle.vale_object_cells.specs.Cells.{cells_from, cells_in};
 ghost use Rattle.vale_object_steps.specs.Doing.{counts, exchanges, pops, pushes, reads};
 ghost use Rattle.vale_object_steps.specs.Indices.{found_index};
@@ -98,6 +99,7 @@ pub fn exchange(
     requires few { base + length registers.old < 2 ^ 64 }
     requires right { CanDo (exchanges to object index value) heap.old (cells_from base texts.old registers.old) }
     ensures step { IfOk result (λ came. Follows (exchanges to object index value) heap.old (cells_from base texts.old registers.old) came heap.new (cells_from base texts.new registers.new)) }
+    ensures keeps { KeepsFrames heap.old heap.new }
     ensures others { OnOk result ((i : ℕ) → i < base → text_at texts.new i ≡ text_at texts.old i) }
 {
     let place = place_at(registers, object);
@@ -135,6 +137,7 @@ pub fn push(
     requires few { base + length registers.old < 2 ^ 64 }
     requires right { CanDo (pushes object value) heap.old (cells_from base texts.now registers.old) }
     ensures step { IfOk result (λ came. Follows (pushes object value) heap.old (cells_from base texts.now registers.old) came heap.new (cells_from base texts.now registers.new)) }
+    ensures keeps { KeepsFrames heap.old heap.new }
 {
     let place = place_at(registers, object);
     match heap.change(place) {
@@ -168,6 +171,7 @@ pub fn pop(
     requires few { base + length registers.old < 2 ^ 64 }
     requires right { CanDo (pops to object) heap.old (cells_from base texts.old registers.old) }
     ensures step { IfOk result (λ came. Follows (pops to object) heap.old (cells_from base texts.old registers.old) came heap.new (cells_from base texts.new registers.new)) }
+    ensures keeps { KeepsFrames heap.old heap.new }
     ensures others { OnOk result ((i : ℕ) → i < base → text_at texts.new i ≡ text_at texts.old i) }
 {
     let place = place_at(registers, object);

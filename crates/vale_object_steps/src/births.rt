@@ -2,7 +2,7 @@
 ghost use Rattle.std.specs.Prelude.{◌≡◌, ℕ, ◌+◌, ◌<◌, ◌≤◌, ◌^◌, ◌∷◌, [], IfOk, IsErrOf, IsSome, OnOk, Some, length};
 ghost use Rattle.vale_registers.specs.Texts.{text_at};
 ghost use Rattle.vale_table.specs.Lending.{IsFull};
-ghost use Rattle.vale_heap.specs.HeapState.{HasNoRoom, IsRoot, KnowsFrames, OfHand};
+ghost use Rattle.vale_heap.specs.HeapState.{HasNoRoom, IsRoot, KeepsFrames, KnowsFrames, OfHand};
 ghost use Rattle.vale_heap.specs.declared.body.Place.{Place as APlace};
 ghost use Rattle.vale_object_cells.specs.Cells.{cells_from, held, place_in};
 ghost use Rattle.vale_object_steps.specs.Doing.{makes, opens};
@@ -59,6 +59,7 @@ pub fn make<L: Lender<Body>>(
     requires right { CanDo (makes to kind args.now) heap.old (cells_from base texts.now registers.old) }
     ensures step { OnOk result (FollowsLent (L.out lender.old) (L.floors lender.old) (makes to kind args.now) heap.old (cells_from base texts.now registers.old) heap.new (cells_from base texts.now registers.new)) }
     ensures refused { IsErrOf result Want.Page → HasNoRoom heap.old × IsFull (L.frames lender.old) (L.out lender.new) }
+    ensures full { IsErrOf result Want.Page → HasNoRoom heap.new }
     ensures lent { StillLent heap.old heap.new (L.frames lender.old) (L.frames lender.new) (L.out lender.old) (L.out lender.new) (L.floors lender.old) (L.floors lender.new) }
     ensures of_hand { OfHand heap.old (L.hand lender.old) → OfHand heap.new (L.hand lender.new) }
 {
@@ -112,6 +113,7 @@ pub fn open(
     requires right { CanDo (opens to.now from) heap.old (cells_from base texts.old registers.old) }
     requires no_root { (p : APlace) → place_in (held (cells_from base texts.old registers.old) from) ≡ Some p → IsRoot heap.old p → ⊥ }
     ensures step { OnOk result (Follows (opens to.now from) heap.old (cells_from base texts.old registers.old) Effect.Done heap.new (cells_from base texts.new registers.new)) }
+    ensures keeps { KeepsFrames heap.old heap.new }
     ensures others { OnOk result ((i : ℕ) → i < base → text_at texts.new i ≡ text_at texts.old i) }
 {
     let place = place_at(registers, from);

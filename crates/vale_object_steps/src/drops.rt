@@ -1,6 +1,6 @@
 // Objects that are destroyed: what they held is dropped piece by piece.
 ghost use Rattle.std.specs.Prelude.{◌≡◌, ◌<◌, IfNone, IfSome, None, Some, reverse};
-ghost use Rattle.vale_heap.specs.HeapState.{IsRoot};
+ghost use Rattle.vale_heap.specs.HeapState.{IsRoot, KeepsFrames};
 ghost use Rattle.vale_object_steps.specs.Drops.{CanEnd, Ends, IsKindAt, first_owned_cell};
 
 use vale_base::Kind;
@@ -21,7 +21,8 @@ pub fn kind_at(heap: &Heap, place: Place) -> Kind
 pub fn end(heap: &mut Heap, place: Place) -> Body
     requires lives { CanEnd heap.old place }
     requires no_root { IsRoot heap.old place → ⊥ }
-    ensures { Ends heap.old place heap.new result }
+    ensures ends { Ends heap.old place heap.new result }
+    ensures keeps { KeepsFrames heap.old heap.new }
 {
     match heap.end(place) {
         Some(body) => body,

@@ -1,6 +1,7 @@
 // Fields of objects.
 ghost use Rattle.std.specs.Prelude.{◌≡◌, ℕ, ◌+◌, ◌<◌, ◌^◌, IfOk, OnOk, length};
 ghost use Rattle.vale_registers.specs.Texts.{text_at};
+ghost use Rattle.vale_heap.specs.HeapState.{KeepsFrames};
 ghost use Rattle.vale_object_cells.specs.Cells.{cells_from};
 ghost use Rattle.vale_object_steps.specs.Doing.{loads, swaps};
 ghost use Rattle.vale_object_steps.specs.Views.{CanDo, Follows};
@@ -58,6 +59,7 @@ pub fn swap(
     requires few { base + length registers.old < 2 ^ 64 }
     requires right { CanDo (swaps to object field value) heap.old (cells_from base texts.old registers.old) }
     ensures step { IfOk result (λ came. Follows (swaps to object field value) heap.old (cells_from base texts.old registers.old) came heap.new (cells_from base texts.new registers.new)) }
+    ensures keeps { KeepsFrames heap.old heap.new }
     ensures others { OnOk result ((i : ℕ) → i < base → text_at texts.new i ≡ text_at texts.old i) }
 {
     let place = place_at(registers, object);

@@ -3,7 +3,8 @@ ghost use Rattle.std.specs.Prelude.{◌≡◌, ℕ, ◌+◌, ◌<◌, ◌≤◌,
 ghost use Rattle.vale_registers.specs.Texts.{text_at};
 ghost use Rattle.vale_code.specs.declared.instr.Instr.{Instr};
 ghost use Rattle.vale_table.specs.Lending.{IsFull};
-ghost use Rattle.vale_heap.specs.HeapState.{HasNoRoom, IsRoot, KnowsFrames, OfHand};
+ghost use Rattle.vale_turn.specs.View.{IfStopped, Stays};
+ghost use Rattle.vale_heap.specs.HeapState.{HasNoRoom, IsRoot, KeepsFrames, KnowsFrames, OfHand};
 ghost use Rattle.vale_heap.specs.declared.body.Place.{Place as APlace};
 ghost use Rattle.vale_object_cells.specs.Cells.{cells_from, held, place_in};
 ghost use Rattle.vale_object_steps.specs.Keeping.{AreBelow};
@@ -42,9 +43,12 @@ pub fn obey_make<L: Lender<Body>>(
     requires right { HasRule heap.old (cells_from base texts.now registers.old) place.old left.old (Instr.Make to kind args.now) }
     ensures step { IfOk result (λ told. ObeysLent (L.out lender.old) (L.floors lender.old) (Instr.Make to kind args.now) heap.old (cells_from base texts.now registers.old) place.old left.old told heap.new (cells_from base texts.now registers.new) place.new left.new) }
     ensures refused { IsErrOf result Want.Page → HasNoRoom heap.old × IsFull (L.frames lender.old) (L.out lender.new) }
+    ensures full { IsErrOf result Want.Page → HasNoRoom heap.new }
     ensures lent { StillLent heap.old heap.new (L.frames lender.old) (L.frames lender.new) (L.out lender.old) (L.out lender.new) (L.floors lender.old) (L.floors lender.new) }
     ensures of_hand { OfHand heap.old (L.hand lender.old) → OfHand heap.new (L.hand lender.new) }
     ensures ticks { left.new ≤ left.old }
+    ensures kept { IfOk result (λ told. IfStopped told (left.new ≡ left.old)) }
+    ensures stays { IfOk result (λ told. Stays told) }
 {
     if *left == 0 {
         return Ok(Stop::Cut);
@@ -77,8 +81,11 @@ pub fn obey_open(
     requires right { HasRule heap.old (cells_from base texts.old registers.old) place.old left.old (Instr.Open to.now from) }
     requires no_root { (p : APlace) → place_in (held (cells_from base texts.old registers.old) from) ≡ Some p → IsRoot heap.old p → ⊥ }
     ensures step { IfOk result (λ told. Obeys (Instr.Open to.now from) heap.old (cells_from base texts.old registers.old) place.old left.old told heap.new (cells_from base texts.new registers.new) place.new left.new) }
+    ensures keeps { KeepsFrames heap.old heap.new }
     ensures others { OnOk result ((i : ℕ) → i < base → text_at texts.new i ≡ text_at texts.old i) }
     ensures ticks { left.new ≤ left.old }
+    ensures kept { IfOk result (λ told. IfStopped told (left.new ≡ left.old)) }
+    ensures stays { IfOk result (λ told. Stays told) }
 {
     if *left == 0 {
         return Ok(Stop::Cut);

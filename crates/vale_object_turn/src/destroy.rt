@@ -1,7 +1,7 @@
 // How the destruction of an object begins.
 ghost use Rattle.std.specs.Prelude.{◌≡◌, ◌<◌, ◌≤◌, ◌^◌, ◌+◌};
 ghost use Rattle.vale_code.specs.Kinds.{destructor_of};
-ghost use Rattle.vale_heap.specs.HeapState.{IsRoot};
+ghost use Rattle.vale_heap.specs.HeapState.{IsRoot, KeepsFrames};
 ghost use Rattle.vale_object_steps.specs.Drops.{CanEnd};
 ghost use Rattle.vale_object_turn.specs.Destroying.{Begins};
 
@@ -41,6 +41,7 @@ pub fn begin(code: &Code, heap: &mut Heap, place: Place, depth: usize, left: &mu
     requires no_root { IsRoot heap.old place → ⊥ }
     requires few { depth + 1 < 2 ^ 64 }
     ensures step { Begins code.now place depth heap.old left.old result heap.new left.new }
+    ensures keeps { KeepsFrames heap.old heap.new }
     ensures ticks { left.new ≤ left.old }
 {
     let kind = kind_at(heap, place);

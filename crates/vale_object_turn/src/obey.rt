@@ -2,7 +2,7 @@
 ghost use Rattle.std.specs.Prelude.{◌≡◌, ℕ, ◌+◌, ◌<◌, ◌^◌, IfOk, List, Ok, OnOk, length, true};
 ghost use Rattle.vale_registers.specs.Cells.{HasRegister};
 ghost use Rattle.vale_registers.specs.Texts.{text_at};
-ghost use Rattle.vale_heap.specs.HeapState.{HeapState};
+ghost use Rattle.vale_heap.specs.HeapState.{HeapState, KeepsFrames};
 ghost use Rattle.vale_base.specs.declared.trap.TrapKind.{TrapKind as AKind};
 ghost use Rattle.vale_turn.specs.declared.stop.Stop.{Stop as AStop};
 ghost use Rattle.vale_object_cells.specs.Cells.{cells_from, cells_in};
@@ -179,6 +179,7 @@ pub fn obey_change(
     requires place { place.old + 1 < 2 ^ 64 }
     requires right { (left : ℕ) × HasRule heap.old (cells_from base texts.old registers.old) place.old left instr.now }
     ensures step { IfOk result (λ told. (left : ℕ) → Obeys instr.now heap.old (cells_from base texts.old registers.old) place.old left told heap.new (cells_from base texts.new registers.new) place.new left) }
+    ensures keeps { KeepsFrames heap.old heap.new }
     ensures others { OnOk result ((i : ℕ) → i < base → text_at texts.new i ≡ text_at texts.old i) }
 {
     match instr {

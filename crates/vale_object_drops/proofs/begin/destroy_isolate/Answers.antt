@@ -1,7 +1,7 @@
 use Rattle.std.proofs.lemmas.Result.{IfOk-weaker}
 use Rattle.vale_heap.specs.declared.body.Cell.TheVariants.{Iso, Own}
 use Rattle.vale_object_drops.specs.Destroying.{Destroys}
-use Rattle.vale_object_drops.proofs.Merging.{can_destroy, destroys_merged, no_root_then}
+use Rattle.vale_object_drops.proofs.Merging.{can_destroy, destroys_merged, keeps_then, no_root_then}
 use Rattle.vale_object_drops.proofs.begin.destroy_isolate.Goals as goal
 
 pub destroy_owner-requires-clause-no_root : goal.destroy_owner-requires-clause-no_root
@@ -17,3 +17,6 @@ returns-clause-step c =
     IfOk-weaker c.destroy_owner.result (λ told. Destroys a.code.now a.depth c.merge.new.self a.control.now a.left.now (Own a.place) a.at told c.destroy_owner.new.heap c.destroy_owner.new.control c.destroy_owner.new.left)
     (λ told. Destroys a.code.now a.depth a.heap.now a.control.now a.left.now (Iso a.place) a.at told c.destroy_owner.new.heap c.destroy_owner.new.control c.destroy_owner.new.left)
     (λ told d. destroys_merged a.heap.now c.merge.new.self a.place c.merge.ensures.after c.merge.ensures.stands a.code.now a.depth a.control.now a.left.now a.at told c.destroy_owner.new.heap c.destroy_owner.new.control c.destroy_owner.new.left d) c.destroy_owner.ensures.step
+
+pub returns-clause-keeps : goal.returns-clause-keeps
+returns-clause-keeps c = keeps_then c.args.heap.now c.merge.new.self c.destroy_owner.new.heap c.merge.ensures.keeps c.destroy_owner.ensures.keeps

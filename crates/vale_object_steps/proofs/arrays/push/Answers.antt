@@ -24,20 +24,14 @@ keep-requires-clause-there c =
     holds_cell c.args.base c.args.texts.now c.args.registers.now c.args.value
     (push_value c.args.object c.args.value c.args.heap.now (cells_from c.args.base c.args.texts.now c.args.registers.now) c.requires.right)
 
-pub returns-in-None : goal.returns-in-None
-returns-in-None c = record {
-  step = push_dead c.args.object c.args.value c.args.heap.now (cells_from c.args.base c.args.texts.now c.args.registers.now) c.place_at-place.result c.args.heap.now (cells_from c.args.base c.args.texts.now c.args.registers.now) (c.place_at-place.ensures (from_base c.args.base (text_at c.args.texts.now))) c.in-None.ensures.found;
-}
+pub returns-in-None-clause-step : goal.returns-in-None-clause-step
+returns-in-None-clause-step c = push_dead c.args.object c.args.value c.args.heap.now (cells_from c.args.base c.args.texts.now c.args.registers.now) c.place_at-place.result c.args.heap.now (cells_from c.args.base c.args.texts.now c.args.registers.now) (c.place_at-place.ensures (from_base c.args.base (text_at c.args.texts.now))) c.in-None.ensures.found
 
-pub returns-then-len-ge-WIDTH_LIMIT : goal.returns-then-len-ge-WIDTH_LIMIT
-returns-then-len-ge-WIDTH_LIMIT c = record {
-  step = push_full c.args.object c.args.value c.args.heap.now (cells_from c.args.base c.args.texts.now c.args.registers.now) c.place_at-place.result c.in-Some.body.now c.args.heap.now (cells_from c.args.base c.args.texts.now c.args.registers.now) (c.place_at-place.ensures (from_base c.args.base (text_at c.args.texts.now))) c.in-Some.ensures.found (subst (λ n. width_limit ≤ n) c.len.ensures c.if-len-ge-WIDTH_LIMIT.true);
-}
+pub returns-then-len-ge-WIDTH_LIMIT-clause-step : goal.returns-then-len-ge-WIDTH_LIMIT-clause-step
+returns-then-len-ge-WIDTH_LIMIT-clause-step c = push_full c.args.object c.args.value c.args.heap.now (cells_from c.args.base c.args.texts.now c.args.registers.now) c.place_at-place.result c.in-Some.body.now c.args.heap.now (cells_from c.args.base c.args.texts.now c.args.registers.now) (c.place_at-place.ensures (from_base c.args.base (text_at c.args.texts.now))) c.in-Some.ensures.found (subst (λ n. width_limit ≤ n) c.len.ensures c.if-len-ge-WIDTH_LIMIT.true)
 
-pub returns-in-Ok-push : goal.returns-in-Ok-push
-returns-in-Ok-push c = record {
-  step =
-      let left : Body = record { kind = c.in-Some.body.now.kind; cells = c.push.new.self } in
-      push_found c.args.object c.args.value c.args.heap.now (cells_from c.args.base c.args.texts.now c.args.registers.now) c.place_at-place.result c.in-Some.body.now left c.in-Ok.cell _ (c.place_at-place.ensures (from_base c.args.base (text_at c.args.texts.now))) (sym c.in-Some.ensures.value) c.in-Some.ensures.found
-      (c.in-Some.ensures.stands left) refl c.in-Ok-push.ensures (subst (λ n. n < width_limit) c.len.ensures c.if-len-ge-WIDTH_LIMIT.false) c.in-Ok.ensures.cell c.in-Ok.ensures.cells;
-}
+pub returns-in-Ok-push-clause-step : goal.returns-in-Ok-push-clause-step
+returns-in-Ok-push-clause-step c =
+    let left : Body = record { kind = c.in-Some.body.now.kind; cells = c.push.new.self } in
+    push_found c.args.object c.args.value c.args.heap.now (cells_from c.args.base c.args.texts.now c.args.registers.now) c.place_at-place.result c.in-Some.body.now left c.in-Ok.cell _ (c.place_at-place.ensures (from_base c.args.base (text_at c.args.texts.now))) (sym c.in-Some.ensures.value) c.in-Some.ensures.found
+    (c.in-Some.ensures.stands left) refl c.in-Ok-push.ensures (subst (λ n. n < width_limit) c.len.ensures c.if-len-ge-WIDTH_LIMIT.false) c.in-Ok.ensures.cell c.in-Ok.ensures.cells

@@ -7,5 +7,5 @@ end-requires-clause-within c = slot_within c.args.heap.now c.args.place c.requir
 pub unreachable-requires : goal.unreachable-requires
 unreachable-requires c = finds_living c.args.heap.now c.args.place c.requires.lives c.in-None.ensures.found
 
-pub returns : goal.returns
-returns c = ends c.args.heap.now c.end.new.self c.args.place c.in-Some.body c.in-Some.ensures.found c.in-Some.ensures.stands c.in-Some.ensures.ended
+pub returns-clause-ends : goal.returns-clause-ends
+returns-clause-ends c = ends c.args.heap.now c.end.new.self c.args.place c.in-Some.body c.in-Some.ensures.found c.in-Some.ensures.stands c.in-Some.ensures.ended

@@ -8,4 +8,4 @@ returns-in-Some-clause-step c =
 
 pub returns-in-None-clause-step : goal.returns-in-None-clause-step
 returns-in-None-clause-step c =
-    begin_dies c.args.code.now c.args.place c.args.depth c.args.heap.now c.args.left.now c.kind_at-kind.result c.end-body.result c.end-body.new.heap _ (omega arith) (omega arith) c.kind_at-kind.ensures (sym c.destructor_of-destructor.ensures ∙ c.in-None.is) c.end-body.ensures refl
+    begin_dies c.args.code.now c.args.place c.args.depth c.args.heap.now c.args.left.now c.kind_at-kind.result c.end-body.result c.end-body.new.heap _ (omega arith) (omega arith) c.kind_at-kind.ensures (sym c.destructor_of-destructor.ensures ∙ c.in-None.is) c.end-body.ensures.ends refl

@@ -1,0 +1,13 @@
+mod Callees
+mod Calls
+mod Entries
+mod Flow
+mod Marked
+mod Marks
+mod Never
+mod Shapes
+mod Ties
+mod Tree
+mod Values
+mod Ways
+mod Whole
