@@ -1,8 +1,8 @@
 -- Types, destructors, interfaces and kinds, by cases.
-use Rattle.std.proofs.Common.{◌≡◌, ℕ, suc, ◌+◌, ◌<◌, List, [], ◌∷◌, ◌++◌, length, get_or, drop, refl, ap, sym, ◌∙◌, arith}
+use Rattle.std.proofs.Common.{◌≡◌, ℕ, suc, ◌+◌, ◌<◌, ◌≤◌, List, [], ◌∷◌, ◌++◌, append-nil, length, get_or, drop, refl, ap, sym, ◌∙◌, arith}
 use Rattle.std.specs.Prelude.{Bool, true, false, map, flat_map, Option, Some, None, option_map, if◌then◌else◌}
 use Rattle.std.specs.Borrow.{Bor}
-use Rattle.std.proofs.lemmas.List.{drop_more}
+use Rattle.std.proofs.lemmas.List.{drop_all, drop_more}
 use Rattle.vale_syntax.specs.Tree.{Head}
 use Rattle.vale_rules_spec.specs.Types.{Ty, kind, array}
 use Rattle.vale_rules_spec.specs.Typed as t
@@ -14,7 +14,9 @@ use Rattle.vale_model.specs.Parts.{Parts}
 use Rattle.vale_code.specs.declared.kind.KindInfo.{KindInfo}
 use Rattle.vale_lowering_objects.specs.Code.{function_with, methods_in, kind_info}
 use Rattle.vale_lower_expr.specs.Found.{or_else}
+use Rattle.vale_base.specs.declared.name.Name.{Name}
 use Rattle.vale_lower_kinds.specs.Added.{kind_types}
+use Rattle.vale_lower_kinds.specs.Names.{names_of}
 use Rattle.vale_lower_items.specs.Kept.{first_of}
 
 pub ruleset types = (v.of_void, v.of_int, v.of_bool, v.of_str, v.of_kind, v.of_array, v.of_ref, v.of_imm, v.of_iso)
@@ -78,3 +80,12 @@ pub infos_by_parts : (p : Parts) (texts : List (List ℕ)) (fs : List t.Function
 infos_by_parts p texts fs [] [] = refl
 infos_by_parts p texts fs [] (e ∷ es) = ap (λ z. kind_info p texts fs (array e) ∷ z) (infos_by_parts p texts fs [] es)
 infos_by_parts p texts fs (n ∷ ns) es = ap (λ z. kind_info p texts fs (kind n) ∷ z) (infos_by_parts p texts fs ns es)
+
+-- the kinds of all names are there, and those of the elements are next
+pub elements_next : (p : Parts) (texts : List (List ℕ)) (fs : List t.Function) (ks : List KindInfo) (names : List Name) (i : ℕ) (es all : List Ty) → length names ≤ i
+    → ks ++ map (λ n. kind_info p texts fs (kind n)) (names_of (drop i names)) ≡ map (λ n. kind_info p texts fs (kind n)) (names_of names) → all ≡ kind_types (names_of names) ++ map array es
+    → ks ++ map (λ x. kind_info p texts fs (array x)) es ≡ map (kind_info p texts fs) all
+elements_next p texts fs ks names i es all le so_far is =
+    let named : List KindInfo = map (λ n. kind_info p texts fs (kind n)) (names_of names) in
+    let done : ks ≡ named = sym (append-nil ks) ∙ (ap (λ (z : List Name). ks ++ map (λ n. kind_info p texts fs (kind n)) (names_of z)) (sym (drop_all i names le)) ∙ so_far) in
+    ap (λ (z : List KindInfo). z ++ map (λ x. kind_info p texts fs (array x)) es) done ∙ (sym (infos_by_parts p texts fs (names_of names) es) ∙ ap (map (kind_info p texts fs)) (sym is))

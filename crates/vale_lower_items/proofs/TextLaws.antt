@@ -24,7 +24,7 @@ texts_by_parts p fs ns es t1 t2 t3 t4 is e1 e2 e3 e4 =
     let three : List (List ℕ) = flat_map (method_names p) p.items in
     let four : List (List ℕ) = flat_map function_quotes fs in
     e4 ∙ (ap (λ z. z ++ four) (e3 ∙ ap (λ z. z ++ three) (e2 ∙ ap (λ z. z ++ two) e1))
-    ∙ (append_assoc (one ++ two) three four ∙ (append_assoc one two (three ++ four)
-    ∙ ap (λ z. one ++ (z ++ (three ++ four))) (sym (ap (flat_map (kind_names p)) is ∙ of_kinds p ns es)))))
+    ∙ (ap (λ z. z ++ four) (append_assoc one two three) ∙ (append_assoc one (two ++ three) four
+    ∙ ap (λ z. one ++ ((z ++ three) ++ four)) (sym (ap (flat_map (kind_names p)) is ∙ of_kinds p ns es)))))
 
 pub ruleset wholes = (texts_by_parts)

@@ -78,9 +78,7 @@ struct Described<'p> {
     texts: &'p Texts<'p>,
     functions: &'p [&'p Function],
     destructors: Destructors,
-    interfaces: Interfaces<'p>,
     ghost are_destructors: { AreDestructors (parts_in tables.now) (map (λ g. view_function g.now) functions.now) destructors },
-    ghost are_interfaces: { AreInterfaces (parts_in tables.now).items interfaces },
 }
 
 impl<'p> Described<'p> {
@@ -98,10 +96,12 @@ impl<'p> Described<'p> {
         })
     }
 
-    fn named_kind(&self, name: Name) -> Result<KindInfo, Memory>
+    // The kind of a name, among these interfaces and the structs.
+    fn named_kind(&self, interfaces: &Interfaces, name: Name) -> Result<KindInfo, Memory>
+        requires { AreInterfaces (parts_in self.now.tables.now).items interfaces.now }
         ensures { IfOk result (λ k. k ≡ kind_info (parts_in self.now.tables.now) (texts_of self.now.texts.now) (map (λ g. view_function g.now) self.now.functions.now) (y.kind name.0)) }
     {
-        let Some(heads) = self.interfaces.of(name) else {
+        let Some(heads) = interfaces.of(name) else {
             return self.struct_kind(name);
         };
         Ok(KindInfo::Interface {
@@ -129,13 +129,13 @@ pub fn code_kinds(
         texts,
         functions,
         destructors: Destructors::among(alloc, tables.names, functions)?,
-        interfaces: Interfaces::among(alloc, tables.items)?,
     };
+    let interfaces = Interfaces::among(alloc, tables.items)?;
     let names = tables.kinds.named.as_slice();
     let elements = tables.kinds.elements.as_slice();
     let mut kinds = Sequence::new(alloc);
     for name in names {
-        kinds.push(described.named_kind(*name)?)?;
+        kinds.push(described.named_kind(&interfaces, *name)?)?;
     }
     for element in elements {
         kinds.push(KindInfo::Array {
